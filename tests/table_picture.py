@@ -1,6 +1,7 @@
 """The picture of a table: widths, blocks, lines (part of the model of tests/tables.py)."""
 import table_items
 from table_items import BLANK, Item, columns_of
+from table_reading import Row, Rule, kind_of
 
 APART = 3
 
@@ -19,6 +20,19 @@ class Text:
             if goes:
                 text.remove(there[place])
         self.lines, self.columns = [text], columns_of(text)
+
+
+class Drawn:
+    """A field that is drawn, on the first line of its row: a rule, or a byte that is repeated."""
+
+    def __init__(self, source):
+        self.source, self.lines = source, [[]]
+        self.sign = {b"_": b"-", b"\\_": b"-", b"=": b"="}.get(source, source[2:])
+
+    def goes_on(self, row, column):
+        """Whether it rules the blanks behind its column too: the next field is the same rule."""
+        follows = row[column + 1][1] if column + 1 < len(row) else None
+        return self.source in (b"_", b"=") and isinstance(follows, Drawn) and follows.source == self.source
 
 
 class Block:
@@ -67,7 +81,7 @@ class Picture:
     def __init__(self, table, length):
         self.table, self.length, self.count = table, length, table.keys
         self.apart = [table.apart.get(column, APART) for column in range(self.count - 1)]
-        self.rows = [row if isinstance(row, bytes) else self.entries(row) for row in table.elements]
+        self.rows = [self.entries(row) if isinstance(row, Row) else row for row in table.elements]
         self.widths = [self.width_of(column) for column in range(self.count)]
         widest = max((self.widths[column] for column in table.equal), default=0)
         self.widths = [widest if column in table.equal else width for column, width in enumerate(self.widths)]
@@ -84,12 +98,15 @@ class Picture:
         if isinstance(cell, list):
             measure = self.table.least.get(column)
             return key, Block(cell, max(1, self.length // (self.count + 1)) if measure is None else measure)
+        if kind_of(cell):
+            return key, Drawn(cell)
         return key, Text(cell, key) if cell else None
 
     def of_column(self, column):
         """The keys and entries of a column."""
-        entries = [row[column] for row in self.rows if not isinstance(row, bytes)]
-        return [(key, entry) for key, entry in entries if entry and not (isinstance(entry, Block) and entry.is_empty)]
+        entries = [row[column] for row in self.rows if isinstance(row, list)]
+        return [(key, entry) for key, entry in entries
+                if entry and not isinstance(entry, Drawn) and not (isinstance(entry, Block) and entry.is_empty)]
 
     def width_of(self, column):
         """The least width that holds what is asked for, and all entries."""
@@ -126,15 +143,32 @@ class Picture:
         for row in self.rows:
             if isinstance(row, bytes):
                 yield row
-                continue
-            for number in range(max([1] + [len(entry.lines) for _, entry in row if entry])):
-                yield b"\\&" + self.line(row, number)
+            elif isinstance(row, Rule):
+                yield b"\\&" + row.sign * self.width
+            else:
+                for number in range(max([1] + [len(entry.lines) for _, entry in row if entry])):
+                    yield b"\\&" + self.line(row, number)
+
+    def drawn(self, row, column):
+        """How far from its column's first place a field is drawn, and the run of its byte."""
+        key, entry = row[column]
+        count, place = self.widths[column], 0
+        if entry.source == b"\\_":
+            count = max((other.columns for _, other in self.of_column(column)), default=0)
+            place = {b"r": self.widths[column] - count, b"c": (self.widths[column] - count) // 2}.get(key, 0)
+        elif entry.goes_on(row, column):
+            count += self.apart[column]
+        is_glyph = count and entry.sign != BLANK
+        return place, Item(entry.sign * count, "glyph" if is_glyph else "blank", columns=count)
 
     def line(self, row, number):
         """A line of a row, up to its last glyph."""
         line, start = [], 0
         for column, (key, entry) in enumerate(row):
-            if entry and number < len(entry.lines) and entry.lines[number]:
+            if isinstance(entry, Drawn) and number == 0:
+                place, run = self.drawn(row, column)
+                line += blanks(start + place - columns_of(line)) + [run]
+            elif entry and number < len(entry.lines) and entry.lines[number]:
                 line += blanks(start + self.place(column, key, entry) - columns_of(line)) + entry.lines[number]
             start += self.widths[column] + (self.apart + [0])[column]
         while line and line[-1].what != "glyph":

@@ -14,8 +14,8 @@ NOT_YET = {
     "options": (b"box", b"frame", b"allbox", b"doublebox", b"doubleframe"),
     "keys": b"s^_-=",
     "bars and letters": b"|z",
-    "lines": ("rule",),
-    "fields": ("rule", "repeated", "from above"),
+    "lines": (),
+    "fields": ("from above",),
 }
 
 
@@ -133,6 +133,13 @@ def kind_of_line(line):
     if line[:1] == DOT and not line[1:2].isdigit():
         return "further format" if line[:3] == b".T&" and line[3:4] in (b"", BLANK, TAB) else "command"
     return None
+
+
+class Rule:
+    """A rule over the whole table, and the byte it is drawn with."""
+
+    def __init__(self, sign):
+        self.sign = sign
 
 
 def end_of_digits(line, at):
@@ -312,8 +319,9 @@ class Table:
         numbers.append(lines[-1][0])
         if self.block is not None:
             self.line_of_block(line, numbers)
-        elif kind_of_line(line) in NOT_YET["lines"]:
-            self.refuse(numbers[0])
+        elif kind_of_line(line) == "rule":
+            self.count += 1
+            self.elements.append(Rule(b"-" if line == b"_" else b"="))
         elif kind_of_line(line) == "further format":
             self.in_data, self.formats, self.next = False, [], 0
         elif kind_of_line(line) == "command":
@@ -325,7 +333,7 @@ class Table:
             self.fields(line, numbers, 0)
 
     def refuse(self, number, is_counted=True):
-        """A rule or a row that isn't laid out."""
+        """A row that isn't laid out."""
         self.count += is_counted and not self.is_closing
         raise Bad(number)
 
@@ -352,7 +360,8 @@ class Table:
             if len(self.row.cells) < self.keys:
                 if kind_of(field) in NOT_YET["fields"]:
                     self.refuse(numbers[at], not opens)
-                self.notes(field, numbers, at)
+                if kind_of(field) is None:
+                    self.notes(field, numbers, at)
             elif surplus is None:
                 surplus = numbers[at - 1]
             self.row.cells.append(field)

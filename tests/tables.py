@@ -87,7 +87,7 @@ def joined(chance, text):
 
 def field(chance, kinds):
     kind = chance.random()
-    if kind < 0.03:
+    if kind < chance.odd:
         return chance.choice(some(chance, ODD_FIELDS))
     if kind < 0.45:
         return chance.choice(some(chance, kinds))
@@ -113,7 +113,7 @@ def data_line(chance, columns, separator, blocks):
     if kind < 0.86:
         return row(chance, columns, separator, blocks)
     if kind < 0.93:
-        return joined(chance, chance.choice(some(chance, LINES_OF_DATA if chance.random() < 0.4 else LINES_OF_DATA[3:7])))
+        return joined(chance, chance.choice(some(chance, LINES_OF_DATA if chance.random() < 0.4 else LINES_OF_DATA[:7])))
     if kind < 0.96:
         return b".T&" + chance.choice([b"", b" x", b"\t"]) + b"\n" + formats(chance, columns)
     return b"".join(chance.choices(some(chance, PIECES), k=chance.randint(0, 6)))
@@ -161,6 +161,8 @@ def table(chance, separator_tried):
 def document(chance, separator_tried):
     """One to three tables, with lines around them; this byte is tried as a separator."""
     parts, chance.is_plain = [], chance.random() < 0.7
+    # In some documents many fields are rules.
+    chance.odd = chance.choice([0.03, 0.03, 0.4])
     for _ in range(chance.choice([1, 1, 2, 3])):
         parts += chance.choices(LINES[:6] if chance.random() < 0.5 else LINES, k=chance.choice([0, 0, 1, 2]))
         parts.append(table(chance, separator_tried))

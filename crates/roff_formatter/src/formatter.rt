@@ -8,6 +8,7 @@ mod events;
 mod first_page;
 mod fronts;
 mod paging;
+mod tabs;
 mod text_events;
 mod titles;
 mod unfilled;

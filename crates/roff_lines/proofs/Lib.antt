@@ -33,6 +33,7 @@ pub mod TabEnds
 pub mod TabsTold
 pub mod GlyphTold
 pub mod TextTold
+pub mod GlyphsInField
 pub mod Telling
 pub mod FirstLine
 pub mod Columns

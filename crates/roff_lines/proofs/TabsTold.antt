@@ -7,15 +7,17 @@ use Rattle.std.proofs.Math.Nat.{lt_of_not-le}
 use Rattle.roff_num.specs.declared.limit.Limit.{Limit}
 use Rattle.roff_layout.specs.declared.glyph.Glyph.TheVariants.{Blanks}
 use Rattle.roff_layout.specs.declared.stop.StopKind.{StopKind}
-use Rattle.roff_layout.specs.declared.event.Event.TheVariants.{FieldEnd, Print}
+use Rattle.roff_layout.specs.declared.event.Event.TheVariants.{FieldEnd, Print, Tab}
 use Rattle.roff_layout.specs.Events.{History, stops_after}
-use Rattle.roff_layout.specs.Fields.{Field, Told, field_ended, opened, tab_told, told, tab_reached}
+use Rattle.roff_layout.specs.Fields.{Field, Told, field_ended, opened, so_far, tab_told, told, told_behind, tab_reached}
+use Rattle.roff_layout.specs.Behind.{finished_by_tab, length_reached, pending_length as pending_length_behind}
 use Rattle.roff_layout.specs.TabStops.{Way, way_to_next}
 use Rattle.roff_layout.specs.Places.{input_place}
 use Rattle.roff_layout.specs.Lines.{pending_length}
 use Rattle.roff_lines.specs.Env.Kept.{Kept, KeptField, at_tab, length_ended, length_of_words, length_with, with_field_ended, with_field_opened, with_glyph, with_word_ended, word_fits}
-use Rattle.roff_lines.specs.Env.Stands.{Stands, StandsBehind, StandsBehindTab, StandsFor, StandsPlain, StandsTold}
+use Rattle.roff_lines.specs.Env.Stands.{Finishes, Stands, StandsBehind, StandsBehindTab, StandsFor, StandsPlain, StandsTold, length_at_tab}
 use Rattle.roff_lines.proofs.InField.{Stands-field_ended, length-stands, limit-ended}
+use Rattle.roff_lines.proofs.PlainStanding.{plain_of}
 use Rattle.roff_lines.proofs.Printed.{Stands-print}
 use Rattle.roff_lines.proofs.TabEnds.{Stands-at_tab}
 
@@ -140,3 +142,35 @@ StandsBehindTab-opened old new columns kind is_centred opens way is room line_ca
 -- where no error was answered, a count was within the limit
 pub no_error : {failed : Bool} {c n : ℕ} → ((failed ≡ true) ↔ (c < n)) → failed ≡ false → n ≤ c
 no_error {c = c} {n = n} limit fine = omega (arith, lt_of_not-le {n = suc c} {m = n} (λ more. let wrong = sym fine ∙ limit.1 more in cc))
+
+-- a tab where no field is open
+module _ {E : Type 0} (r : Result (Unit {0}) E) (old : Kept) (none : old.field ≡ None) where
+  stands_behind : (new : Kept) → StandsBehindTab old new → StandsBehind old Tab new
+  stands_behind new stands line_cap h s =
+      let p = plain_of line_cap h old none s in
+      subst (λ (t : Told). StandsFor line_cap (told_behind Tab t) new) (sym p.is_told) (stands line_cap p.events p.stands)
+
+  -- behind it
+  pub StandsBehind-tab_plainly : (new : Kept) → OnOk r (StandsBehindTab old new) → OnOk r (StandsBehind old Tab new)
+  StandsBehind-tab_plainly new stands = elim r as (λ (r : Result (Unit {0}) E). OnOk r (StandsBehindTab old new) → OnOk r (StandsBehind old Tab new)) [
+    | Ok u ↦ stands_behind new
+    | Err e ↦ λ _. tt
+  ] stands
+
+  -- it finishes no line
+  pub finished_at_tab-plainly : Finishes old Tab None
+  finished_at_tab-plainly line_cap h s =
+      let p = plain_of line_cap h old none s in
+      sym (ap finished_by_tab p.is_told)
+
+  -- no length before it is above the limit
+  pub limit-tab_plainly : ((line_cap : ℕ) (h : History) → StandsPlain line_cap h old → IsErr r ↔ (line_cap < length_at_tab h))
+      → (line_cap : ℕ) (h : History) → Stands line_cap h old → IsErr r ↔ (line_cap < length_reached Tab h)
+  limit-tab_plainly limit line_cap h s =
+      let p = plain_of line_cap h old none s in
+      let ended : pending_length_behind (FieldEnd ∷ h) ≡ pending_length p.events = ap (λ (t : Told). pending_length (so_far (told_behind FieldEnd t))) p.is_told in
+      let behind : pending_length_behind (Tab ∷ h) ≡ length_at_tab p.events = ap (λ (t : Told). pending_length (so_far (told_behind Tab t))) p.is_told in
+      let here = limit line_cap p.events p.stands in (
+        λ is. omega (arith, here.0 is, behind),
+        λ over. here.1 (omega (arith, over, ended, behind, p.stands.within)),
+      )

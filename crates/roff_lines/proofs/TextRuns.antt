@@ -20,7 +20,7 @@ use Rattle.roff_lines.proofs.Tells.{QuietlyTold-behind, AllByRecursion-behind}
 use Rattle.roff_lines.proofs.ToldGlyphs.{within-full, bytes_told-glyph, glyph_room-glyphs, Tells-glyphs}
 
 -- the glyphs in front of a text are above the blank
-above-front : (most : ℕ) (text : List ℕ) → AllByRecursion (λ b. 32 < b) (take most (glyphs_in_front text))
+pub above-front : (most : ℕ) (text : List ℕ) → AllByRecursion (λ b. 32 < b) (take most (glyphs_in_front text))
 above-front zero text = tt
 above-front (suc n) [] = tt
 above-front (suc n) (b ∷ text) =
@@ -30,7 +30,7 @@ above-front (suc n) (b ∷ text) =
     ]
 
 -- no glyph stands in front
-abbrev BeginsBlank : List ℕ → Type 0
+abbrev pub BeginsBlank : List ℕ → Type 0
 BeginsBlank [] = Unit {0}
 BeginsBlank (b ∷ text) = b ≤ 32
 
@@ -39,7 +39,7 @@ rest_same : (b : ℕ) (xs ys : List ℕ) → b ∷ xs ≡ b ∷ ys → xs ≡ ys
 rest_same b xs ys same = cc
 
 -- behind so many glyphs in front, either so many are all that may be taken, or no glyph stands there
-behind-front : (count most : ℕ) (text : List ℕ) → count ≤ length text → take count text ≡ take most (glyphs_in_front text)
+pub behind-front : (count most : ℕ) (text : List ℕ) → count ≤ length text → take count text ≡ take most (glyphs_in_front text)
     → (count ≡ most) ⊎ BeginsBlank (drop count text)
 behind-front zero zero text within front = inl refl
 behind-front zero (suc most) [] within front = inr tt

@@ -1,16 +1,15 @@
 -- Bytes of a text line that are told at once, where a field is open or none is.
-use Rattle.std.proofs.Common.{◌≡◌, ℕ, ◌+◌, ◌<◌, ◌≤◌, true, false, inl, inr, List, [], ◌∷◌, ◌++◌, length, take, drop, slice_index_or, Option, Some, None, Result, Ok, Err, OnOk, IsErr, ◌↔◌, refl, sym, ap, subst, ◌∙◌, arith}
-use Rattle.std.specs.Prelude.{◌==◌, is_err, is_some}
-use Rattle.std.proofs.lemmas.Bool.{cases_Bool, cases_lt, eqb-true, eqb-false}
+use Rattle.std.proofs.Common.{◌≡◌, ℕ, ◌+◌, ◌<◌, ◌≤◌, false, inl, inr, List, [], ◌∷◌, ◌++◌, length, take, drop, slice_index_or, None, sym, subst, arith}
+use Rattle.std.specs.Prelude.{◌==◌}
+use Rattle.std.proofs.lemmas.Bool.{cases_Bool, eqb-true, eqb-false}
 use Rattle.std.proofs.lemmas.List.{take_more}
 use Rattle.roff_layout.specs.declared.event.Event.TheVariants.{Print}
-use Rattle.roff_layout.specs.declared.glyph.Glyph.{Glyph}
 use Rattle.roff_layout.specs.declared.glyph.Glyph.TheVariants.{Printed}
 use Rattle.roff_layout.specs.Events.{History}
 use Rattle.roff_layout.specs.Behind.{pending_length}
 use Rattle.roff_layout.specs.Telling.{bytes_told, QuietlyTold}
-use Rattle.roff_lines.specs.Env.Kept.{Kept, KeptField, length_told, with_glyph, with_glyph_in, with_glyph_told}
-use Rattle.roff_lines.specs.Env.Stands.{Stands, StandsBehind, StandsPlain}
+use Rattle.roff_lines.specs.Env.Kept.{Kept}
+use Rattle.roff_lines.specs.Env.Stands.{Stands, StandsPlain}
 use Rattle.roff_lines.specs.Env.Tells.{EndsInField, PlainlyTold, Tells}
 use Rattle.roff_lines.proofs.GlyphTold.{limit-glyph_told}
 use Rattle.roff_lines.proofs.PlainStanding.{plain_of, plainly_quiet, quiet_plain, stands_plain}
@@ -82,32 +81,3 @@ Tells-both xs ys old mid new first second = record {
       subst (λ (told : History). Stands line_cap told new) (sym (bytes_told-append xs ys h))
       (second.stands line_cap (bytes_told xs h) (first.stands line_cap h s));
 }
-
--- a byte that isn't a blank is told as a glyph, where the limit lets that through
-pub Tells-glyph_told : {E : Type 0} (r : Result (Unit {0}) E) (b : ℕ) (old new : Kept) → (b == 32) ≡ false → is_err r ≡ false
-    → OnOk r (StandsBehind old (Print (Printed b)) new) → IsErr r ↔ (old.cap < length_told (Printed b) old) → Tells (b ∷ []) old new
-Tells-glyph_told (Err e) b old new glyph done stands limit = let wrong : true ≡ false = done in cc
-Tells-glyph_told (Ok u) b old new glyph done stands limit = record {
-  quiet = λ line_cap h s.
-      let within : pending_length (Print (Printed b) ∷ h) ≤ line_cap =
-      elim (cases_lt line_cap (pending_length (Print (Printed b) ∷ h))) [
-        | inl over ↦ let wrong = limit.1 ((limit-glyph_told (Printed b) line_cap h old s).1 over) in cc
-        | inr few ↦ few
-      ] in
-      (rw glyph refl, rw glyph within, tt);
-  stands = λ line_cap h s. rw glyph (stands line_cap h s);
-}
-
--- and a field that was open stays open
-abbrev told_where : Glyph → Option KeptField → Kept → Kept
-told_where g o k = elim o [ None ↦ with_glyph g k | Some f ↦ with_glyph_in g f k ]
-
-open_behind : (g : Glyph) (o : Option KeptField) (k : Kept) → k.field ≡ o → is_some o ≡ true
-    → is_some (told_where g o k).field ≡ true
-open_behind g None k is some = cc
-open_behind g (Some f) k is some = refl
-
-pub field-glyph_told : {E : Type 0} (r : Result (Unit {0}) E) (g : Glyph) (old new : Kept) → is_err r ≡ false → OnOk r (new ≡ with_glyph_told g old)
-    → is_some old.field ≡ true → is_some new.field ≡ true
-field-glyph_told (Err e) g old new done kept some = let wrong : true ≡ false = done in cc
-field-glyph_told (Ok u) g old new done kept some = ap (λ (k : Kept). is_some k.field) kept ∙ open_behind g old.field old refl some

@@ -25,7 +25,7 @@ pub moved-moved : (m n place : ℕ) → moved n (moved m place) ≡ moved (m + n
 moved-moved m n place = omega arith
 
 -- one byte is as wide as it is
-text_width-one : (b : ℕ) → text_width (b ∷ []) ≡ byte_width b
+pub text_width-one : (b : ℕ) → text_width (b ∷ []) ≡ byte_width b
 text_width-one b = omega (arith, sum_by-cons byte_width b [])
 
 -- such a byte is a glyph

@@ -1,10 +1,10 @@
 //! Tab stops (manual, section 9.1), in columns.
 
-ghost use Rattle.std.specs.Prelude.{◌≡◌, None, IfOk};
+ghost use Rattle.std.specs.Prelude.{◌≡◌, None, IfOk, nat_lt, ◌==◌, ◌&&◌, ◌||◌};
 ghost use Rattle.roff_lines.specs.Clauses.{TabStops, stops_with, way_beyond, way_to_next};
 ghost use Rattle.roff_lines.specs.Clauses.{way_to_nearest, shorter_way};
 ghost use Rattle.roff_layout.specs.TabStops.{with_stop_set};
-ghost use Rattle.roff_lines.specs.StopTable.Ways.{way_told};
+ghost use Rattle.roff_lines.specs.StopTable.Ways.{way_of, way_told};
 
 use roff_layout::{Param, StopKind, TabStop};
 use std::alloc::{AllocError, Global};
@@ -113,44 +113,39 @@ impl StopTable {
 fn way_to_nearest_of(stops: &[TabStop], place: u32) -> Option<Way>
     ensures { way_told result ≡ way_to_nearest stops.now place }
 {
-    let mut way = None;
+    let mut way = Way {
+        columns: 0,
+        kind: StopKind::Left,
+    };
     let mut rest = stops;
     while let Some((stop, others)) = rest.split_first() {
-        way = shorter(way, beyond(place, *stop));
+        way = nearer(way, place, *stop);
         rest = others;
     }
-    way
+    if way.columns == 0 { None } else { Some(way) }
 }
 
-/// The way from a place to a stop, if that is beyond it.
-fn beyond(place: u32, stop: TabStop) -> Option<Way>
-    ensures { way_told result ≡ way_beyond place stop }
+/// The shorter of a way and that from a place to a stop, and of two that are as long the first. One
+/// of no columns is no way.
+#[inline(always)]
+fn nearer(way: Way, place: u32, stop: TabStop) -> Way
+    ensures { way_of result ≡ shorter_way (way_of way) (way_beyond place stop) }
 {
-    if place < stop.column {
-        Some(Way {
-            columns: stop.column - place,
+    let columns = stop.column.saturating_sub(place);
+    if is_shorter(columns, way.columns) {
+        Way {
+            columns,
             kind: stop.kind,
-        })
+        }
     } else {
-        None
+        way
     }
 }
 
-/// The shorter of two ways, and of two that are as long the first.
-fn shorter(one: Option<Way>, other: Option<Way>) -> Option<Way>
-    ensures { way_told result ≡ shorter_way (way_told one) (way_told other) }
+/// Whether there are columns, and fewer than others, where there are others.
+#[inline(always)]
+fn is_shorter(columns: u32, others: u32) -> bool
+    ensures { result ≡ (nat_lt 0 columns && (others == 0 || nat_lt columns others)) }
 {
-    match one {
-        None => other,
-        Some(first) => match other {
-            None => one,
-            Some(second) => {
-                if first.columns <= second.columns {
-                    one
-                } else {
-                    other
-                }
-            }
-        },
-    }
+    columns.wrapping_sub(1) < others.wrapping_sub(1)
 }

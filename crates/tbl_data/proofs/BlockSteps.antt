@@ -28,7 +28,7 @@ use Rattle.tbl_layout.specs.Entries.{Block, Content}
 use Rattle.tbl_layout.specs.KeptEntries.{IsKeptBy, IsOpened, block_lines, content_by, content_of, with_end}
 use Rattle.tbl_layout.specs.declared.entry.Entry.{Entry}
 use Rattle.tbl_layout.specs.declared.entry.EntryKind.{EntryKind}
-use Rattle.tbl_layout.specs.declared.entry.EntryKind.TheVariants.{Block as BlockKind, Split as SplitKind, Text as TextKind}
+use Rattle.tbl_layout.specs.declared.entry.EntryKind.TheVariants.{Block as BlockKind, Repeated as RepeatedKind, Ruled as RuledKind, Short as ShortKind, Split as SplitKind, Text as TextKind}
 
 -- the block that is the last of a row's fields, and those in front of it
 record LastBlock (row : List Entry) : Type 0 where
@@ -70,6 +70,9 @@ opened-by : (kind : EntryKind) (bytes : List ℕ) (key : Key) (e : Entry) → Is
 opened-by (TextKind glyphs width) bytes key e kept block = absurd block
 opened-by (SplitKind s) bytes key e kept block = absurd block
 opened-by (BlockKind b) bytes key e kept block = kept
+opened-by (RuledKind sign) bytes key e kept block = absurd block
+opened-by ShortKind bytes key e kept block = absurd block
+opened-by (RepeatedKind b) bytes key e kept block = absurd block
 
 last-opened : (bytes : List ℕ) (format : FormatRow) (column : ℕ) (front : List Entry) (e : Entry) → AreKept bytes format column (front ++ e ∷ []) → IsBlock e.kind → IsOpened bytes e
 last-opened bytes format column [] e kept block = opened-by e.kind bytes _ e kept.0 block
@@ -79,6 +82,9 @@ content-block : (kind : EntryKind) (bytes : List ℕ) (from to : ℕ) → IsBloc
 content-block (TextKind glyphs width) bytes from to block = absurd block
 content-block (SplitKind s) bytes from to block = absurd block
 content-block (BlockKind b) bytes from to block = refl
+content-block (RuledKind sign) bytes from to block = absurd block
+content-block ShortKind bytes from to block = absurd block
+content-block (RepeatedKind b) bytes from to block = absurd block
 
 -- a row that ends in a block, by its fields
 module _ (bytes : List ℕ) (row : List Entry) (ends : EndsInBlock row) where

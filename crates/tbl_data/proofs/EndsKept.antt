@@ -8,7 +8,7 @@ use Rattle.tbl_format.specs.Notes.{IsWithin, NotesWithin}
 use Rattle.tbl_format.specs.declared.notes.Cause.{Cause}
 use Rattle.tbl_format.specs.declared.notes.Cause.TheVariants.{BadFormat, LeftOut, NotMeasured, OptionIgnored, RequestInTextBlock, TooManyFields}
 use Rattle.tbl_format.specs.declared.notes.KeptNote.{KeptNote}
-use Rattle.tbl_kept.specs.Rows.{Command, KeptElement, Row, last_changed}
+use Rattle.tbl_kept.specs.Rows.{Command, KeptElement, Row, Rule, last_changed}
 use Rattle.tbl_kept.specs.TableNotes.{KeptNotes}
 use Rattle.tbl_layout.specs.KeptEntries.{with_end}
 use Rattle.tbl_layout.specs.declared.entry.Entry.{Entry}
@@ -26,6 +26,7 @@ module _ (from to : ℕ) (order : from ≤ to) where
 
   element-later : (e : KeptElement) → ElementEnds from e → ElementEnds to e
   element-later (Row keys height entries) ends = entries-later entries ends
+  element-later (Rule sign) ends = tt
   element-later (Command at end) ends = omega (arith, order, ends)
 
   elements-later : (elements : List KeptElement) → AllByRecursion (ElementEnds from) elements → AllByRecursion (ElementEnds to) elements
@@ -57,10 +58,10 @@ changed-ends to [] all = tt
 changed-ends to (e ∷ []) all = (omega arith, tt)
 changed-ends to (e ∷ next ∷ entries) all = (all.0, changed-ends to (next ∷ entries) all.1)
 
--- messages more
-notes-append : (to : ℕ) (some more : List KeptNote) → NotesWithin to some → NotesWithin to more → NotesWithin to (some ++ more)
-notes-append to [] more all further = further
-notes-append to (note ∷ some) more all further = (all.0, notes-append to some more all.1 further)
+-- messages more within so many bytes
+pub within-append : (len : ℕ) (some more : List KeptNote) → NotesWithin len some → NotesWithin len more → NotesWithin len (some ++ more)
+within-append len [] more all further = further
+within-append len (note ∷ some) more all further = (all.0, within-append len some more all.1 further)
 
 pub notes-end : (to : ℕ) (old new : KeptNotes) (more : List KeptNote) → new ≡ more_notes more old → NotesWithin to more → NotesWithin to old.notes → NotesWithin to new.notes
-notes-end to old new more is further all = subst (λ (n : KeptNotes). NotesWithin to n.notes) (sym is) (notes-append to old.notes more all further)
+notes-end to old new more is further all = subst (λ (n : KeptNotes). NotesWithin to n.notes) (sym is) (within-append to old.notes more all further)

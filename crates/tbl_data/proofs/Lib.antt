@@ -6,3 +6,5 @@ pub mod LineFields
 pub mod BlockSteps
 pub mod LineSteps
 pub mod EndsKept
+pub mod FieldsKept
+pub mod RulesKept

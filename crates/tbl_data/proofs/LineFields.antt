@@ -2,7 +2,7 @@
 use Rattle.std.proofs.Common.{◌≡◌, ℕ, ◌+◌, ◌-◌, ◌<◌, ◌≤◌, Bool, true, false, not, List, [], ◌∷◌, ◌++◌, length, take, drop, Some, refl, sym, ap, subst, ◌∙◌, arith, length-append, if◌then◌else◌}
 use Rattle.std.specs.List.{slice_range}
 use Rattle.std.proofs.lemmas.List.{drop_all, drop_more, length-map, take_all}
-use Rattle.tbl_data.specs.DataRead.{item_notes, surplus_notes, with_fields, with_open_row, with_row}
+use Rattle.tbl_data.specs.DataRead.{notes_of_field, surplus_notes, with_fields, with_open_row, with_row}
 use Rattle.tbl_data.specs.FieldsTaken.{row_opened}
 use Rattle.tbl_data.specs.LineTaken.{EndsRow, Grows, LineLies, Makes, OpensBlock, RowFits, TakesField, contents_in, fields_made, last_made, left_from, more_notes, surplus_kept}
 use Rattle.tbl_data.specs.TableData.{EndsBy, OpenEndsAt, SameRooms, table_by}
@@ -13,10 +13,9 @@ use Rattle.tbl_data.specs.declared.phase.Phase.TheVariants.{InData}
 use Rattle.tbl_data.specs.declared.table_data.OpenBlock.{OpenBlock}
 use Rattle.tbl_data.specs.declared.table_data.OpenBlock.TheVariants.{Nothing}
 use Rattle.tbl_data.specs.declared.table_data.TableData.{TableData}
-use Rattle.tbl_data.proofs.FieldSteps.{no-room, one-field, opening-last, text-last, unbuilt-field, unbuilt-last}
-use Rattle.tbl_data.proofs.EndsKept.{notes-end}
+use Rattle.tbl_data.proofs.FieldSteps.{laid-last, no-room, one-field, opening-last, unbuilt-field, unbuilt-last}
+use Rattle.tbl_data.proofs.EndsKept.{notes-end, within-append}
 use Rattle.tbl_data.proofs.RowSteps.{table-notes}
-use Rattle.tbl_data.proofs.TextsKept.{within-append}
 use Rattle.tbl_format.specs.Notes.{NotesWithin, told_of_all}
 use Rattle.tbl_format.specs.declared.message.Told.{Told}
 use Rattle.tbl_format.specs.declared.options.Options.{Options}
@@ -26,9 +25,8 @@ use Rattle.tbl_kept.specs.TableText.{KeptText, block_of}
 use Rattle.tbl_layout.proofs.Fields.{field_len, fields-front, fields_behind, front-part, length-part, rest-part}
 use Rattle.tbl_layout.specs.Data.{fields}
 use Rattle.tbl_layout.specs.DataLines.{ends_in_block, is_laid_out, opens_block}
-use Rattle.tbl_layout.specs.Entries.{Content, Text as OneText}
+use Rattle.tbl_layout.specs.Entries.{Content, content_read}
 use Rattle.tbl_layout.specs.KeptEntries.{content_of}
-use Rattle.tbl_text.specs.Items.{items}
 
 -- rooms that stay through two steps
 pub rooms-behind : (a b c : TableData) → SameRooms a b → SameRooms b c → SameRooms a c
@@ -164,15 +162,15 @@ module _ (k : KeptText) (line : DataLine) (at : ℕ) (had : Bool) (d : TableData
       (λ options is. sym (unbuilt-last ends line.number (at - line.from) (contents_in k d) had (table_by InData options (block_of k) d) field has-column opens unbuilt))
       made
 
-  pub last-text : (most : ℕ) (mid new : TableData) → line.to - at + 1 ≤ most → opens_block field ≡ false → is_laid_out field ≡ true
+  pub last-laid : (most : ℕ) (mid new : TableData) → line.to - at + 1 ≤ most → opens_block field ≡ false → is_laid_out field ≡ true
       → TakesField k line at line.to d mid → EndsRow (block_of k) mid new → (EndsBy line.to mid → EndsBy line.to new) → new.open ≡ Nothing → Grows 0 1 mid new
       → Makes k line most (last_made k line at had d) InData d new
-  last-text most mid new few opens laid taken ended settled closed grown = record {
+  last-laid most mid new few opens laid taken ended settled closed grown = record {
     table = λ options is.
         ended.table options
         ∙ ap (λ (contents : List Content). with_row contents (table_by InData options (block_of k) mid)) taken.row
-        ∙ ap (λ (t : TableRead). with_row (contents_in k d ++ OneText field ∷ []) t) (taken.table options)
-        ∙ sym (text-last ends line.number (at - line.from) (contents_in k d) had (table_by InData options (block_of k) d) field has-column opens laid);
+        ∙ ap (λ (t : TableRead). with_row (contents_in k d ++ content_read field ∷ []) t) (taken.table options)
+        ∙ sym (laid-last ends line.number (at - line.from) (contents_in k d) had (table_by InData options (block_of k) d) field has-column opens laid);
     fits = ended.fits;
     ends = subst (λ (o : OpenBlock). OpenEndsAt line.to o new.rows.row) (sym closed) tt;
     settled = λ ends. settled (taken.settled ends);
@@ -345,9 +343,9 @@ module _ (k : KeptText) (line : DataLine) (first at : ℕ) (had : Bool) (old now
                 let t = table_by InData options (block_of k) now in
                 sym (made-by options
                 ∙ one-field ends n (at - line.from) this next.next next.rest (contents_in k now) had t laid room
-                ∙ ap (λ (fs : List (List ℕ)). with_fields ends n (at - line.from + length this + 1) fs (contents_in k now ++ OneText this ∷ []) had (with_notes (item_notes ends n (at - line.from) (items this)) t)) (sym next.is)
-                ∙ ap (λ (p : ℕ). with_fields ends n p (fields line.separator (left_from k line (at + len + 1))) (contents_in k now ++ OneText this ∷ []) had (with_notes (item_notes ends n (at - line.from) (items this)) t)) place
-                ∙ ap (λ (cs : List Content). with_fields ends n (at + len + 1 - line.from) (fields line.separator (left_from k line (at + len + 1))) cs had (with_notes (item_notes ends n (at - line.from) (items this)) t)) (sym taken.row)
+                ∙ ap (λ (fs : List (List ℕ)). with_fields ends n (at - line.from + length this + 1) fs (contents_in k now ++ content_read this ∷ []) had (with_notes (notes_of_field ends n (at - line.from) this) t)) (sym next.is)
+                ∙ ap (λ (p : ℕ). with_fields ends n p (fields line.separator (left_from k line (at + len + 1))) (contents_in k now ++ content_read this ∷ []) had (with_notes (notes_of_field ends n (at - line.from) this) t)) place
+                ∙ ap (λ (cs : List Content). with_fields ends n (at + len + 1 - line.from) (fields line.separator (left_from k line (at + len + 1))) cs had (with_notes (notes_of_field ends n (at - line.from) this) t)) (sym taken.row)
                 ∙ ap (λ (u : TableRead). with_fields ends n (at + len + 1 - line.from) (fields line.separator (left_from k line (at + len + 1))) (contents_in k new) had u) (sym (taken.table options)))
                 ∙ so_far.table options;
             fits = taken.fits;

@@ -2,11 +2,11 @@
 use Rattle.std.proofs.Common.{◌≡◌, ◌≢◌, ℕ, ◌+◌, ◌-◌, ◌<◌, ◌≤◌, ◌^◌, Bool, true, false, List, [], ◌∷◌, ◌++◌, length, map, take, drop, Option, None, Some, refl, sym, ap, subst, ◌∙◌, arith, append-nil, length-append, if◌then◌else◌}
 use Rattle.std.specs.Prelude.{is_none, is_some, nat_lt, option_map, take_while}
 use Rattle.std.specs.List.{slice_range}
-use Rattle.tbl_data.specs.DataRead.{behind_block, closed_block, fields_with_block, item_notes, text_notes, with_block_line, with_fields, with_line, with_row, with_text, with_whole}
+use Rattle.tbl_data.specs.DataRead.{behind_block, closed_block, field_notes, fields_with_block, item_notes, with_block_line, with_fields, with_line, with_row, with_text, with_whole}
 use Rattle.tbl_data.specs.LineTaken.{EndsRow, Grows, LineLies, Makes, RowFits, block_line_made, contents_in, fields_made, left_from, made_by, more_notes, notes_kept, row_begun, text_made}
 use Rattle.tbl_data.specs.OpenBlocks.{is_dropped, is_open}
 use Rattle.tbl_data.specs.TableData.{DataFits, ElementEnds, EndsBy, OpenEndsAt, OpenFits, SameRooms, begun_by, table_by}
-use Rattle.tbl_data.specs.TableRead.{RowBegun, TableRead, bad, columns, with_notes}
+use Rattle.tbl_data.specs.TableRead.{RowBegun, TableRead, columns, with_notes}
 use Rattle.tbl_data.specs.declared.data_line.DataLine.{DataLine}
 use Rattle.tbl_data.specs.declared.phase.Phase.{Phase}
 use Rattle.tbl_data.specs.declared.phase.Phase.TheVariants.{InData, InFormat}
@@ -14,12 +14,11 @@ use Rattle.tbl_data.specs.declared.table_data.OpenBlock.{OpenBlock}
 use Rattle.tbl_data.specs.declared.table_data.OpenBlock.TheVariants.{Dropped, Kept, Nothing}
 use Rattle.tbl_data.specs.declared.table_data.TableData.{TableData}
 use Rattle.tbl_data.proofs.BlockSteps.{begun-contents, begun-dropped, begun-some}
-use Rattle.tbl_data.proofs.EndsKept.{all-append, notes-end}
+use Rattle.tbl_data.proofs.EndsKept.{all-append, notes-end, within-append}
 use Rattle.tbl_data.proofs.FieldSteps.{outcome}
 use Rattle.tbl_data.proofs.LineFields.{fields-alone, fields-first, makes-as, some-fields}
 use Rattle.tbl_data.proofs.NotesTold.{items-told}
 use Rattle.tbl_data.proofs.RowSteps.{entries_in-append, table-notes}
-use Rattle.tbl_data.proofs.TextsKept.{within-append}
 use Rattle.tbl_format.specs.Format.{FormatRow, further}
 use Rattle.tbl_format.specs.Notes.{NotesWithin, told_of_all}
 use Rattle.tbl_format.specs.RowsServed.{all_rows}
@@ -27,19 +26,20 @@ use Rattle.tbl_format.specs.declared.message.Told.{Told}
 use Rattle.tbl_format.specs.declared.notes.Cause.TheVariants.{RequestInTextBlock}
 use Rattle.tbl_format.specs.declared.notes.KeptNote.{KeptNote}
 use Rattle.tbl_format.specs.declared.options.Options.{Options}
-use Rattle.tbl_kept.proofs.RowsKeeping.{RowBegunKept-command, RowBegunKept-first, elements_of-command}
+use Rattle.tbl_kept.proofs.RowsKeeping.{RowBegunKept-command, RowBegunKept-first, RowBegunKept-rule, elements_of-command, elements_of-rule}
 use Rattle.tbl_kept.specs.Joined.{ends_joined, line_at}
-use Rattle.tbl_kept.specs.Rows.{RowsKept, Command as OneCommand, elements_of, with_command}
+use Rattle.tbl_kept.specs.Rows.{RowsKept, Command as OneCommand, Rule as OneRule, elements_of, with_command, with_rule}
 use Rattle.tbl_kept.specs.TableNotes.{KeptNotes}
 use Rattle.tbl_kept.specs.TableText.{KeptText, block_of}
 use Rattle.tbl_layout.proofs.Fields.{field_len, length-part, rest-part}
 use Rattle.tbl_layout.specs.Data.{fields}
 use Rattle.tbl_layout.specs.DataLines.{block_line_kind, ends_in_block, is_laid_out, len_of_fields, line_kind, without_opening}
-use Rattle.tbl_layout.specs.Entries.{Content, Element, Text as OneText}
+use Rattle.tbl_layout.specs.Entries.{Content, Element, content_read}
 use Rattle.tbl_layout.specs.KeptEntries.{content_of}
 use Rattle.tbl_layout.specs.declared.entry.Entry.{Entry}
 use Rattle.tbl_layout.specs.declared.data_lines.BlockLineKind.TheVariants.{End, Text}
 use Rattle.tbl_layout.specs.declared.data_lines.LineKind.{LineKind}
+use Rattle.tbl_layout.specs.declared.data_lines.RuleSign.{RuleSign}
 use Rattle.tbl_layout.specs.declared.data_lines.LineKind.TheVariants.{Command, Formats, Row, Rule}
 use Rattle.tbl_text.specs.Items.{items}
 use Rattle.tbl_text.specs.Measuring.{notes_from}
@@ -53,18 +53,7 @@ row-fits bytes d small fits =
 pub none-kept : (k : KeptText) (d : TableData) → DataFits (block_of k) d → d.open ≡ Nothing → d.rows.row ≡ []
 none-kept k d fits closed = subst (λ (o : OpenBlock). OpenFits o d.rows.row) closed fits.block
 
--- a rule, and a row
-pub rule-line : (k : KeptText) (line : DataLine) (kind : LineKind) (most : ℕ) (phase : Phase) (d new : TableData) → kind ≡ Rule → 1 ≤ most
-    → Makes k line 1 (bad (line_at (ends_joined k.pending) (line.from - line.from) line.number)) phase d new
-    → Makes k line most (made_by kind k line) phase d new
-rule-line k line kind most phase d new is few made =
-    let here : line.from - line.from ≡ 0 = omega arith in
-    makes-as k line 1 most (bad (line_at (ends_joined k.pending) (line.from - line.from) line.number)) (made_by kind k line) phase d new few
-    (λ options same.
-    ap (λ (p : ℕ). bad (line_at (ends_joined k.pending) p line.number) (table_by InData options (block_of k) d)) here
-    ∙ sym (ap (λ (x : LineKind). made_by x k line (table_by InData options (block_of k) d)) is))
-    made
-
+-- a row
 pub row-line : (k : KeptText) (line : DataLine) (kind : LineKind) (phase : Phase) (d new : TableData) → kind ≡ Row → d.rows.row ≡ []
     → Makes k line (line.to - line.from + 1) (fields_made k line line.from false d) phase d new
     → Makes k line (line.to - line.from + 1) (made_by kind k line) phase d new
@@ -118,6 +107,35 @@ module _ (k : KeptText) (line : DataLine) (d : TableData) (fits : DataFits (bloc
     ends = subst (λ (o : OpenBlock). OpenEndsAt line.to o d.rows.row) (sym closed) tt;
     settled = λ ends. record { elements = ends.elements; row = ends.row; notes = ends.notes };
     grown = record { entries = omega arith; elements = omega arith; notes = omega arith; to_tell = refl; rooms = record { entries = refl; elements = refl; columns = refl; notes = refl; keys = refl; asked = refl; escapes = refl } };
+  }
+
+  -- a rule
+  abbrev pub ruled : RuleSign → TableData
+  ruled sign = record d { rows = with_rule sign d.rows }
+
+  pub rule-kept : (sign : RuleSign) → Makes k line 0 (made_by (Rule sign) k line) InData d (ruled sign)
+  rule-kept sign = record {
+    table = λ options same.
+        let t = table_by InData options (block_of k) d in
+        ap (λ (body : List Element). record t { body = body }) (elements_of-rule (block_of k) (all_rows d.format.format) d.rows sign);
+    fits = record {
+      kept = RowBegunKept-rule (block_of k) (all_rows d.format.format) d.rows d.keys sign fits.kept;
+      block = fits.block;
+      columns = fits.columns;
+      first = fits.first;
+      serves = fits.serves;
+      whole = fits.whole;
+      notes = fits.notes;
+    };
+    ends = subst (λ (o : OpenBlock). OpenEndsAt line.to o d.rows.row) (sym closed) tt;
+    settled = λ ends. record { elements = all-append (ElementEnds line.to) d.rows.elements (OneRule sign) ends.elements tt; row = ends.row; notes = ends.notes };
+    grown = record {
+      entries = omega (arith, entries_in-append d.rows.elements (OneRule sign ∷ []));
+      elements = omega (arith, length-append d.rows.elements (OneRule sign ∷ []));
+      notes = omega arith;
+      to_tell = refl;
+      rooms = record { entries = refl; elements = refl; columns = refl; notes = refl; keys = refl; asked = refl; escapes = refl };
+    };
   }
 
   -- a command
@@ -220,8 +238,8 @@ text-notes k line d options is fits =
     let row = row_begun d.open (contents_in k d) in
     let t = record (table_by InData options (block_of k) d) { begun = Some (with_text text row) } in
     let some : is_some row.block ≡ true = is-some-of row.block (begun-dropped d.open (block_of k) d.rows.row fits.block (λ none. kept-open d.open is none) ∙ ap is_dropped is) in
-    ap (λ (ts : List Told). with_notes ts t) (items-told ends line.number 0 (block_of k) (items text) ∙ sym (append-nil (item_notes ends line.number 0 (items text))))
-    ∙ sym (ap (λ (b : Bool). with_notes (if b then text_notes ends line.number 0 (text ∷ []) else []) t) some)
+    ap (λ (ts : List Told). with_notes ts t) (items-told ends line.number 0 (block_of k) (items text))
+    ∙ sym (ap (λ (b : Bool). with_notes (if b then item_notes ends line.number 0 (items text) else []) t) some)
 
 -- what is told of a request in a block
 pub request-notes : (k : KeptText) (line : DataLine) (kept : KeptNotes) (notes : KeptNotes)
@@ -244,7 +262,7 @@ fields-begun ends n place all in_front had t begun =
     let texts = take room (without_opening all) in
     let built = take_while is_laid_out texts in
     outcome-begun (nat_lt (length built) (length texts)) (ends_in_block all) (nat_lt room (length all)) had (line_at ends (place + len_of_fields built) n) (line_at ends (place + len_of_fields texts - 1) n)
-    (in_front ++ map OneText texts) (with_notes (text_notes ends n place built) t) begun
+    (in_front ++ map content_read texts) (with_notes (field_notes ends n place built) t) begun
 
 -- rooms go by no block
 rooms-of : (d : TableData) (o : OpenBlock) (new : TableData) → SameRooms (record d { «open» = o }) new → SameRooms d new

@@ -24,7 +24,7 @@ use Rattle.tbl_format.specs.declared.options.Options.{Options}
 use Rattle.tbl_kept.proofs.RowsKeeping.{RowBegunKept-entry, RowBegunKept-first, RowsKept-row, contents-entry, elements_of-row}
 use Rattle.tbl_kept.specs.RowsLaying.{AreOpened, IsOpenedKind}
 use Rattle.tbl_layout.specs.declared.entry.EntryKind.{EntryKind}
-use Rattle.tbl_layout.specs.declared.entry.EntryKind.TheVariants.{Block as BlockKind, Split as SplitKind, Text as TextKind}
+use Rattle.tbl_layout.specs.declared.entry.EntryKind.TheVariants.{Block as BlockKind, Repeated as RepeatedKind, Ruled as RuledKind, Short as ShortKind, Split as SplitKind, Text as TextKind}
 use Rattle.tbl_format.specs.declared.format.Key.{Key}
 use Rattle.tbl_kept.specs.Rows.{AreKept, KeptElement, KeptRows, Row, elements_of, entries_in, holding, with_entry, with_row as row_kept}
 use Rattle.tbl_kept.specs.TableNotes.{KeptNotes}
@@ -94,6 +94,9 @@ opened-by : (kind : EntryKind) (bytes : List ℕ) (key : Key) (e : Entry) → e.
 opened-by (TextKind glyphs width) bytes key e is kept = tt
 opened-by (SplitKind s) bytes key e is kept = tt
 opened-by (BlockKind b) bytes key e is kept = let same : BlockKind b ≡ BlockKind not_filled = sym is ∙ kept.is in cc
+opened-by (RuledKind sign) bytes key e is kept = tt
+opened-by ShortKind bytes key e is kept = tt
+opened-by (RepeatedKind b) bytes key e is kept = tt
 
 pub kept-opened : (bytes : List ℕ) (format : FormatRow) (column : ℕ) (entries : List Entry) → AreKept bytes format column entries → AreOpened entries
 kept-opened bytes format column [] kept = tt

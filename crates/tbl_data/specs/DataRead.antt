@@ -10,10 +10,12 @@ use Rattle.tbl_format.specs.declared.message.Message.TheVariants.{NotMeasured, R
 use Rattle.tbl_format.specs.declared.message.Told.{Told}
 use Rattle.tbl_kept.specs.Joined.{behind_joined, ends_joined, goes_on, line_at}
 use Rattle.tbl_layout.specs.Data.{fields}
-use Rattle.tbl_layout.specs.DataLines.{block_line_kind, ends_in_block, is_laid_out, len_of_fields, line_kind, without_opening}
-use Rattle.tbl_layout.specs.Entries.{Block, Command as OneCommand, Content, Row as OneRow, Text as OneText}
+use Rattle.tbl_layout.specs.DataLines.{block_line_kind, ends_in_block, field_kind, is_laid_out, len_of_fields, line_kind, without_opening}
+use Rattle.tbl_layout.specs.Entries.{Block, Command as OneCommand, Content, Row as OneRow, Rule as OneRule, content_read}
 use Rattle.tbl_layout.specs.declared.data_lines.BlockLineKind.{BlockLineKind}
 use Rattle.tbl_layout.specs.declared.data_lines.BlockLineKind.TheVariants.{End, Request, Text}
+use Rattle.tbl_layout.specs.declared.data_lines.FieldKind.{FieldKind}
+use Rattle.tbl_layout.specs.declared.data_lines.FieldKind.TheVariants.{Text as OneText}
 use Rattle.tbl_layout.specs.declared.data_lines.LineKind.{LineKind}
 use Rattle.tbl_layout.specs.declared.data_lines.LineKind.TheVariants.{Command, Formats, Row, Rule}
 use Rattle.tbl_data.specs.TableRead.{RowBegun, TableRead, bad, columns, with_note, with_notes}
@@ -27,11 +29,18 @@ item_notes ends n place (item ∷ items) =
     option_to_list (option_map (λ b. told_at (line_at ends place n) (NotMeasured b)) (note item.what))
     ++ item_notes ends n (place + length item.bytes) items
 
--- those of texts, each with a separator behind it
-abbrev pub text_notes : List (ℕ × ℕ) → ℕ → ℕ → List (List ℕ) → List Told
-text_notes ends n place [] = []
-text_notes ends n place (text ∷ texts) =
-    item_notes ends n place (items text) ++ text_notes ends n (place + length text + 1) texts
+-- those of a field, by what it is: a rule has none
+abbrev pub notes_by_kind : FieldKind → List (ℕ × ℕ) → ℕ → ℕ → List ℕ → List Told
+notes_by_kind OneText ends n place field = item_notes ends n place (items field)
+notes_by_kind kind ends n place field = []
+
+abbrev pub notes_of_field : List (ℕ × ℕ) → ℕ → ℕ → List ℕ → List Told
+notes_of_field ends n place field = notes_by_kind (field_kind field) ends n place field
+
+-- those of fields, each with a separator behind it
+abbrev pub field_notes : List (ℕ × ℕ) → ℕ → ℕ → List (List ℕ) → List Told
+field_notes ends n place [] = []
+field_notes ends n place (field ∷ fields) = notes_of_field ends n place field ++ field_notes ends n (place + length field + 1) fields
 
 -- the row of the format that serves the next row of data
 abbrev pub serving : TableRead → FormatRow
@@ -61,15 +70,15 @@ with_fields ends n place all in_front had_surplus t =
     let texts = take room (without_opening all) in
     let built = take_while is_laid_out texts in
     let has_surplus = nat_lt room (length all) in
-    let told = with_notes (text_notes ends n place built) t in
+    let told = with_notes (field_notes ends n place built) t in
     if nat_lt (length built) (length texts) then bad (line_at ends (place + len_of_fields built) n) told
     else with_open_row (ends_in_block all)
-    (record { fields = in_front ++ map OneText texts; block = if has_surplus || had_surplus then None else Some [] })
+    (record { fields = in_front ++ map content_read texts; block = if has_surplus || had_surplus then None else Some [] })
     (with_notes (surplus_notes (has_surplus && not had_surplus) (line_at ends (place + len_of_fields texts - 1) n)) told)
 
 -- a line, by what it is, where no text block is open
 abbrev pub with_line : LineKind → List (ℕ × ℕ) → ℕ → List ℕ → TableRead → TableRead
-with_line Rule ends n line t = bad (line_at ends 0 n) t
+with_line (Rule sign) ends n line t = record t { body = t.body ++ OneRule sign ∷ [] }
 with_line Formats ends n line t = record t { phase = InFormat; format = further t.format; next_row = 0 }
 with_line Command ends n line t = record t { body = t.body ++ OneCommand line ∷ [] }
 with_line Row ends n line t = with_fields ends n 0 (fields t.options.separator line) [] false t
@@ -99,7 +108,7 @@ abbrev pub with_block_line : BlockLineKind → List (ℕ × ℕ) → ℕ → Lis
 with_block_line End ends n line row t = behind_block ends n (fields t.options.separator (drop 2 line)) row t
 with_block_line Request ends n line row t = with_note (line_at ends 0 n) RequestInTextBlock (record t { begun = Some (with_text line row) })
 with_block_line Text ends n line row t =
-    with_notes (if is_some row.block then text_notes ends n 0 (line ∷ []) else []) (record t { begun = Some (with_text line row) })
+    with_notes (if is_some row.block then item_notes ends n 0 (items line) else []) (record t { begun = Some (with_text line row) })
 
 -- a line that is whole
 abbrev pub with_whole : Option RowBegun → List (ℕ × ℕ) → ℕ → List ℕ → TableRead → TableRead

@@ -1,11 +1,10 @@
--- The fields of a line of a table of texts, taken one after another.
+-- The fields of a line of a table, taken one after another.
 use Rattle.std.specs.Prelude.{◌≡◌, ℕ, ◌+◌, ◌-◌, ◌<◌, ◌≤◌, Bool, true, false, not, List, [], ◌∷◌, ◌++◌, length, Some, None, if◌then◌else◌}
 use Rattle.tbl_kept.specs.Joined.{line_at}
 use Rattle.tbl_layout.specs.DataLines.{ends_in_block, is_laid_out, opens_block}
-use Rattle.tbl_layout.specs.Entries.{Content, Text as OneText}
-use Rattle.tbl_data.specs.DataRead.{item_notes, surplus_notes, with_fields, with_open_row, with_row}
+use Rattle.tbl_layout.specs.Entries.{Content, content_read}
+use Rattle.tbl_data.specs.DataRead.{notes_of_field, surplus_notes, with_fields, with_open_row, with_row}
 use Rattle.tbl_data.specs.TableRead.{RowBegun, TableRead, bad, columns, with_notes}
-use Rattle.tbl_text.specs.Items.{items}
 
 -- the row that is begun where a text block opens behind these fields; as one that is dropped, if they were too many
 abbrev pub row_opened : List Content → Bool → RowBegun
@@ -17,11 +16,11 @@ pub record TakesFields : Type 0 where
   pub first : (ends : List (ℕ × ℕ)) (n place : ℕ) (field next : List ℕ) (rest : List (List ℕ)) (in_front : List Content) (had : Bool) (t : TableRead)
       → is_laid_out field ≡ true → length in_front < columns t
       → with_fields ends n place (field ∷ next ∷ rest) in_front had t
-      ≡ with_fields ends n (place + length field + 1) (next ∷ rest) (in_front ++ OneText field ∷ []) had (with_notes (item_notes ends n place (items field)) t)
+      ≡ with_fields ends n (place + length field + 1) (next ∷ rest) (in_front ++ content_read field ∷ []) had (with_notes (notes_of_field ends n place field) t)
   -- the last one ends the row, or opens a text block
   pub last : (ends : List (ℕ × ℕ)) (n place : ℕ) (in_front : List Content) (had : Bool) (t : TableRead) (field : List ℕ)
       → length in_front < columns t → opens_block field ≡ false → is_laid_out field ≡ true
-      → with_fields ends n place (field ∷ []) in_front had t ≡ with_row (in_front ++ OneText field ∷ []) (with_notes (item_notes ends n place (items field)) t)
+      → with_fields ends n place (field ∷ []) in_front had t ≡ with_row (in_front ++ content_read field ∷ []) (with_notes (notes_of_field ends n place field) t)
   pub opening : (ends : List (ℕ × ℕ)) (n place : ℕ) (in_front : List Content) (had : Bool) (t : TableRead) (field : List ℕ)
       → length in_front < columns t → opens_block field ≡ true
       → with_fields ends n place (field ∷ []) in_front had t ≡ record t { begun = Some (row_opened in_front had) }

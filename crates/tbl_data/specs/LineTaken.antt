@@ -1,7 +1,7 @@
 -- What a line of the data adds to what is kept of a table, and what holds while it is taken (Lesk, "Tbl": Data).
 use Rattle.std.specs.Prelude.{◌≡◌, ℕ, ◌+◌, ◌-◌, ◌≤◌, ◌<◌, ◌^◌, Bool, List, [], ◌∷◌, ◌++◌, length, map, None, Some, option_map, if◌then◌else◌}
 use Rattle.std.specs.List.{slice_range}
-use Rattle.tbl_data.specs.DataRead.{item_notes, with_block_line, with_fields, with_line, with_row, with_text}
+use Rattle.tbl_data.specs.DataRead.{notes_of_field, with_block_line, with_fields, with_line, with_row, with_text}
 use Rattle.tbl_data.specs.FieldsTaken.{row_opened}
 use Rattle.tbl_data.specs.TableData.{DataFits, EndsBy, FitsBehind, OpenEndsAt, SameRooms, row_with_block, table_by}
 use Rattle.tbl_data.specs.TableRead.{RowBegun, TableRead, with_notes}
@@ -22,10 +22,13 @@ use Rattle.tbl_kept.specs.TableNotes.{KeptNotes}
 use Rattle.tbl_kept.specs.TableText.{KeptText, block_of}
 use Rattle.tbl_layout.specs.Data.{fields}
 use Rattle.tbl_layout.specs.declared.data_lines.BlockLineKind.{BlockLineKind}
+use Rattle.tbl_layout.specs.declared.data_lines.FieldKind.{FieldKind}
+use Rattle.tbl_layout.specs.declared.data_lines.FieldKind.TheVariants.{Repeated, Ruled, Short}
 use Rattle.tbl_layout.specs.declared.data_lines.LineKind.{LineKind}
-use Rattle.tbl_layout.specs.Entries.{Content, Text as OneText}
+use Rattle.tbl_layout.specs.declared.entry.EntryKind.{EntryKind}
+use Rattle.tbl_layout.specs.declared.entry.EntryKind.TheVariants.{Repeated as RepeatedKind, Ruled as RuledKind, Short as ShortKind}
+use Rattle.tbl_layout.specs.Entries.{Content, content_read}
 use Rattle.tbl_layout.specs.KeptEntries.{content_of}
-use Rattle.tbl_text.specs.Items.{items}
 use Rattle.tbl_text.specs.declared.measure.Note.{Note}
 
 -- a line lies within these bytes
@@ -83,12 +86,19 @@ pub record Grows (count added : ℕ) (old new : TableData) : Type 0 where
   pub to_tell : new.notes.to_tell ≡ old.notes.to_tell
   pub rooms : SameRooms old new
 
+-- a field that is a rule is kept as what it is
+abbrev pub KeepsRule : FieldKind → EntryKind → Type 0
+KeepsRule (Ruled sign) kept = kept ≡ RuledKind sign
+KeepsRule Short kept = kept ≡ ShortKind
+KeepsRule (Repeated b) kept = kept ≡ RepeatedKind b
+KeepsRule kind kept = ⊥
+
 -- one field more of the row that is begun, which lies there
 pub record TakesField (k : KeptText) (line : DataLine) (at end : ℕ) (old new : TableData) : Type 0 where
   pub table : (options : Options) → table_by InData options (block_of k) new
-      ≡ with_notes (item_notes (ends_joined k.pending) line.number (at - line.from) (items (slice_range (block_of k) at end)))
+      ≡ with_notes (notes_of_field (ends_joined k.pending) line.number (at - line.from) (slice_range (block_of k) at end))
       (table_by InData options (block_of k) old)
-  pub row : contents_in k new ≡ contents_in k old ++ OneText (slice_range (block_of k) at end) ∷ []
+  pub row : contents_in k new ≡ contents_in k old ++ content_read (slice_range (block_of k) at end) ∷ []
   pub fits : RowFits (block_of k) new
   pub closed : new.open ≡ old.open
   pub settled : EndsBy line.to old → EndsBy line.to new

@@ -11,17 +11,17 @@ use Rattle.tbl_data.specs.declared.table_data.TableData.{TableData}
 use Rattle.tbl_format.specs.Notes.{NotesWithin, told_of_all}
 use Rattle.tbl_format.specs.RowsServed.{all_rows}
 use Rattle.tbl_format.specs.declared.options.Options.{Options}
-use Rattle.tbl_kept.specs.Rows.{Command, KeptElement, Row, RowBegunKept, elements_of}
-use Rattle.tbl_layout.specs.Entries.{Block, Content, Text}
+use Rattle.tbl_kept.specs.Rows.{Command, KeptElement, Row, RowBegunKept, Rule, elements_of}
+use Rattle.tbl_layout.specs.Entries.{Block, Content}
 use Rattle.tbl_layout.specs.KeptEntries.{content_of}
 use Rattle.tbl_layout.specs.declared.entry.Entry.{Entry}
 use Rattle.tbl_layout.specs.declared.entry.EntryKind.{EntryKind}
-use Rattle.tbl_layout.specs.declared.entry.EntryKind.TheVariants.{Block as BlockKind, Split as SplitKind, Text as TextKind}
+use Rattle.tbl_layout.specs.declared.entry.EntryKind.TheVariants.{Block as BlockKind}
 
 -- the row of which a block is open that isn't dropped: the block is the last of its fields
 abbrev pub with_content : Content → List Content → RowBegun
-with_content (Text bytes) contents = record { fields = contents; block = Some [] }
 with_content (Block lines) contents = record { fields = contents; block = Some lines }
+with_content content contents = record { fields = contents; block = Some [] }
 
 abbrev pub behind_field : Content → RowBegun → RowBegun
 behind_field content row = record row { fields = content ∷ row.fields }
@@ -52,9 +52,8 @@ table_by phase options bytes d = record {
 
 -- the last of a row's fields is a block
 abbrev pub IsBlock : EntryKind → Type 0
-IsBlock (TextKind glyphs width) = ⊥
-IsBlock (SplitKind s) = ⊥
 IsBlock (BlockKind b) = Unit {0}
+IsBlock kind = ⊥
 
 abbrev pub EndsInBlock : List Entry → Type 0
 EndsInBlock [] = ⊥
@@ -117,6 +116,7 @@ EntryEnds place e = e.to ≤ place
 
 abbrev pub ElementEnds : ℕ → KeptElement → Type 0
 ElementEnds place (Row keys height entries) = AllByRecursion (EntryEnds place) entries
+ElementEnds place (Rule sign) = Unit {0}
 ElementEnds place (Command from to) = to ≤ place
 
 pub record EndsBy (place : ℕ) (d : TableData) : Type 0 where

@@ -2,8 +2,9 @@
 //! Text Blocks).
 
 ghost use Rattle.std.specs.Prelude.{◌≡◌, ℕ, ◌+◌, ◌-◌, ◌<◌, ◌≤◌, ◌^◌, false, List, if◌then◌else◌};
-ghost use Rattle.std.specs.Prelude.{length};
-ghost use Rattle.tbl_data.specs.LineTaken.{EndsRow, Grows, HasRoom, IsOnLine, LineLies, Makes};
+ghost use Rattle.std.specs.Prelude.{length, slice_range, true};
+ghost use Rattle.tbl_data.specs.LineTaken.{EndsRow, Grows, HasRoom, IsOnLine, KeepsRule};
+ghost use Rattle.tbl_data.specs.LineTaken.{LineLies, Makes};
 ghost use Rattle.tbl_data.specs.LineTaken.{OpensBlock, RowFits, TakesField, fields_made, last_made};
 ghost use Rattle.tbl_data.specs.TableData.{EndsBy, OpenEndsAt};
 ghost use Rattle.tbl_data.specs.declared.phase.Phase.TheVariants.{InData};
@@ -14,8 +15,10 @@ ghost use Rattle.tbl_format.specs.RowsServed.{all_rows};
 ghost use Rattle.tbl_kept.specs.Joined.{ends_joined, line_at};
 ghost use Rattle.tbl_kept.specs.Rows.{entries_of};
 ghost use Rattle.tbl_kept.specs.RowsLaying.{AreOpened};
-ghost use Rattle.tbl_kept.specs.TableText.{block_of};
+ghost use Rattle.tbl_kept.specs.TableText.{KeptText, block_of};
+ghost use Rattle.tbl_layout.specs.DataLines.{field_kind, is_laid_out};
 ghost use Rattle.tbl_layout.specs.Entries.{is_number};
+ghost use Rattle.tbl_layout.specs.declared.data_lines.FieldKind.TheVariants.{Text as OneText};
 
 use crate::data_line::{DataLine, tell, tell_items, tell_surplus};
 use crate::phase::Phase;
@@ -25,8 +28,8 @@ use tbl_format::notes::Cause;
 use tbl_kept::rows::key_at;
 use tbl_kept::table_text::TableText;
 use tbl_layout::data::field_len;
-use tbl_layout::data_lines::{ends_in_block, is_laid_out, opens_block};
-use tbl_layout::entry::Entry;
+use tbl_layout::data_lines::{FieldKind, ends_in_block, field_kind, opens_block};
+use tbl_layout::entry::{Entry, EntryKind};
 use tbl_text::measure::measure;
 
 impl TableData {
@@ -54,10 +57,10 @@ impl TableData {
             if end == line.to {
                 return self.take_last(text, line, at, had_surplus);
             }
-            if !is_laid_out(&text.block()[at..end]) {
+            let is_laid_out = self.take_field(text, line, at, end);
+            if !is_laid_out {
                 return self.refuse(text, line, at);
             }
-            self.take_field(text, line, at, end);
             at = end + 1;
         }
         self.take_surplus(text, line, at, had_surplus)
@@ -84,10 +87,10 @@ impl TableData {
         if opens_block(&text.block()[at..line.to]) {
             return self.open_block(line.to, had_surplus);
         }
-        if !is_laid_out(&text.block()[at..line.to]) {
+        let is_laid_out = self.take_field(text, line, at, line.to);
+        if !is_laid_out {
             return self.refuse(text, line, at);
         }
-        self.take_field(text, line, at, line.to);
         self.end_row()
     }
 
@@ -118,12 +121,65 @@ impl TableData {
         }
     }
 
-    /// A text of a column, which lies there: it is kept, and what isn't measured of it is told.
-    fn take_field(&mut self, text: &mut TableText, line: DataLine, at: usize, end: usize)
+    /// A field of a column, which lies there, is kept as what it is. Answers whether it is laid out.
+    fn take_field(&mut self, text: &mut TableText, line: DataLine, at: usize, end: usize) -> bool
         requires lies { LineLies (block_of text.old) line }
         requires at { IsOnLine line at }
         requires order { at ≤ end }
         requires end { end ≤ line.to }
+        requires fits { RowFits (block_of text.old) self.old }
+        requires closed { self.old.open ≡ Nothing }
+        requires column { length self.old.rows.row < length self.old.format.format.asked }
+        requires room { HasRoom (end - at + 1) self.old }
+        ensures text { text.new ≡ text.old }
+        ensures laid { result ≡ is_laid_out (slice_range (block_of text.old) at end) }
+        ensures taken { result ≡ true → TakesField text.old line at end self.old self.new }
+        ensures same { result ≡ false → self.new ≡ self.old }
+    {
+        match field_kind(&text.block()[at..end]) {
+            FieldKind::Text => {
+                self.take_text_field(text, line, at, end);
+                true
+            }
+            FieldKind::Ruled(sign) => {
+                self.take_rule_field(at, end, EntryKind::Ruled(sign));
+                true
+            }
+            FieldKind::Short => {
+                self.take_rule_field(at, end, EntryKind::Short);
+                true
+            }
+            FieldKind::Repeated(byte) => {
+                self.take_rule_field(at, end, EntryKind::Repeated(byte));
+                true
+            }
+            FieldKind::Above => false,
+        }
+    }
+
+    /// A rule of a column: nothing is told of it.
+    #[cold]
+    fn take_rule_field(&mut self, at: usize, end: usize, kind: EntryKind)
+        requires order { at ≤ end }
+        requires small { end < 2 ^ 32 }
+        requires room { entries_of self.old.rows < self.old.rows.entry_room }
+        ensures taken { (k : KeptText) (line : DataLine) → LineLies (block_of k) line
+            → end ≤ line.to
+            → KeepsRule (field_kind (slice_range (block_of k) at end)) kind
+            → RowFits (block_of k) self.old → self.old.open ≡ Nothing
+            → length self.old.rows.row < length self.old.format.format.asked
+            → TakesField k line at end self.old self.new }
+    {
+        self.rows.keep(Entry::of_rule(at, end - at, kind));
+    }
+
+    /// A text of a column: it is kept, and what isn't measured of it is told.
+    fn take_text_field(&mut self, text: &mut TableText, line: DataLine, at: usize, end: usize)
+        requires lies { LineLies (block_of text.old) line }
+        requires at { IsOnLine line at }
+        requires order { at ≤ end }
+        requires end { end ≤ line.to }
+        requires kind { field_kind (slice_range (block_of text.old) at end) ≡ OneText }
         requires fits { RowFits (block_of text.old) self.old }
         requires closed { self.old.open ≡ Nothing }
         requires column { length self.old.rows.row < length self.old.format.format.asked }

@@ -20,7 +20,7 @@ ghost use Rattle.tbl_kept.specs.TableText.{KeptText, block_of};
 ghost use Rattle.tbl_layout.specs.DataLines.{block_line_kind, line_kind};
 ghost use Rattle.tbl_layout.specs.declared.data_lines.BlockLineKind.TheVariants.{End, Request};
 ghost use Rattle.tbl_layout.specs.declared.data_lines.BlockLineKind.TheVariants.{Text};
-ghost use Rattle.tbl_layout.specs.declared.data_lines.LineKind.TheVariants.{Command, Formats};
+ghost use Rattle.tbl_layout.specs.declared.data_lines.LineKind.TheVariants.{Command, Formats, Rule};
 ghost use Rattle.tbl_data.specs.declared.data_line.DataLine.{DataLine};
 ghost use Rattle.tbl_layout.specs.KeptEntries.{content_of};
 
@@ -30,7 +30,7 @@ use crate::table_data::{OpenBlock, TableData};
 use tbl_format::notes::Cause;
 use tbl_kept::table_text::TableText;
 use tbl_layout::data::field_len;
-use tbl_layout::data_lines::{BlockLineKind, LineKind, block_line_kind, line_kind};
+use tbl_layout::data_lines::{BlockLineKind, LineKind, RuleSign, block_line_kind, line_kind};
 
 impl TableData {
     /// A whole line of the data is done, which lies there in the table's bytes; the last line of
@@ -124,7 +124,7 @@ impl TableData {
             result self.old self.new }
     {
         match line_kind(&text.block()[line.from..line.to]) {
-            LineKind::Rule => self.refuse(text, line, line.from),
+            LineKind::Rule(sign) => self.take_rule(sign),
             LineKind::Formats => self.begin_further(),
             LineKind::Command => self.take_command(line),
             LineKind::Row => self.take_fields(text, line, line.from, false),
@@ -141,6 +141,17 @@ impl TableData {
         self.format.begin_further();
         self.keys = self.format.earlier_rows();
         Phase::InFormat
+    }
+
+    /// A line is a rule over the whole table.
+    fn take_rule(&mut self, sign: RuleSign) -> Phase
+        requires { length self.old.rows.elements < self.old.rows.element_room }
+        ensures made { (k : KeptText) (line : DataLine) → DataFits (block_of k) self.old
+            → self.old.open ≡ Nothing
+            → Makes k line 0 (made_by (Rule sign) k line) result self.old self.new }
+    {
+        self.rows.keep_rule(sign);
+        Phase::InData
     }
 
     /// A line is a command.

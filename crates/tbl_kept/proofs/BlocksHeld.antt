@@ -8,20 +8,21 @@ use Rattle.tbl_format.specs.Format.{FormatRow}
 use Rattle.tbl_format.specs.RowsServed.{row_at}
 use Rattle.tbl_format.specs.declared.format.Asked.{Asked}
 use Rattle.tbl_format.specs.declared.format.Key.{Key}
-use Rattle.tbl_layout.specs.Columns.{alone, columns_from, entries_of, in_strip, left_of, measure_of, needing, needs_of, right_of, stands, text_stands}
+use Rattle.tbl_layout.specs.Columns.{alone, columns_from, entries_of, in_strip, left_of, measure_of, needing, needs_of, right_of, split_width, stands, text_stands}
 use Rattle.tbl_layout.specs.Entries.{Block, Text, field_at, is_number, key_at}
 use Rattle.tbl_layout.specs.KeptEntries.{IsKept, IsKeptBy, block_lines, content_by, content_of, kind_with, not_filled, stands_by, stands_of, text_entry}
 use Rattle.tbl_layout.specs.declared.columns.Column.{Column}
 use Rattle.tbl_layout.specs.declared.columns.Needs.{Needs}
 use Rattle.tbl_layout.specs.declared.columns.Stands.{Stands}
 use Rattle.tbl_layout.specs.declared.columns.Stands.TheVariants.{Nowhere}
+use Rattle.tbl_layout.specs.declared.data_lines.RuleSign.{RuleSign}
 use Rattle.tbl_layout.specs.declared.entry.BlockEntry.{BlockEntry}
 use Rattle.tbl_layout.specs.declared.entry.Entry.{Entry}
 use Rattle.tbl_layout.specs.declared.entry.EntryKind.{EntryKind}
-use Rattle.tbl_layout.specs.declared.entry.EntryKind.TheVariants.{Block as BlockKind, Split as SplitKind, Text as TextKind}
+use Rattle.tbl_layout.specs.declared.entry.EntryKind.TheVariants.{Block as BlockKind, Repeated as RepeatedKind, Ruled as RuledKind, Short as ShortKind, Split as SplitKind, Text as TextKind}
 use Rattle.tbl_text.specs.Measuring.{measured}
 use Rattle.tbl_text.specs.declared.measure.Split.{Split}
-use Rattle.tbl_kept.specs.Rows.{AreKept, Command, ElementKept, KeptElement, Row, columns_holding, elements_of, stands_at, stands_in}
+use Rattle.tbl_kept.specs.Rows.{AreKept, Command, ElementKept, KeptElement, Row, Rule, columns_holding, elements_of, stands_at, stands_in}
 use Rattle.tbl_kept.specs.RowsLaying.{all_held, block_stands, holding_blocks, with_measures}
 use Rattle.tbl_kept.proofs.ColumnsHeld.{needing-nowhere, needs-same}
 
@@ -36,13 +37,14 @@ both a b = record {
   strip = max a.strip b.strip;
   left = max a.left b.left;
   right = max a.right b.right;
+  split = max a.split b.split;
 }
 
 with_all-both : (n : Needs) (entries : List Stands) → with_all n entries ≡ both n (needs_of entries)
-with_all-both n [] = needs-same n (both n (needs_of [])) (omega arith) (omega arith) (omega arith) (omega arith)
+with_all-both n [] = needs-same n (both n (needs_of [])) (omega arith) (omega arith) (omega arith) (omega arith) (omega arith)
 with_all-both n (s ∷ entries) =
     with_all-both (needing n s) entries
-    ∙ needs-same (both (needing n s) (needs_of entries)) (both n (needs_of (s ∷ entries))) (omega arith) (omega arith) (omega arith) (omega arith)
+    ∙ needs-same (both (needing n s) (needs_of entries)) (both n (needs_of (s ∷ entries))) (omega arith) (omega arith) (omega arith) (omega arith) (omega arith)
 
 -- an entry that needs what two others do
 record Joins (a b both : Stands) : Type 0 where
@@ -50,12 +52,13 @@ record Joins (a b both : Stands) : Type 0 where
   strip : in_strip both ≡ max (in_strip a) (in_strip b)
   left : left_of both ≡ max (left_of a) (left_of b)
   right : right_of both ≡ max (right_of a) (right_of b)
+  split : split_width both ≡ max (split_width a) (split_width b)
 
 joins-first : (s : Stands) → Joins s Nowhere s
-joins-first s = record { alone = omega arith; strip = omega arith; left = omega arith; right = omega arith }
+joins-first s = record { alone = omega arith; strip = omega arith; left = omega arith; right = omega arith; split = omega arith }
 
 joins-second : (s : Stands) → Joins Nowhere s s
-joins-second s = record { alone = omega arith; strip = omega arith; left = omega arith; right = omega arith }
+joins-second s = record { alone = omega arith; strip = omega arith; left = omega arith; right = omega arith; split = omega arith }
 
 both-more : (a b s : Stands) (firsts bs ss : List Stands) → Joins a b s → both (needs_of firsts) (needs_of bs) ≡ needs_of ss
     → both (needs_of (a ∷ firsts)) (needs_of (b ∷ bs)) ≡ needs_of (s ∷ ss)
@@ -63,6 +66,7 @@ both-more a b s firsts bs ss joins rest =
     needs-same (both (needs_of (a ∷ firsts)) (needs_of (b ∷ bs))) (needs_of (s ∷ ss))
     (omega (arith, joins.alone, ap (λ (n : Needs). n.alone) rest)) (omega (arith, joins.strip, ap (λ (n : Needs). n.strip) rest))
     (omega (arith, joins.left, ap (λ (n : Needs). n.left) rest)) (omega (arith, joins.right, ap (λ (n : Needs). n.right) rest))
+    (omega (arith, joins.split, ap (λ (n : Needs). n.split) rest))
 
 -- a text stands as it measures
 empty-split : (number : Bool) → (measured number []).split ≡ None
@@ -107,6 +111,15 @@ field-joins (BlockKind b) bytes measure key e is kept =
     ap (λ (kind : EntryKind). stands_by key kind (e.from == e.to)) kept.is in
     let s = stands measure key (Block (block_lines bytes e.from e.to)) in
     subst (λ (first : Stands). Joins first s s) (sym none) (joins-second s)
+field-joins (RuledKind sign) bytes measure key e is kept =
+    let none : stands_of key e ≡ Nowhere = ap (λ (kind : EntryKind). stands_by key kind (e.from == e.to)) (sym is) in
+    subst (λ (first : Stands). Joins first Nowhere Nowhere) (sym none) (joins-first Nowhere)
+field-joins ShortKind bytes measure key e is kept =
+    let none : stands_of key e ≡ Nowhere = ap (λ (kind : EntryKind). stands_by key kind (e.from == e.to)) (sym is) in
+    subst (λ (first : Stands). Joins first Nowhere Nowhere) (sym none) (joins-first Nowhere)
+field-joins (RepeatedKind byte) bytes measure key e is kept =
+    let none : stands_of key e ≡ Nowhere = ap (λ (kind : EntryKind). stands_by key kind (e.from == e.to)) (sym is) in
+    subst (λ (first : Stands). Joins first Nowhere Nowhere) (sym none) (joins-first Nowhere)
 
 module _ (bytes : List ℕ) where
   -- how the block of a column stands
@@ -138,15 +151,17 @@ module _ (bytes : List ℕ) where
     blocks_in measure column [] = []
     blocks_in measure column (Row keys height entries ∷ elements) =
         block_at (row_at formats keys) measure column column entries ∷ blocks_in measure column elements
+    blocks_in measure column (Rule sign ∷ elements) = blocks_in measure column elements
     blocks_in measure column (Command from to ∷ elements) = blocks_in measure column elements
 
     needs-all : (columns measure column : ℕ) (elements : List KeptElement) → AllByRecursion (ElementKept bytes formats columns) elements
         → both (needs_of (stands_in formats column elements)) (needs_of (blocks_in measure column elements))
         ≡ needs_of (entries_of measure column (elements_of bytes formats elements))
-    needs-all columns measure column [] kept = needs-same _ _ (omega arith) (omega arith) (omega arith) (omega arith)
+    needs-all columns measure column [] kept = needs-same _ _ (omega arith) (omega arith) (omega arith) (omega arith) (omega arith)
     needs-all columns measure column (Row keys height entries ∷ elements) kept =
         both-more _ _ _ _ _ _ (joins-at (row_at formats keys) measure column 0 column entries (omega arith) kept.0.kept)
         (needs-all columns measure column elements kept.1)
+    needs-all columns measure column (Rule sign ∷ elements) kept = needs-all columns measure column elements kept.1
     needs-all columns measure column (Command from to ∷ elements) kept = needs-all columns measure column elements kept.1
 
     -- columns with all blocks, one by one
@@ -197,11 +212,19 @@ module _ (bytes : List ℕ) where
         ap (λ (cs : List Column). record c { needs = with_all c.needs (blocks_in c.measure column elements) } ∷ cs)
         (each_held-command from to elements (suc column) columns)
 
+    each_held-rule : (sign : RuleSign) (elements : List KeptElement) (column : ℕ) (columns : List Column)
+        → each_held elements column columns ≡ each_held (Rule sign ∷ elements) column columns
+    each_held-rule sign elements column [] = refl
+    each_held-rule sign elements column (c ∷ columns) =
+        ap (λ (cs : List Column). record c { needs = with_all c.needs (blocks_in c.measure column elements) } ∷ cs)
+        (each_held-rule sign elements (suc column) columns)
+
     all_held-each : (elements : List KeptElement) (columns : List Column) → all_held bytes formats elements columns ≡ each_held elements 0 columns
     all_held-each [] columns = each_held-none 0 columns
     all_held-each (Row keys height entries ∷ elements) columns =
         all_held-each elements (holding_blocks bytes (row_at formats keys) 0 entries columns)
         ∙ each_held-row keys height entries elements 0 entries columns refl
+    all_held-each (Rule sign ∷ elements) columns = all_held-each elements columns ∙ each_held-rule sign elements 0 columns
     all_held-each (Command from to ∷ elements) columns = all_held-each elements columns ∙ each_held-command from to elements 0 columns
 
     -- they need what the entries of all rows do

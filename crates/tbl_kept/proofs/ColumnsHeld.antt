@@ -5,21 +5,23 @@ use Rattle.std.proofs.lemmas.List.{drop-drop}
 use Rattle.std.proofs.Math.ListN.{get_or-append}
 use Rattle.tbl_format.specs.Format.{FormatRow}
 use Rattle.tbl_format.specs.RowsServed.{no_keys, row_at}
-use Rattle.tbl_layout.specs.Columns.{alone, greatest, in_strip, left_of, needing, needs_of, right_of}
+use Rattle.tbl_layout.specs.Columns.{alone, greatest, in_strip, left_of, needing, needs_of, right_of, split_width}
 use Rattle.tbl_layout.specs.declared.columns.Column.{Column}
 use Rattle.tbl_layout.specs.declared.columns.Needs.{Needs}
 use Rattle.tbl_layout.specs.declared.columns.Stands.{Stands}
 use Rattle.tbl_layout.specs.declared.columns.Stands.TheVariants.{Nowhere}
+use Rattle.tbl_layout.specs.declared.data_lines.RuleSign.{RuleSign}
 use Rattle.tbl_layout.specs.declared.entry.Entry.{Entry}
-use Rattle.tbl_kept.specs.Rows.{Command, ElementKept, KeptElement, Row, columns_holding, holding, no_column, stands_at, stands_in}
+use Rattle.tbl_kept.specs.Rows.{Command, ElementKept, KeptElement, Row, Rule, columns_holding, holding, no_column, stands_at, stands_in}
 
 -- needs that are the same, one by one
-pub needs-same : (a b : Needs) → a.alone ≡ b.alone → a.strip ≡ b.strip → a.left ≡ b.left → a.right ≡ b.right → a ≡ b
-needs-same a b alone strip left right =
+pub needs-same : (a b : Needs) → a.alone ≡ b.alone → a.strip ≡ b.strip → a.left ≡ b.left → a.right ≡ b.right → a.split ≡ b.split → a ≡ b
+needs-same a b alone strip left right split =
     ap (λ (n : ℕ). record a { alone = n }) alone
-    ∙ ap (λ (n : ℕ). record b { strip = n; left = a.left; right = a.right }) strip
-    ∙ ap (λ (n : ℕ). record b { left = n; right = a.right }) left
-    ∙ ap (λ (n : ℕ). record b { right = n }) right
+    ∙ ap (λ (n : ℕ). record b { strip = n; left = a.left; right = a.right; split = a.split }) strip
+    ∙ ap (λ (n : ℕ). record b { left = n; right = a.right; split = a.split }) left
+    ∙ ap (λ (n : ℕ). record b { right = n; split = a.split }) right
+    ∙ ap (λ (n : ℕ). record b { split = n }) split
 
 -- the greatest of numbers, and of one more behind them
 greatest-last : (f : Stands → ℕ) (entries : List Stands) (last : Stands) → greatest (map f (entries ++ last ∷ [])) ≡ max (greatest (map f entries)) (f last)
@@ -31,14 +33,15 @@ pub needs_of-last : (entries : List Stands) (last : Stands) → needs_of (entrie
 needs_of-last entries last =
     needs-same (needs_of (entries ++ last ∷ [])) (needing (needs_of entries) last)
     (greatest-last alone entries last) (greatest-last in_strip entries last) (greatest-last left_of entries last) (greatest-last right_of entries last)
+    (greatest-last split_width entries last)
 
 -- an entry that stands nowhere needs nothing
 pub needs_of-nowhere : (entries : List Stands) → needs_of (Nowhere ∷ entries) ≡ needs_of entries
 needs_of-nowhere entries =
-    needs-same (needs_of (Nowhere ∷ entries)) (needs_of entries) (omega arith) (omega arith) (omega arith) (omega arith)
+    needs-same (needs_of (Nowhere ∷ entries)) (needs_of entries) (omega arith) (omega arith) (omega arith) (omega arith) (omega arith)
 
 pub needing-nowhere : (n : Needs) → needing n Nowhere ≡ n
-needing-nowhere n = needs-same (needing n Nowhere) n (omega arith) (omega arith) (omega arith) (omega arith)
+needing-nowhere n = needs-same (needing n Nowhere) n (omega arith) (omega arith) (omega arith) (omega arith) (omega arith)
 
 -- how the field of a column stands
 pub stands_at-drop : (format : FormatRow) (at column : ℕ) (entries : List Entry)
@@ -62,6 +65,7 @@ module _ (formats : List FormatRow) where
   stands_in-row column [] keys height entries = refl
   stands_in-row column (Row other high row ∷ elements) keys height entries =
       ap (λ (rest : List Stands). stands_at (row_at formats other) column column row ∷ rest) (stands_in-row column elements keys height entries)
+  stands_in-row column (Rule sign ∷ elements) keys height entries = stands_in-row column elements keys height entries
   stands_in-row column (Command from to ∷ elements) keys height entries = stands_in-row column elements keys height entries
 
   module _ (elements : List KeptElement) (keys height : ℕ) (entries : List Entry) where
@@ -101,6 +105,7 @@ module _ (formats : List FormatRow) where
   stands_in-command column [] from to = refl
   stands_in-command column (Row keys height entries ∷ elements) from to =
       ap (λ (rest : List Stands). stands_at (row_at formats keys) column column entries ∷ rest) (stands_in-command column elements from to)
+  stands_in-command column (Rule sign ∷ elements) from to = stands_in-command column elements from to
   stands_in-command column (Command start end ∷ elements) from to = stands_in-command column elements from to
 
   pub columns_holding-command : (elements : List KeptElement) (from to column count : ℕ)
@@ -111,6 +116,24 @@ module _ (formats : List FormatRow) where
       (stands_in-command column elements from to)
       ∙ ap (λ (cs : List Column). record no_column { needs = needs_of (stands_in formats column elements) } ∷ cs)
       (columns_holding-command elements from to (suc column) count)
+
+  -- a rule stands in none either
+  stands_in-rule : (column : ℕ) (elements : List KeptElement) (sign : RuleSign)
+      → stands_in formats column (elements ++ Rule sign ∷ []) ≡ stands_in formats column elements
+  stands_in-rule column [] sign = refl
+  stands_in-rule column (Row keys height entries ∷ elements) sign =
+      ap (λ (rest : List Stands). stands_at (row_at formats keys) column column entries ∷ rest) (stands_in-rule column elements sign)
+  stands_in-rule column (Rule other ∷ elements) sign = stands_in-rule column elements sign
+  stands_in-rule column (Command from to ∷ elements) sign = stands_in-rule column elements sign
+
+  pub columns_holding-rule : (elements : List KeptElement) (sign : RuleSign) (column count : ℕ)
+      → columns_holding formats (elements ++ Rule sign ∷ []) column count ≡ columns_holding formats elements column count
+  columns_holding-rule elements sign column zero = refl
+  columns_holding-rule elements sign column (suc count) =
+      ap (λ (ss : List Stands). record no_column { needs = needs_of ss } ∷ columns_holding formats (elements ++ Rule sign ∷ []) (suc column) count)
+      (stands_in-rule column elements sign)
+      ∙ ap (λ (cs : List Column). record no_column { needs = needs_of (stands_in formats column elements) } ∷ cs)
+      (columns_holding-rule elements sign (suc column) count)
 
   -- further columns
   pub columns_holding-more : (elements : List KeptElement) (column count more all : ℕ) → all ≡ count + more
@@ -141,6 +164,7 @@ module _ (formats : List FormatRow) where
         (stands_at-behind (row_at formats keys) column column entries (omega (arith, behind, kept.0.short)))
         ∙ needs_of-nowhere (stands_in formats column elements)
         ∙ needs-behind column elements behind kept.1
+    needs-behind column (Rule sign ∷ elements) behind kept = needs-behind column elements behind kept.1
     needs-behind column (Command from to ∷ elements) behind kept = needs-behind column elements behind kept.1
 
     pub columns_holding-behind : (elements : List KeptElement) → AllByRecursion (ElementKept bytes formats columns) elements → (column more : ℕ)
@@ -161,6 +185,7 @@ module _ (bytes : List ℕ) (formats more : List FormatRow) (columns : ℕ) wher
   stands_in-formats column (Row keys height entries ∷ elements) kept =
       ap (λ (row : FormatRow). stands_at row column column entries ∷ stands_in (formats ++ more) column elements) (row_at-more keys kept.0.serves)
       ∙ ap (λ (rest : List Stands). stands_at (row_at formats keys) column column entries ∷ rest) (stands_in-formats column elements kept.1)
+  stands_in-formats column (Rule sign ∷ elements) kept = stands_in-formats column elements kept.1
   stands_in-formats column (Command from to ∷ elements) kept = stands_in-formats column elements kept.1
 
   pub columns_holding-formats : (elements : List KeptElement) → AllByRecursion (ElementKept bytes formats columns) elements → (column count : ℕ)

@@ -10,10 +10,10 @@ use Rattle.roff_source.specs.Bytes.{newline}
 use Rattle.tbl_format.specs.Format.{FormatRow}
 use Rattle.tbl_format.specs.declared.format.Key.{Key}
 use Rattle.tbl_layout.specs.Entries.{Block, Content, Text, is_number, key_at}
-use Rattle.tbl_layout.specs.KeptEntries.{IsKept, IsKeptBy, IsLaid, IsLaidBy, IsOpened, IsText, LiesAsBlock, block_filled, block_lines, content_by, content_of, not_filled, text_entry, with_end}
+use Rattle.tbl_layout.specs.KeptEntries.{IsKept, IsKeptBy, IsLaid, IsLaidBy, IsOpened, IsText, Lies, block_filled, block_lines, content_by, content_of, not_filled, text_entry, with_end}
 use Rattle.tbl_layout.specs.declared.entry.Entry.{Entry}
 use Rattle.tbl_layout.specs.declared.entry.EntryKind.{EntryKind}
-use Rattle.tbl_layout.specs.declared.entry.EntryKind.TheVariants.{Block as BlockKind, Split as SplitKind, Text as TextKind}
+use Rattle.tbl_layout.specs.declared.entry.EntryKind.TheVariants.{Block as BlockKind, Repeated as RepeatedKind, Ruled as RuledKind, Short as ShortKind, Split as SplitKind, Text as TextKind}
 use Rattle.tbl_text.specs.BlockWords.{lines_in}
 use Rattle.std.proofs.lemmas.Grind.{get_or_default_zero}
 use Rattle.tbl_format.proofs.Slices.{slice_range-more}
@@ -32,11 +32,17 @@ kept-within : (kind : EntryKind) (bytes : List ℕ) (key : Key) (e : Entry) → 
 kept-within (TextKind glyphs width) bytes key e kept = kept.within
 kept-within (SplitKind s) bytes key e kept = kept.within
 kept-within (BlockKind b) bytes key e kept = kept.lies.within
+kept-within (RuledKind sign) bytes key e kept = kept.within
+kept-within ShortKind bytes key e kept = kept.within
+kept-within (RepeatedKind byte) bytes key e kept = kept.within
 
 laid-within : (kind : EntryKind) (bytes : List ℕ) (measure : ℕ) (key : Key) (e : Entry) → IsLaidBy kind bytes measure key e → e.to ≤ length bytes
 laid-within (TextKind glyphs width) bytes measure key e laid = laid.within
 laid-within (SplitKind s) bytes measure key e laid = laid.within
 laid-within (BlockKind b) bytes measure key e laid = laid.lies.within
+laid-within (RuledKind sign) bytes measure key e laid = laid.within
+laid-within ShortKind bytes measure key e laid = laid.within
+laid-within (RepeatedKind byte) bytes measure key e laid = laid.within
 
 -- bytes behind those of the table change no field
 module _ (bytes more : List ℕ) where
@@ -54,6 +60,9 @@ module _ (bytes more : List ℕ) where
   content_by-more (TextKind glyphs width) from to within = ap Text (part-more from to within)
   content_by-more (SplitKind s) from to within = ap Text (part-more from to within)
   content_by-more (BlockKind b) from to within = ap Block (lines-more from to within)
+  content_by-more (RuledKind sign) from to within = refl
+  content_by-more ShortKind from to within = refl
+  content_by-more (RepeatedKind byte) from to within = refl
 
   text-more : (number : Bool) (e : Entry) → IsText bytes number e → IsText (bytes ++ more) number e
   text-more number e text = record {
@@ -62,13 +71,16 @@ module _ (bytes more : List ℕ) where
     is = text.is ∙ ap (λ (part : List ℕ). text_entry number e.from part) (sym (part-more e.from e.to text.within));
   }
 
-  lies-more : (e : Entry) → LiesAsBlock bytes e → LiesAsBlock (bytes ++ more) e
+  lies-more : (e : Entry) → Lies bytes e → Lies (bytes ++ more) e
   lies-more e lies = record { order = lies.order; within = more-within e.to lies.within }
 
   IsKeptBy-more : (kind : EntryKind) (key : Key) (e : Entry) → IsKeptBy kind bytes key e → IsKeptBy kind (bytes ++ more) key e
   IsKeptBy-more (TextKind glyphs width) key e kept = text-more (is_number key) e kept
   IsKeptBy-more (SplitKind s) key e kept = text-more (is_number key) e kept
   IsKeptBy-more (BlockKind b) key e kept = record { lies = lies-more e kept.lies; is = kept.is }
+  IsKeptBy-more (RuledKind sign) key e kept = lies-more e kept
+  IsKeptBy-more ShortKind key e kept = lies-more e kept
+  IsKeptBy-more (RepeatedKind byte) key e kept = lies-more e kept
 
   IsLaidBy-more : (kind : EntryKind) (measure : ℕ) (key : Key) (e : Entry) → IsLaidBy kind bytes measure key e
       → IsLaidBy kind (bytes ++ more) measure key e
@@ -78,6 +90,9 @@ module _ (bytes more : List ℕ) where
     lies = lies-more e laid.lies;
     is = laid.is ∙ ap (λ (lines : List (List ℕ)). BlockKind (block_filled measure lines)) (sym (lines-more e.from e.to laid.lies.within));
   }
+  IsLaidBy-more (RuledKind sign) measure key e laid = lies-more e laid
+  IsLaidBy-more ShortKind measure key e laid = lies-more e laid
+  IsLaidBy-more (RepeatedKind byte) measure key e laid = lies-more e laid
 
   pub IsKept-more : (key : Key) (e : Entry) → IsKept bytes key e → IsKept (bytes ++ more) key e
   IsKept-more key e kept = IsKeptBy-more e.kind key e kept
@@ -174,6 +189,9 @@ content-more : (kind : EntryKind) (bytes : List ℕ) (e : Entry) (to : ℕ) → 
 content-more (TextKind glyphs width) bytes e to is grows = absurd (cc)
 content-more (SplitKind s) bytes e to is grows = absurd (cc)
 content-more (BlockKind b) bytes e to is grows = ap Block (block_lines-more bytes e to grows)
+content-more (RuledKind sign) bytes e to is grows = absurd (cc)
+content-more ShortKind bytes e to is grows = absurd (cc)
+content-more (RepeatedKind byte) bytes e to is grows = absurd (cc)
 
 pub content_of-block_end : (bytes : List ℕ) (e : Entry) (to : ℕ) → BlockGrows bytes e to
     → content_of bytes (with_end to e) ≡ with_line (slice_range bytes (e.to + 1) to) (content_of bytes e)
@@ -183,6 +201,9 @@ opened : (kind : EntryKind) (bytes : List ℕ) (key : Key) (e : Entry) → kind 
 opened (TextKind glyphs width) bytes key e is kept = absurd (cc)
 opened (SplitKind s) bytes key e is kept = absurd (cc)
 opened (BlockKind b) bytes key e is kept = kept
+opened (RuledKind sign) bytes key e is kept = absurd (cc)
+opened ShortKind bytes key e is kept = absurd (cc)
+opened (RepeatedKind byte) bytes key e is kept = absurd (cc)
 
 pub IsKept-block_end : (bytes : List ℕ) (key : Key) (e : Entry) (to : ℕ) → BlockGrows bytes e to → IsKept bytes key (with_end to e)
 IsKept-block_end bytes key e to grows =
@@ -196,6 +217,9 @@ kept-opened (SplitKind s) bytes key e is kept = tt
 kept-opened (BlockKind b) bytes key e is kept =
     let same : BlockKind b ≡ BlockKind not_filled = is ∙ kept.is in
     cc
+kept-opened (RuledKind sign) bytes key e is kept = tt
+kept-opened ShortKind bytes key e is kept = tt
+kept-opened (RepeatedKind byte) bytes key e is kept = tt
 
 pub AreOpened-kept : (bytes : List ℕ) (format : FormatRow) (column : ℕ) (entries : List Entry) → AreKept bytes format column entries → AreOpened entries
 AreOpened-kept bytes format column [] kept = tt

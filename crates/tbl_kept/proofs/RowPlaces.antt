@@ -3,11 +3,12 @@ use Rattle.std.proofs.Common.{◌≡◌, ℕ, zero, suc, ◌+◌, ◌-◌, ◌<�
 use Rattle.std.specs.List.{slice_range}
 use Rattle.std.proofs.lemmas.List.{drop-drop, drop_at, length-take-le, take-take, take_at}
 use Rattle.tbl_layout.specs.declared.entry.Entry.{Entry}
+use Rattle.tbl_layout.specs.declared.data_lines.RuleSign.{RuleSign}
 use Rattle.tbl_text.proofs.BlockSlices.{length-slice_range}
-use Rattle.tbl_kept.specs.Rows.{Command, KeptElement, Row, entries_in}
+use Rattle.tbl_kept.specs.Rows.{Command, KeptElement, Row, Rule, entries_in}
 use Rattle.tbl_kept.specs.RowsInside.{LieBetween, kept_in}
 use Rattle.tbl_kept.specs.declared.rows.Element.{Element}
-use Rattle.tbl_kept.specs.declared.rows.Element.TheVariants.{Command as OneCommand, Row as OneRow}
+use Rattle.tbl_kept.specs.declared.rows.Element.TheVariants.{Command as OneCommand, Row as OneRow, Rule as OneRule}
 use Rattle.tbl_kept.specs.declared.rows.KeptRow.{KeptRow}
 use Rattle.tbl_kept.proofs.KeptFields.{slice_range-front}
 
@@ -15,19 +16,29 @@ use Rattle.tbl_kept.proofs.KeptFields.{slice_range-front}
 pub LieBetween-order : (from to : ℕ) (elements : List Element) → LieBetween from elements to → from ≤ to
 LieBetween-order from to [] lie = omega (arith, lie)
 LieBetween-order from to (OneRow row ∷ elements) lie = omega (arith, lie.0, lie.1, LieBetween-order row.to to elements lie.2)
+LieBetween-order from to (OneRule sign ∷ elements) lie = LieBetween-order from to elements lie
 LieBetween-order from to (OneCommand start end ∷ elements) lie = LieBetween-order from to elements lie
 
--- one row more, and one command
+-- one row more, one rule, and one command
 pub LieBetween-row : (from to : ℕ) (elements : List Element) (row : KeptRow) → row.from ≡ to → to ≤ row.to → LieBetween from elements to
     → LieBetween from (elements ++ OneRow row ∷ []) row.to
 LieBetween-row from to [] row is more lie = (lie ∙ sym is, omega (arith, lie, more), refl)
 LieBetween-row from to (OneRow first ∷ elements) row is more lie = (lie.0, lie.1, LieBetween-row first.to to elements row is more lie.2)
+LieBetween-row from to (OneRule sign ∷ elements) row is more lie = LieBetween-row from to elements row is more lie
 LieBetween-row from to (OneCommand start end ∷ elements) row is more lie = LieBetween-row from to elements row is more lie
+
+pub LieBetween-rule : (from to : ℕ) (sign : RuleSign) (elements : List Element) → LieBetween from elements to
+    → LieBetween from (elements ++ OneRule sign ∷ []) to
+LieBetween-rule from to sign [] lie = lie
+LieBetween-rule from to sign (OneRow first ∷ elements) lie = (lie.0, lie.1, LieBetween-rule first.to to sign elements lie.2)
+LieBetween-rule from to sign (OneRule other ∷ elements) lie = LieBetween-rule from to sign elements lie
+LieBetween-rule from to sign (OneCommand start end ∷ elements) lie = LieBetween-rule from to sign elements lie
 
 pub LieBetween-command : (from to start end : ℕ) (elements : List Element) → LieBetween from elements to
     → LieBetween from (elements ++ OneCommand start end ∷ []) to
 LieBetween-command from to start end [] lie = lie
 LieBetween-command from to start end (OneRow first ∷ elements) lie = (lie.0, lie.1, LieBetween-command first.to to start end elements lie.2)
+LieBetween-command from to start end (OneRule sign ∷ elements) lie = LieBetween-command from to start end elements lie
 LieBetween-command from to start end (OneCommand other last ∷ elements) lie = LieBetween-command from to start end elements lie
 
 module _ (fields : List Entry) where
@@ -38,6 +49,7 @@ module _ (fields : List Entry) where
   entries_in-between from to (OneRow row ∷ elements) within lie =
       let last = LieBetween-order row.to to elements lie.2 in
       omega (arith, lie.0, lie.1, last, within, entries_in-between row.to to elements within lie.2, length-slice_range fields row.from row.to (omega (arith, last, within)))
+  entries_in-between from to (OneRule sign ∷ elements) within lie = omega (arith, entries_in-between from to elements within lie)
   entries_in-between from to (OneCommand start end ∷ elements) within lie = omega (arith, entries_in-between from to elements within lie)
 
   module _ (others : List Entry) where
@@ -51,6 +63,8 @@ module _ (fields : List Entry) where
         sym (take-take row.to to fields last) ∙ ap (λ (es : List Entry). take row.to es) same ∙ take-take row.to to others last in
         ap (λ (es : List Entry). Row row.keys row.height es ∷ map (kept_in fields) elements) (slice_range-front fields others row.from row.to front)
         ∙ ap (λ (es : List KeptElement). Row row.keys row.height (slice_range others row.from row.to) ∷ es) (kept-front row.to to elements same lie.2)
+    kept-front from to (OneRule sign ∷ elements) same lie =
+        ap (λ (es : List KeptElement). Rule sign ∷ es) (kept-front from to elements same lie)
     kept-front from to (OneCommand start end ∷ elements) same lie =
         ap (λ (es : List KeptElement). Command start end ∷ es) (kept-front from to elements same lie)
 
@@ -70,6 +84,8 @@ module _ (fields : List Entry) where
         ap (λ (es : List Entry). Row row.keys row.height es ∷ map (kept_in fields) elements) part
         ∙ ap (λ (es : List KeptElement). Row row.keys row.height (slice_range others row.from row.to) ∷ es)
         (kept-behind row.to to elements (drop-further from row.to (omega (arith, lie.1)) same) lie.2)
+    kept-behind from to (OneRule sign ∷ elements) same lie =
+        ap (λ (es : List KeptElement). Rule sign ∷ es) (kept-behind from to elements same lie)
     kept-behind from to (OneCommand start end ∷ elements) same lie =
         ap (λ (es : List KeptElement). Command start end ∷ es) (kept-behind from to elements same lie)
 
@@ -86,10 +102,13 @@ LieBetween-at from to zero (OneRow first ∷ elements) row none more is lie =
     let same : first ≡ row = cc in
     subst (λ (r : KeptRow). RowBetween from to r) same
     (record { first = omega (arith, lie.0); order = omega (arith, lie.0, lie.1); last = LieBetween-order first.to to elements lie.2 })
+LieBetween-at from to zero (OneRule sign ∷ elements) row none more is lie = absurd cc
 LieBetween-at from to zero (OneCommand start end ∷ elements) row none more is lie = absurd cc
 LieBetween-at from to (suc at) (OneRow first ∷ elements) row none more is lie =
     let rest = LieBetween-at first.to to at elements row none (omega (arith, more)) is lie.2 in
     record { first = omega (arith, lie.1, rest.first); order = rest.order; last = rest.last }
+LieBetween-at from to (suc at) (OneRule sign ∷ elements) row none more is lie =
+    LieBetween-at from to at elements row none (omega (arith, more)) is lie
 LieBetween-at from to (suc at) (OneCommand start end ∷ elements) row none more is lie =
     LieBetween-at from to at elements row none (omega (arith, more)) is lie
 
@@ -106,9 +125,12 @@ module _ (row : KeptRow) (height : ℕ) where
   LieBetween-set from to zero (OneRow first ∷ elements) none more is lie =
       let same : first ≡ row = cc in
       subst (λ (r : KeptRow). LieBetween from (OneRow (record r { height = height }) ∷ elements) to) same lie
+  LieBetween-set from to zero (OneRule sign ∷ elements) none more is lie = absurd cc
   LieBetween-set from to zero (OneCommand start end ∷ elements) none more is lie = absurd cc
   LieBetween-set from to (suc at) (OneRow first ∷ elements) none more is lie =
       (lie.0, lie.1, LieBetween-set first.to to at elements none (omega (arith, more)) is lie.2)
+  LieBetween-set from to (suc at) (OneRule sign ∷ elements) none more is lie =
+      LieBetween-set from to at elements none (omega (arith, more)) is lie
   LieBetween-set from to (suc at) (OneCommand start end ∷ elements) none more is lie =
       LieBetween-set from to at elements none (omega (arith, more)) is lie
 
@@ -130,6 +152,7 @@ module _ (row : KeptRow) (height : ℕ) where
         let same : first ≡ row = cc in
         ap (λ (r : KeptRow). Row r.keys height (slice_range others r.from r.to) ∷ map (kept_in others) elements) (sym same)
         ∙ first-changed first to elements same lie.2
+    kept-set from to zero (OneRule sign ∷ elements) none more is lie = absurd cc
     kept-set from to zero (OneCommand start end ∷ elements) none more is lie = absurd cc
     kept-set from to (suc at) (OneRow first ∷ elements) none more is lie =
         let rest = LieBetween-at first.to to at elements row none (omega (arith, more)) is lie.2 in
@@ -141,6 +164,8 @@ module _ (row : KeptRow) (height : ℕ) where
         (slice_range-front others fields first.from first.to front)
         ∙ ap (λ (es : List KeptElement). Row first.keys first.height (slice_range fields first.from first.to) ∷ es)
         (kept-set first.to to at elements none (omega (arith, more)) is lie.2)
+    kept-set from to (suc at) (OneRule sign ∷ elements) none more is lie =
+        ap (λ (es : List KeptElement). Rule sign ∷ es) (kept-set from to at elements none (omega (arith, more)) is lie)
     kept-set from to (suc at) (OneCommand start end ∷ elements) none more is lie =
         ap (λ (es : List KeptElement). Command start end ∷ es) (kept-set from to at elements none (omega (arith, more)) is lie)
 

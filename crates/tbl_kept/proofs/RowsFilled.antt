@@ -13,8 +13,8 @@ use Rattle.tbl_layout.specs.KeptEntries.{IsKeptBy, IsLaid, IsLaidBy, content_by,
 use Rattle.tbl_layout.specs.declared.columns.Column.{Column}
 use Rattle.tbl_layout.specs.declared.entry.Entry.{Entry}
 use Rattle.tbl_layout.specs.declared.entry.EntryKind.{EntryKind}
-use Rattle.tbl_layout.specs.declared.entry.EntryKind.TheVariants.{Block as BlockKind, Split as SplitKind, Text as TextKind}
-use Rattle.tbl_kept.specs.Rows.{AreKept, AreLaid, Command, ElementKept, ElementLaid, KeptElement, Row, element_of, elements_of, height_of, measures}
+use Rattle.tbl_layout.specs.declared.entry.EntryKind.TheVariants.{Block as BlockKind, Repeated as RepeatedKind, Ruled as RuledKind, Short as ShortKind, Split as SplitKind, Text as TextKind}
+use Rattle.tbl_kept.specs.Rows.{AreKept, AreLaid, Command, ElementKept, ElementLaid, KeptElement, Row, Rule, element_of, elements_of, height_of, measures}
 use Rattle.tbl_kept.specs.RowsLaying.{FieldLies, FieldsLie, laid_by, laid_element, laid_entries, laid_entry, measures_of}
 use Rattle.tbl_kept.proofs.Stepping.{greatest-more}
 
@@ -24,12 +24,18 @@ laid-is : (kind : EntryKind) (bytes : List ℕ) (measure : ℕ) (key : Key) (e :
 laid-is (TextKind glyphs width) bytes measure key e is kept = subst (λ (k : EntryKind). IsLaidBy k bytes measure key e) is kept
 laid-is (SplitKind s) bytes measure key e is kept = subst (λ (k : EntryKind). IsLaidBy k bytes measure key e) is kept
 laid-is (BlockKind b) bytes measure key e is kept = record { lies = record { order = kept.lies.order; within = kept.lies.within }; is = refl }
+laid-is (RuledKind sign) bytes measure key e is kept = subst (λ (k : EntryKind). IsLaidBy k bytes measure key e) is kept
+laid-is ShortKind bytes measure key e is kept = subst (λ (k : EntryKind). IsLaidBy k bytes measure key e) is kept
+laid-is (RepeatedKind byte) bytes measure key e is kept = subst (λ (k : EntryKind). IsLaidBy k bytes measure key e) is kept
 
 laid-content : (kind : EntryKind) (bytes : List ℕ) (measure : ℕ) (e : Entry) → kind ≡ e.kind
     → content_of bytes (laid_by kind bytes measure e) ≡ content_by kind bytes e.from e.to
 laid-content (TextKind glyphs width) bytes measure e is = ap (λ (k : EntryKind). content_by k bytes e.from e.to) (sym is)
 laid-content (SplitKind s) bytes measure e is = ap (λ (k : EntryKind). content_by k bytes e.from e.to) (sym is)
 laid-content (BlockKind b) bytes measure e is = refl
+laid-content (RuledKind sign) bytes measure e is = ap (λ (k : EntryKind). content_by k bytes e.from e.to) (sym is)
+laid-content ShortKind bytes measure e is = ap (λ (k : EntryKind). content_by k bytes e.from e.to) (sym is)
+laid-content (RepeatedKind byte) bytes measure e is = ap (λ (k : EntryKind). content_by k bytes e.from e.to) (sym is)
 
 contents-laid : (bytes measures : List ℕ) (entries : List Entry) → map (content_of bytes) (laid_entries bytes measures entries) ≡ map (content_of bytes) entries
 contents-laid bytes [] entries = refl
@@ -86,6 +92,7 @@ module _ (bytes : List ℕ) (columns : List Column) where
           },
           all-laid elements kept.1,
         )
+    all-laid (Rule sign ∷ elements) kept = (tt, all-laid elements kept.1)
     all-laid (Command from to ∷ elements) kept = (record { order = kept.0.order; within = kept.0.within }, all-laid elements kept.1)
 
     -- and have the same texts and blocks
@@ -96,6 +103,8 @@ module _ (bytes : List ℕ) (columns : List Column) where
         ap (λ (fields : List Content). OneRow (row_at formats keys) fields ∷ elements_of bytes formats (map (laid_element bytes measures) elements))
         (contents-laid bytes measures entries)
         ∙ ap (λ (es : List Element). OneRow (row_at formats keys) (map (content_of bytes) entries) ∷ es) (elements_of-laid measures elements)
+    elements_of-laid measures (Rule sign ∷ elements) =
+        ap (λ (es : List Element). element_of bytes formats (Rule sign) ∷ es) (elements_of-laid measures elements)
     elements_of-laid measures (Command from to ∷ elements) =
         ap (λ (es : List Element). element_of bytes formats (Command from to) ∷ es) (elements_of-laid measures elements)
 
@@ -120,6 +129,8 @@ module _ (bytes : List ℕ) (columns : List Column) where
       },
       RowsLaid-measures others same elements laid.1,
     )
+    RowsLaid-measures others same (Rule sign ∷ elements) laid =
+        (tt, RowsLaid-measures others same elements laid.1)
     RowsLaid-measures others same (Command from to ∷ elements) laid =
         (record { order = laid.0.order; within = laid.0.within }, RowsLaid-measures others same elements laid.1)
 
@@ -161,6 +172,9 @@ field-lies : (kind : EntryKind) (bytes : List ℕ) (key : Key) (e : Entry) → I
 field-lies (TextKind glyphs width) bytes key e kept = record { order = kept.order; within = kept.within }
 field-lies (SplitKind s) bytes key e kept = record { order = kept.order; within = kept.within }
 field-lies (BlockKind b) bytes key e kept = record { order = kept.lies.order; within = kept.lies.within }
+field-lies (RuledKind sign) bytes key e kept = record { order = kept.order; within = kept.within }
+field-lies ShortKind bytes key e kept = record { order = kept.order; within = kept.within }
+field-lies (RepeatedKind byte) bytes key e kept = record { order = kept.order; within = kept.within }
 
 pub fields-lie : (bytes : List ℕ) (format : FormatRow) (column : ℕ) (entries : List Entry) → AreKept bytes format column entries → FieldsLie bytes entries
 fields-lie bytes format column [] kept = tt

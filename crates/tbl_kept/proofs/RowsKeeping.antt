@@ -5,14 +5,15 @@ use Rattle.std.proofs.lemmas.List.{length-replicate, map-append}
 use Rattle.tbl_format.specs.Format.{FormatRow}
 use Rattle.tbl_format.specs.RowsServed.{row_at}
 use Rattle.tbl_layout.specs.Columns.{needs_of}
-use Rattle.tbl_layout.specs.Entries.{Command as OneCommand, Content, Element, Row as OneRow, key_at}
+use Rattle.tbl_layout.specs.Entries.{Command as OneCommand, Content, Element, Row as OneRow, Rule as OneRule, key_at}
 use Rattle.tbl_layout.specs.KeptEntries.{IsKept, content_of, with_end}
 use Rattle.tbl_layout.specs.declared.columns.Column.{Column}
+use Rattle.tbl_layout.specs.declared.data_lines.RuleSign.{RuleSign}
 use Rattle.tbl_layout.specs.declared.entry.Entry.{Entry}
 use Rattle.tbl_layout.proofs.Elements.{each-append}
-use Rattle.tbl_kept.specs.Rows.{AreKept, AreLaid, Command, ElementKept, ElementLaid, KeptElement, KeptRows, Row, RowBegunKept, RowsKept, RowsLaid, columns_holding, element_of, elements_of, holding, last_changed, measures, no_column, no_rows, with_block_end, with_columns, with_command, with_entry, with_row}
+use Rattle.tbl_kept.specs.Rows.{AreKept, AreLaid, Command, ElementKept, ElementLaid, KeptElement, KeptRows, Row, RowBegunKept, RowsKept, RowsLaid, Rule, columns_holding, element_of, elements_of, holding, last_changed, measures, no_column, no_rows, with_block_end, with_columns, with_command, with_entry, with_row, with_rule}
 use Rattle.tbl_kept.specs.RowsGrowing.{BlockGrows, with_line}
-use Rattle.tbl_kept.proofs.ColumnsHeld.{columns_holding-behind, columns_holding-command, columns_holding-formats, columns_holding-more, holding-row, length-columns_holding, row_at-more}
+use Rattle.tbl_kept.proofs.ColumnsHeld.{columns_holding-behind, columns_holding-command, columns_holding-formats, columns_holding-more, columns_holding-rule, holding-row, length-columns_holding, row_at-more}
 use Rattle.tbl_kept.proofs.KeptFields.{AreKept-front, AreKept-last, AreKept-more, IsKept-block_end, IsLaid-more, content_of-block_end, content_of-laid-more, contents-more, last_changed-last, more-within, part-more}
 
 -- what holds of each element, by what it says
@@ -40,12 +41,14 @@ module _ (bytes more : List ℕ) (formats : List FormatRow) where
     kept = AreKept-more bytes more (row_at formats keys) 0 entries kept.kept;
     low = kept.low;
   }
+  element-kept-more columns (Rule sign) kept = tt
   element-kept-more columns (Command from to) kept = record { order = kept.order; within = more-within bytes more to kept.within }
 
   element_of-more : (columns : ℕ) (e : KeptElement) → ElementKept bytes formats columns e
       → element_of (bytes ++ more) formats e ≡ element_of bytes formats e
   element_of-more columns (Row keys height entries) kept =
       ap (λ (fields : List Content). OneRow (row_at formats keys) fields) (contents-more bytes more (row_at formats keys) 0 entries kept.kept)
+  element_of-more columns (Rule sign) kept = refl
   element_of-more columns (Command from to) kept = ap OneCommand (part-more bytes more from to kept.within)
 
   pub RowsKept-more : (k : KeptRows) → RowsKept bytes formats k → RowsKept (bytes ++ more) formats k
@@ -90,12 +93,14 @@ module _ (bytes more : List ℕ) (formats : List FormatRow) where
     laid = fields-laid-more columns (row_at formats keys) 0 entries laid.laid;
     high = laid.high;
   }
+  element-laid-more columns (Rule sign) laid = tt
   element-laid-more columns (Command from to) laid = record { order = laid.order; within = more-within bytes more to laid.within }
 
   element_of-laid-more : (columns : List Column) (e : KeptElement) → ElementLaid bytes formats columns e
       → element_of (bytes ++ more) formats e ≡ element_of bytes formats e
   element_of-laid-more columns (Row keys height entries) laid =
       ap (λ (fields : List Content). OneRow (row_at formats keys) fields) (contents-laid-more columns (row_at formats keys) 0 entries laid.laid)
+  element_of-laid-more columns (Rule sign) laid = refl
   element_of-laid-more columns (Command from to) laid = ap OneCommand (part-more bytes more from to laid.within)
 
   pub RowsLaid-more : (k : KeptRows) → RowsLaid bytes formats k → RowsLaid (bytes ++ more) formats k
@@ -117,12 +122,14 @@ module _ (bytes : List ℕ) (formats more : List FormatRow) where
     kept = subst (λ (row : FormatRow). AreKept bytes row 0 entries) (sym (row_at-more bytes formats more columns keys kept.serves)) kept.kept;
     low = kept.low;
   }
+  element-kept-formats columns (Rule sign) kept = tt
   element-kept-formats columns (Command from to) kept = record { order = kept.order; within = kept.within }
 
   element_of-formats : (columns : ℕ) (e : KeptElement) → ElementKept bytes formats columns e
       → element_of bytes (formats ++ more) e ≡ element_of bytes formats e
   element_of-formats columns (Row keys height entries) kept =
       ap (λ (row : FormatRow). OneRow row (map (content_of bytes) entries)) (row_at-more bytes formats more columns keys kept.serves)
+  element_of-formats columns (Rule sign) kept = refl
   element_of-formats columns (Command from to) kept = refl
 
   pub RowsKept-formats : (k : KeptRows) → RowsKept bytes formats k → RowsKept bytes (formats ++ more) k
@@ -244,6 +251,20 @@ module _ (bytes : List ℕ) (formats : List FormatRow) (k : KeptRows) where
       ≡ elements_of bytes formats k.elements ++ OneCommand (slice_range bytes from to) ∷ []
   elements_of-command from to = map-append (element_of bytes formats) k.elements (Command from to ∷ [])
 
+  -- a rule
+  pub RowsKept-rule : (sign : RuleSign) → RowsKept bytes formats k → RowsKept bytes formats (with_rule sign k)
+  RowsKept-rule sign kept = record {
+    elements = each-append (ElementKept bytes formats (length k.columns)) k.elements (Rule sign ∷ []) kept.elements (tt, tt);
+    columns = kept.columns ∙ sym (columns_holding-rule formats k.elements sign 0 (length k.columns));
+  }
+
+  pub RowBegunKept-rule : (keys : ℕ) (sign : RuleSign) → RowBegunKept bytes formats keys k → RowBegunKept bytes formats keys (with_rule sign k)
+  RowBegunKept-rule keys sign begun = record { all = RowsKept-rule sign begun.all; row = begun.row; short = begun.short }
+
+  pub elements_of-rule : (sign : RuleSign)
+      → elements_of bytes formats (with_rule sign k).elements ≡ elements_of bytes formats k.elements ++ OneRule sign ∷ []
+  elements_of-rule sign = map-append (element_of bytes formats) k.elements (Rule sign ∷ [])
+
   -- more columns
   length-columns : (count : ℕ) → length (with_columns count k).columns ≡ length k.columns + (count - length k.columns)
   length-columns count = omega (arith, length-append k.columns (replicate (count - length k.columns) no_column), length-replicate (count - length k.columns) no_column)
@@ -251,6 +272,7 @@ module _ (bytes : List ℕ) (formats : List FormatRow) (k : KeptRows) where
   element-wider : (few many : ℕ) → few ≤ many → (e : KeptElement) → ElementKept bytes formats few e → ElementKept bytes formats many e
   element-wider few many less (Row keys height entries) kept =
       record { serves = kept.serves; short = omega (arith, kept.short, less); kept = kept.kept; low = kept.low }
+  element-wider few many less (Rule sign) kept = tt
   element-wider few many less (Command from to) kept = record { order = kept.order; within = kept.within }
 
   pub RowsKept-columns : (count : ℕ) → RowsKept bytes formats k → RowsKept bytes formats (with_columns count k)

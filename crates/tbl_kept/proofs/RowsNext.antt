@@ -11,7 +11,7 @@ use Rattle.tbl_layout.specs.declared.columns.Column.{Column}
 use Rattle.tbl_layout.specs.declared.columns.Needs.{Needs}
 use Rattle.tbl_layout.specs.declared.entry.Entry.{Entry}
 use Rattle.tbl_layout.specs.declared.entry.EntryKind.TheVariants.{Text as TextKind}
-use Rattle.tbl_kept.specs.Rows.{Command, KeptElement, Row, holding}
+use Rattle.tbl_kept.specs.Rows.{Command, KeptElement, Row, Rule, holding}
 use Rattle.tbl_kept.specs.RowsLaying.{blocks_held, holding_block, holding_blocks, laid_entries, laid_entry, measures_of, with_measures}
 use Rattle.tbl_kept.proofs.Stepping.{next-along}
 
@@ -67,6 +67,7 @@ measures-held bytes format column (e ∷ entries) (c ∷ columns) = ap (λ (ms :
 pub measures-blocks_held : (bytes : List ℕ) (formats : List FormatRow) (e : KeptElement) (columns : List Column)
     → measures_of (blocks_held bytes formats e columns) ≡ measures_of columns
 measures-blocks_held bytes formats (Row keys height entries) columns = measures-held bytes (row_at formats keys) 0 entries columns
+measures-blocks_held bytes formats (Rule sign) columns = refl
 measures-blocks_held bytes formats (Command from to) columns = refl
 
 -- a field is laid out in its measure

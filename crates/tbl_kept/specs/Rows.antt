@@ -1,21 +1,24 @@
--- The rows and commands of a table, as they are kept: their texts lie in the table's bytes (Lesk, "Tbl": Data).
+-- The rows, rules and commands of a table, as they are kept: their texts lie in the table's bytes (Lesk, "Tbl": Data).
 use Rattle.std.specs.Prelude.{◌≡◌, ℕ, zero, suc, ◌+◌, ◌-◌, ◌≤◌, ◌<◌, max, List, [], ◌∷◌, ◌++◌, length, map, replicate, get_or}
 use Rattle.std.specs.List.{slice_range, AllByRecursion}
 use Rattle.tbl_format.specs.Format.{FormatRow}
 use Rattle.tbl_format.specs.RowsServed.{row_at}
 use Rattle.tbl_layout.specs.Columns.{greatest, needing, needs_of}
-use Rattle.tbl_layout.specs.Entries.{Command as OneCommand, Element, Row as OneRow, key_at}
+use Rattle.tbl_layout.specs.Entries.{Command as OneCommand, Element, Row as OneRow, Rule as OneRule, key_at}
 use Rattle.tbl_layout.specs.KeptEntries.{IsKept, IsLaid, content_of, lines_by, stands_of, with_end}
 use Rattle.tbl_kept.specs.declared.rows.Lent.{Lent}
-use Rattle.tbl_kept.specs.declared.rows.Lent.TheVariants.{Command as LentCommand, Row as LentRow}
+use Rattle.tbl_kept.specs.declared.rows.Lent.TheVariants.{Command as LentCommand, Row as LentRow, Rule as LentRule}
 use Rattle.tbl_layout.specs.declared.columns.Column.{Column}
 use Rattle.tbl_layout.specs.declared.columns.Stands.{Stands}
 use Rattle.tbl_layout.specs.declared.columns.Stands.TheVariants.{Nowhere}
+use Rattle.tbl_layout.specs.declared.data_lines.RuleSign.{RuleSign}
 use Rattle.tbl_layout.specs.declared.entry.Entry.{Entry}
 
--- a row by the place of the row of the formats that serves it, its lines, and its fields; or a command by where it lies
+-- a row by the place of the row of the formats that serves it, its lines, and its fields; a rule over the whole table; or a command
+-- by where it lies
 pub data KeptElement : Type 0 where
   Row : (keys height : ℕ) (entries : List Entry) → KeptElement
+  Rule : (sign : RuleSign) → KeptElement
   Command : (from to : ℕ) → KeptElement
 
 -- the rows and commands, the fields of the row that is begun, the columns, and how many fields, elements and columns there is
@@ -39,6 +42,7 @@ cleared k = no_rows k.entry_room k.element_room k.column_room
 -- how many fields they have, with those of the row that is begun
 abbrev pub len_of : KeptElement → ℕ
 len_of (Row keys height entries) = length entries
+len_of (Rule sign) = 0
 len_of (Command from to) = 0
 
 abbrev pub entries_in : List KeptElement → ℕ
@@ -85,6 +89,10 @@ with_row keys format k = record k {
   columns = holding format 0 k.row k.columns;
 }
 
+-- a rule
+abbrev pub with_rule : RuleSign → KeptRows → KeptRows
+with_rule sign k = record k { elements = k.elements ++ Rule sign ∷ [] }
+
 -- a command that lies there
 abbrev pub with_command : ℕ → ℕ → KeptRows → KeptRows
 with_command from to k = record k { elements = k.elements ++ Command from to ∷ [] }
@@ -92,11 +100,13 @@ with_command from to k = record k { elements = k.elements ++ Command from to ∷
 -- what is lent
 abbrev pub lent : Lent → KeptElement
 lent (LentRow keys height entries) = Row keys height entries.now
+lent (LentRule sign) = Rule sign
 lent (LentCommand from to) = Command from to
 
 -- what stands in the table, by its bytes and the rows of all formats
 abbrev pub element_of : List ℕ → List FormatRow → KeptElement → Element
 element_of bytes formats (Row keys height entries) = OneRow (row_at formats keys) (map (content_of bytes) entries)
+element_of bytes formats (Rule sign) = OneRule sign
 element_of bytes formats (Command from to) = OneCommand (slice_range bytes from to)
 
 abbrev pub elements_of : List ℕ → List FormatRow → List KeptElement → List Element
@@ -120,6 +130,7 @@ pub record CommandLies (bytes : List ℕ) (from to : ℕ) : Type 0 where
 
 abbrev pub ElementKept : List ℕ → List FormatRow → ℕ → KeptElement → Type 0
 ElementKept bytes formats columns (Row keys height entries) = RowKept bytes formats columns keys height entries
+ElementKept bytes formats columns (Rule sign) = Unit {0}
 ElementKept bytes formats columns (Command from to) = CommandLies bytes from to
 
 -- how the fields of a column stand in it
@@ -132,6 +143,7 @@ abbrev pub stands_in : List FormatRow → ℕ → List KeptElement → List Stan
 stands_in formats column [] = []
 stands_in formats column (Row keys height entries ∷ elements) =
     stands_at (row_at formats keys) column column entries ∷ stands_in formats column elements
+stands_in formats column (Rule sign ∷ elements) = stands_in formats column elements
 stands_in formats column (Command from to ∷ elements) = stands_in formats column elements
 
 -- columns from one on hold what these rows need, before they are laid out
@@ -174,6 +186,7 @@ pub record RowLaid (bytes : List ℕ) (formats : List FormatRow) (columns : List
 
 abbrev pub ElementLaid : List ℕ → List FormatRow → List Column → KeptElement → Type 0
 ElementLaid bytes formats columns (Row keys height entries) = RowLaid bytes formats columns keys height entries
+ElementLaid bytes formats columns (Rule sign) = Unit {0}
 ElementLaid bytes formats columns (Command from to) = CommandLies bytes from to
 
 -- all rows are laid out in the columns

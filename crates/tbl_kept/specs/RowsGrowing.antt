@@ -2,7 +2,7 @@
 use Rattle.std.specs.Prelude.{◌≡◌, ℕ, ◌+◌, ◌<◌, ◌≤◌, false, List, [], ◌∷◌, ◌++◌, get_or, length, All, ◌==◌}
 use Rattle.std.specs.List.{slice_range}
 use Rattle.roff_source.specs.Bytes.{newline}
-use Rattle.tbl_layout.specs.Entries.{Block, Content, Text}
+use Rattle.tbl_layout.specs.Entries.{Block, Content}
 use Rattle.tbl_layout.specs.KeptEntries.{not_filled}
 use Rattle.tbl_layout.specs.declared.entry.Entry.{Entry}
 use Rattle.tbl_layout.specs.declared.entry.EntryKind.TheVariants.{Block as BlockKind}
@@ -18,5 +18,5 @@ pub record BlockGrows (bytes : List ℕ) (e : Entry) (to : ℕ) : Type 0 where
 
 -- a block with a line more
 abbrev pub with_line : List ℕ → Content → Content
-with_line line (Text bytes) = Text bytes
 with_line line (Block lines) = Block (lines ++ line ∷ [])
+with_line line content = content

@@ -1,15 +1,16 @@
 -- How the rows of a table lie in lists.
 use Rattle.std.specs.Prelude.{◌≡◌, ℕ, ◌≤◌, List, [], ◌∷◌, drop, length, map, vec_capacity}
 use Rattle.std.specs.List.{slice_range}
-use Rattle.tbl_kept.specs.Rows.{Command, KeptElement, KeptRows, Row}
+use Rattle.tbl_kept.specs.Rows.{Command, KeptElement, KeptRows, Row, Rule}
 use Rattle.tbl_kept.specs.declared.rows.Element.{Element}
-use Rattle.tbl_kept.specs.declared.rows.Element.TheVariants.{Command as OneCommand, Row as OneRow}
+use Rattle.tbl_kept.specs.declared.rows.Element.TheVariants.{Command as OneCommand, Row as OneRow, Rule as OneRule}
 use Rattle.tbl_kept.specs.declared.rows.TableRows.TheInside.{Inside}
 use Rattle.tbl_layout.specs.declared.entry.Entry.{Entry}
 
 -- what an element is whose fields lie among these
 abbrev pub kept_in : List Entry → Element → KeptElement
 kept_in entries (OneRow row) = Row row.keys row.height (slice_range entries row.from row.to)
+kept_in entries (OneRule sign) = Rule sign
 kept_in entries (OneCommand from to) = Command from to
 
 abbrev pub kept_by : Inside → KeptRows
@@ -26,6 +27,7 @@ kept_by a = record {
 abbrev pub LieBetween : ℕ → List Element → ℕ → Type 0
 LieBetween from [] to = from ≡ to
 LieBetween from (OneRow row ∷ elements) to = (from ≡ row.from) × (from ≤ row.to) × LieBetween row.to elements to
+LieBetween from (OneRule sign ∷ elements) to = LieBetween from elements to
 LieBetween from (OneCommand start end ∷ elements) to = LieBetween from elements to
 
 -- the room is reserved, and the rows lie in front of the one that is begun

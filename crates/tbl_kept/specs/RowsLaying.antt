@@ -14,13 +14,14 @@ use Rattle.tbl_layout.specs.declared.columns.Stands.TheVariants.{Nowhere}
 use Rattle.tbl_layout.specs.declared.entry.Entry.{Entry}
 use Rattle.tbl_layout.specs.declared.entry.EntryKind.{EntryKind}
 use Rattle.tbl_layout.specs.declared.entry.EntryKind.TheVariants.{Block as BlockKind, Split as SplitKind, Text as TextKind}
-use Rattle.tbl_kept.specs.Rows.{Command, KeptElement, KeptRows, Row, height_of, measures}
+use Rattle.tbl_kept.specs.Rows.{Command, KeptElement, KeptRows, Row, Rule, height_of, measures}
 
 -- a field, if it is a block filled in a measure
 abbrev pub laid_by : EntryKind → List ℕ → ℕ → Entry → Entry
 laid_by (TextKind glyphs width) bytes measure e = e
 laid_by (SplitKind s) bytes measure e = e
 laid_by (BlockKind b) bytes measure e = record e { kind = BlockKind (block_filled measure (block_lines bytes e.from e.to)) }
+laid_by kind bytes measure e = e
 
 abbrev pub laid_entry : List ℕ → ℕ → Entry → Entry
 laid_entry bytes measure e = laid_by e.kind bytes measure e
@@ -34,6 +35,7 @@ laid_entries bytes (measure ∷ measures) (e ∷ entries) = laid_entry bytes mea
 abbrev pub laid_element : List ℕ → List ℕ → KeptElement → KeptElement
 laid_element bytes measures (Row keys height entries) =
     Row keys (height_of (laid_entries bytes measures entries)) (laid_entries bytes measures entries)
+laid_element bytes measures (Rule sign) = Rule sign
 laid_element bytes measures (Command from to) = Command from to
 
 -- how a field stands in its column once it is filled: a text stands in it already
@@ -41,6 +43,7 @@ abbrev pub block_stands : EntryKind → List ℕ → ℕ → Key → Entry → S
 block_stands (TextKind glyphs width) bytes measure key e = Nowhere
 block_stands (SplitKind s) bytes measure key e = Nowhere
 block_stands (BlockKind b) bytes measure key e = stands measure key (Block (block_lines bytes e.from e.to))
+block_stands kind bytes measure key e = Nowhere
 
 -- a column that holds a block too, and columns that hold those of a row from one column on, and of an element
 abbrev pub holding_block : List ℕ → Key → Entry → Column → Column
@@ -54,6 +57,7 @@ holding_blocks bytes format column (e ∷ entries) (c ∷ columns) =
 
 abbrev pub blocks_held : List ℕ → List FormatRow → KeptElement → List Column → List Column
 blocks_held bytes formats (Row keys height entries) columns = holding_blocks bytes (row_at formats keys) 0 entries columns
+blocks_held bytes formats (Rule sign) columns = columns
 blocks_held bytes formats (Command from to) columns = columns
 
 -- and of all of them
@@ -105,6 +109,7 @@ abbrev pub IsOpenedKind : EntryKind → Type 0
 IsOpenedKind (TextKind glyphs width) = Unit {0}
 IsOpenedKind (SplitKind s) = Unit {0}
 IsOpenedKind (BlockKind b) = b ≡ not_filled
+IsOpenedKind kind = Unit {0}
 
 abbrev pub AreOpened : List Entry → Type 0
 AreOpened entries = AllByRecursion (λ (e : Entry). IsOpenedKind e.kind) entries

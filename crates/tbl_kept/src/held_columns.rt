@@ -155,6 +155,9 @@ fn needs_with(needs: Needs, key: Key, entry: Entry) -> Needs
         }
         EntryKind::Split(_) => needs.with(entry.stands(key)),
         EntryKind::Block(_) => needs,
+        EntryKind::Ruled(_) => needs,
+        EntryKind::Short => needs,
+        EntryKind::Repeated(_) => needs,
     }
 }
 

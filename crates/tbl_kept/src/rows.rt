@@ -1,4 +1,4 @@
-//! The rows and commands of a table, as they are kept (Lesk, "Tbl": Data).
+//! The rows, rules and commands of a table, as they are kept (Lesk, "Tbl": Data).
 
 ghost use Rattle.std.specs.Prelude.{◌≡◌, ℕ, suc, ◌+◌, ◌<◌, ◌≤◌, ◌^◌, List, [], ◌∷◌, length, drop};
 ghost use Rattle.std.specs.Prelude.{IfOk};
@@ -19,6 +19,7 @@ use std::marker::Model;
 use tbl_format::format::{Asked, FormatKey};
 use tbl_format::format_rows::FormatRows;
 use tbl_layout::columns::{Column, set_starts, set_widths};
+use tbl_layout::data_lines::RuleSign;
 use tbl_layout::entry::Entry;
 
 /// What stands in a table.
@@ -26,6 +27,8 @@ use tbl_layout::entry::Entry;
 pub enum Element {
     /// A row.
     Row(KeptRow),
+    /// A rule over the whole table.
+    Rule(RuleSign),
     /// A command, by where it lies in the table's bytes.
     Command(u32, u32),
 }
@@ -43,7 +46,7 @@ pub struct KeptRow {
     to: u32,
 }
 
-/// The rows and commands of a table: their texts are parts of its bytes. All memory is reserved as
+/// The rows, rules and commands of a table: their texts are parts of its bytes. All memory is reserved as
 /// it is made.
 #[derive(Drop)]
 pub struct TableRows {
@@ -57,12 +60,14 @@ pub struct TableRows {
     column_room: usize,
 }
 
-/// A row or a command, lent. Places are places in the table's bytes.
+/// A row, a rule or a command, lent. Places are places in the table's bytes.
 #[derive(Clone, Copy)]
 pub enum Lent<'a> {
     /// A row: the row of the formats that serves it, among all, how many lines it has, and its
     /// fields.
     Row(usize, u32, &'a [Entry]),
+    /// A rule over the whole table.
+    Rule(RuleSign),
     /// A command, by where it lies.
     Command(usize, usize),
 }
@@ -82,7 +87,7 @@ impl Model for TableRows {
 impl TableRows {
     ghost use Rattle.tbl_kept.specs.Rows.{cleared, elements_of, entries_of, no_rows};
     ghost use Rattle.tbl_kept.specs.Rows.{with_block_end};
-    ghost use Rattle.tbl_kept.specs.Rows.{with_columns, with_command, with_entry, with_row};
+    ghost use Rattle.tbl_kept.specs.Rows.{with_columns, with_command, with_entry, with_row, with_rule};
     ghost use Rattle.tbl_kept.specs.Rows.{RowsKept, RowsLaid, SameRoom, lent};
 
     /// Nothing, with room for so many fields, rows and commands, and columns.
@@ -183,7 +188,15 @@ impl TableRows {
             .push_reserved(Element::Command(from as u32, to as u32));
     }
 
-    /// How many rows and commands there are.
+    /// A rule over the whole table.
+    pub fn keep_rule(&mut self, sign: RuleSign)
+        requires { length self.old.elements < self.old.element_room }
+        ensures { self.new ≡ with_rule sign self.old }
+    {
+        self.elements.push_reserved(Element::Rule(sign));
+    }
+
+    /// How many rows, rules and commands there are.
     pub fn count(&self) -> usize
         ensures { result ≡ length self.now.elements }
     {
@@ -201,6 +214,7 @@ impl TableRows {
                 row.height,
                 &self.entries.as_slice()[row.from as usize..row.to as usize],
             ),
+            Element::Rule(sign) => Lent::Rule(sign),
             Element::Command(from, to) => Lent::Command(from as usize, to as usize),
         }
     }

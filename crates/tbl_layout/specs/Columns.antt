@@ -3,7 +3,7 @@ use Rattle.std.specs.Prelude.{ℕ, suc, ◌+◌, ◌-◌, ◌*◌, ◌/◌, ◌�
 use Rattle.tbl_format.specs.declared.format.Asked.{Asked}
 use Rattle.tbl_format.specs.declared.format.Key.{Key}
 use Rattle.tbl_format.specs.declared.format.Key.TheVariants.{Alphabetic, Center, Numeric, Right}
-use Rattle.tbl_layout.specs.Entries.{Block, Command, Content, Element, Row, Text, field_at, is_number, key_at}
+use Rattle.tbl_layout.specs.Entries.{Block, Command, Content, Element, Row, Rule, Text, field_at, is_number, key_at}
 use Rattle.tbl_layout.specs.Widths.{separation}
 use Rattle.tbl_layout.specs.declared.columns.Column.{Column}
 use Rattle.tbl_layout.specs.declared.columns.Needs.{Needs}
@@ -28,11 +28,12 @@ text_stands key columns (Some s) = Apart s.left (columns - s.left)
 abbrev pub block_stands : ℕ → Key → List Part → Stands
 block_stands measure key parts = if has_word parts then unsplit key (widest (lines_of measure parts)) else Nowhere
 
--- the entry that a field is under its key; its column gives its blocks this measure
+-- the entry that a field is under its key; its column gives its blocks this measure; rules are none
 abbrev pub stands : ℕ → Key → Content → Stands
 stands measure key (Text []) = Nowhere
 stands measure key (Text (b ∷ bytes)) = let m = measured (is_number key) (b ∷ bytes) in text_stands key m.width m.split
 stands measure key (Block lines) = block_stands measure key (parts_of lines)
+stands measure key field = Nowhere
 
 -- the greatest of some numbers, 0 of none
 abbrev pub greatest : List ℕ → ℕ
@@ -57,6 +58,10 @@ abbrev pub right_of : Stands → ℕ
 right_of (Apart left right) = right
 right_of (_) = 0
 
+abbrev pub split_width : Stands → ℕ
+split_width (Apart left right) = left + right
+split_width (_) = 0
+
 -- what entries need, and with one more
 abbrev pub needs_of : List Stands → Needs
 needs_of entries = record {
@@ -64,6 +69,7 @@ needs_of entries = record {
   strip = greatest (map in_strip entries);
   left = greatest (map left_of entries);
   right = greatest (map right_of entries);
+  split = greatest (map split_width entries);
 }
 
 abbrev pub needing : Needs → Stands → Needs
@@ -72,7 +78,12 @@ needing n entry = record {
   strip = max n.strip (in_strip entry);
   left = max n.left (left_of entry);
   right = max n.right (right_of entry);
+  split = max n.split (split_width entry);
 }
+
+-- the columns of the widest entry: one in the strip needs a place more in front
+abbrev pub widest_entry : Needs → ℕ
+widest_entry n = greatest (n.alone ∷ (n.strip - 1) ∷ n.split ∷ [])
 
 -- the width of a column, by what is asked of it and what its entries need: the parts of split ones stand side by side
 abbrev pub width_by : Asked → Needs → ℕ
@@ -104,6 +115,7 @@ abbrev pub entries_of : ℕ → ℕ → List Element → List Stands
 entries_of measure column [] = []
 entries_of measure column (Row keys fields ∷ elements) =
     stands measure (key_at keys column) (field_at fields column) ∷ entries_of measure column elements
+entries_of measure column (Rule sign ∷ elements) = entries_of measure column elements
 entries_of measure column (Command bytes ∷ elements) = entries_of measure column elements
 
 -- the columns of a table that has so many, from one on: what their entries need
@@ -217,3 +229,12 @@ place_in c key Nowhere = 0
 place_in c key (Apart left right) = (c.width - (c.needs.left + c.needs.right)) / 2 + (c.needs.left - left)
 place_in c key (InStrip columns) = max 1 ((c.width - (c.needs.strip - 1)) / 2)
 place_in c key (Alone columns) = shift key (c.width - columns)
+
+-- where a rule begins that is as wide as its column's widest entry: under `n` and `a` it isn't moved
+abbrev pub shift_of_rule : Key → ℕ → ℕ
+shift_of_rule Right spare = spare
+shift_of_rule Center spare = spare / 2
+shift_of_rule (_) spare = 0
+
+abbrev pub place_of_rule : Column → Key → ℕ
+place_of_rule c key = shift_of_rule key (c.width - widest_entry c.needs)

@@ -1,25 +1,28 @@
 -- The lines of a table's data: commands, rows of fields, and the lines of text blocks (Lesk, "Tbl": Data).
-use Rattle.std.specs.Prelude.{ℕ, ◌+◌, Bool, true, false, not, ◌&&◌, ◌||◌, List, [], ◌∷◌, take, drop, length, bytes_eq, codes, if◌then◌else◌, ◌==◌}
-use Rattle.std.specs.List.{list_any}
+use Rattle.std.specs.Prelude.{ℕ, ◌+◌, Bool, true, false, not, ◌&&◌, ◌||◌, List, [], ◌∷◌, take, drop, get_or, length, bytes_eq, codes, if◌then◌else◌, ◌==◌}
 use Rattle.roff_source.specs.Bytes.{tab, blank, backslash}
 use Rattle.tbl_layout.specs.Data.{fields, is_command, is_opening}
 use Rattle.tbl_layout.specs.Widths.{width_in_text}
 use Rattle.tbl_layout.specs.declared.data_lines.BlockLineKind.{BlockLineKind}
 use Rattle.tbl_layout.specs.declared.data_lines.BlockLineKind.TheVariants.{End, Request, Text}
+use Rattle.tbl_layout.specs.declared.data_lines.FieldKind.{FieldKind}
+use Rattle.tbl_layout.specs.declared.data_lines.FieldKind.TheVariants.{Above, Repeated, Ruled, Short, Text as OneText}
 use Rattle.tbl_layout.specs.declared.data_lines.LineKind.{LineKind}
 use Rattle.tbl_layout.specs.declared.data_lines.LineKind.TheVariants.{Command, Formats, Row, Rule}
+use Rattle.tbl_layout.specs.declared.data_lines.RuleSign.{RuleSign}
+use Rattle.tbl_layout.specs.declared.data_lines.RuleSign.TheVariants.{Double, Single}
 
--- whether one of these texts is this one
-abbrev pub is_among : List (List ℕ) → List ℕ → Bool
-is_among texts text = list_any (λ t. bytes_eq text t) texts
+-- the byte that a rule is drawn with
+abbrev pub sign_byte : RuleSign → ℕ
+sign_byte Single = 45
+sign_byte Double = 61
 
--- what isn't laid out yet: lines that are rules; fields that are rules, `\_`, which rules as wide as its column's texts, `\^`,
--- which goes on with the field above, and `\R` with a byte of one column, which is repeated over its column
-abbrev pub unbuilt_lines : List (List ℕ)
-unbuilt_lines = codes "_" ∷ codes "=" ∷ []
-
-abbrev pub unbuilt_fields : List (List ℕ)
-unbuilt_fields = codes "_" ∷ codes "=" ∷ codes "\\_" ∷ codes "\\^" ∷ []
+-- whether two rules are drawn alike
+abbrev pub is_same_sign : RuleSign → RuleSign → Bool
+is_same_sign Single Single = true
+is_same_sign Single Double = false
+is_same_sign Double Single = false
+is_same_sign Double Double = true
 
 -- whether these bytes are one that is repeated behind `\R`
 abbrev pub is_repeated : List ℕ → Bool
@@ -27,9 +30,24 @@ is_repeated [] = false
 is_repeated (b ∷ []) = width_in_text b == 1 && not (b == backslash)
 is_repeated (b ∷ c ∷ bytes) = false
 
+-- what a field is: `_` and `=` rule its column, `\_` is a rule as wide as the column's widest text, `\R` with a byte of one column
+-- repeats that over the column, and `\^` goes on with the field above
+abbrev pub field_kind : List ℕ → FieldKind
+field_kind field =
+    if bytes_eq field (codes "_") then Ruled Single
+    else if bytes_eq field (codes "=") then Ruled Double
+    else if bytes_eq field (codes "\\_") then Short
+    else if bytes_eq field (codes "\\^") then Above
+    else if bytes_eq (take 2 field) (codes "\\R") && is_repeated (drop 2 field) then Repeated (get_or field 2 0)
+    else OneText
+
 -- whether a field is laid out
+abbrev pub is_kind_laid_out : FieldKind → Bool
+is_kind_laid_out Above = false
+is_kind_laid_out kind = true
+
 abbrev pub is_laid_out : List ℕ → Bool
-is_laid_out field = not (is_among unbuilt_fields field || (bytes_eq (take 2 field) (codes "\\R") && is_repeated (drop 2 field)))
+is_laid_out field = is_kind_laid_out (field_kind field)
 
 -- whether a name ends in front of these bytes: with the line, or at a blank or a tab
 abbrev pub ends_name : List ℕ → Bool
@@ -40,13 +58,16 @@ ends_name (b ∷ line) = b == blank || b == tab
 abbrev pub begins_format : List ℕ → Bool
 begins_format line = bytes_eq (take 3 line) (codes ".T&") && ends_name (drop 3 line)
 
+-- what a line is that is no rule
+abbrev pub other_line_kind : List ℕ → LineKind
+other_line_kind line = if begins_format line then Formats else if is_command line then Command else Row
+
 -- what a line is, where no text block is open
 abbrev pub line_kind : List ℕ → LineKind
 line_kind line =
-    if is_among unbuilt_lines line then Rule
-    else if begins_format line then Formats
-    else if is_command line then Command
-    else Row
+    if bytes_eq line (codes "_") then Rule Single
+    else if bytes_eq line (codes "=") then Rule Double
+    else other_line_kind line
 
 -- what a line is, where one is open
 abbrev pub block_line_kind : List ℕ → BlockLineKind
@@ -86,7 +107,7 @@ fields_behind_block separator line = behind_first (fields separator (drop 2 line
 
 -- whether a row or a command ends with a line, where no text block is open, and where one is
 abbrev pub kind_ends_row : LineKind → ℕ → List ℕ → Bool
-kind_ends_row Rule separator line = true
+kind_ends_row (Rule sign) separator line = true
 kind_ends_row Formats separator line = false
 kind_ends_row Command separator line = true
 kind_ends_row Row separator line = not (ends_in_block (fields separator line))

@@ -2,6 +2,10 @@
 use Rattle.std.specs.Prelude.{ℕ, Bool, true, false, List, [], ◌∷◌, ◌++◌, map, take, drop, replicate, sum_by, get_or, Option, Some, None}
 use Rattle.roff_source.specs.Bytes.{blank}
 use Rattle.tbl_format.specs.Format.{FormatRow}
+use Rattle.tbl_layout.specs.DataLines.{field_kind}
+use Rattle.tbl_layout.specs.declared.data_lines.FieldKind.{FieldKind}
+use Rattle.tbl_layout.specs.declared.data_lines.FieldKind.TheVariants.{Repeated as RepeatedKind, Ruled as RuledKind, Short as ShortKind}
+use Rattle.tbl_layout.specs.declared.data_lines.RuleSign.{RuleSign}
 use Rattle.tbl_format.specs.declared.format.Key.{Key}
 use Rattle.tbl_format.specs.declared.format.Key.TheVariants.{Left, Numeric}
 use Rattle.tbl_text.specs.BlockLines.{leading, lines_of}
@@ -10,15 +14,30 @@ use Rattle.tbl_text.specs.Measuring.{measured}
 use Rattle.tbl_text.specs.declared.measure.Measured.{Measured}
 use Rattle.tbl_text.specs.declared.measure.Split.{Split}
 
--- a field: a text, or a text block by its lines, of which requests are passed over
+-- a field: a text; a text block by its lines, of which requests are passed over; a rule over its column, or one as wide as the
+-- column's widest text; or a byte that is repeated over the column
 pub data Content : Type 0 where
   Text : (bytes : List ℕ) → Content
   Block : (lines : List (List ℕ)) → Content
+  Ruled : (sign : RuleSign) → Content
+  Short : Content
+  Repeated : (byte : ℕ) → Content
 
--- what stands in a table: a row of fields, with the row of the format that serves it, or a command
+-- what stands in a table: a row of fields, with the row of the format that serves it, a rule over the whole table, or a command
 pub data Element : Type 0 where
   Row : (format : FormatRow) (fields : List Content) → Element
+  Rule : (sign : RuleSign) → Element
   Command : (bytes : List ℕ) → Element
+
+-- what a field is by its bytes, if it isn't laid out a text
+abbrev pub content_by_kind : FieldKind → List ℕ → Content
+content_by_kind (RuledKind sign) field = Ruled sign
+content_by_kind ShortKind field = Short
+content_by_kind (RepeatedKind b) field = Repeated b
+content_by_kind kind field = Text field
+
+abbrev pub content_read : List ℕ → Content
+content_read field = content_by_kind (field_kind field) field
 
 -- the key and the field of a column: short rows of the format go on with `l`, and those of the data with empty fields
 abbrev pub key_at : FormatRow → ℕ → Key
@@ -67,11 +86,12 @@ block_line [] = []
 block_line (EmptyLine ∷ parts) = further_words parts
 block_line (OneWord w ∷ parts) = blanks (leading w) ∷ run_of_word w ∷ further_words parts
 
--- the lines of a field, under its key; its column gives its blocks this measure
+-- the lines of a text or a block, under its key; its column gives its blocks this measure
 abbrev pub lines_of_field : ℕ → Key → Content → List (List Run)
 lines_of_field measure key (Text []) = []
 lines_of_field measure key (Text (b ∷ bytes)) = (run_of (measured (is_number key) (b ∷ bytes)) (b ∷ bytes) ∷ []) ∷ []
 lines_of_field measure key (Block lines) = map block_line (lines_of measure (parts_of lines))
+lines_of_field measure key field = []
 
 -- the columns of what stands on a line
 abbrev pub columns_of : List Run → ℕ

@@ -3,13 +3,13 @@ use Rattle.std.specs.Prelude.{◌≡◌, ℕ, ◌+◌, ◌-◌, ◌≤◌, Bool,
 use Rattle.std.specs.List.{slice_range}
 use Rattle.tbl_format.specs.declared.format.Key.{Key}
 use Rattle.tbl_layout.specs.Columns.{unsplit}
-use Rattle.tbl_layout.specs.Entries.{Block, Content, Text, is_number}
+use Rattle.tbl_layout.specs.Entries.{Block, Content, Repeated, Ruled, Short, Text, is_number}
 use Rattle.tbl_layout.specs.declared.columns.Stands.{Stands}
 use Rattle.tbl_layout.specs.declared.columns.Stands.TheVariants.{Apart, Nowhere}
 use Rattle.tbl_layout.specs.declared.entry.BlockEntry.{BlockEntry}
 use Rattle.tbl_layout.specs.declared.entry.Entry.{Entry}
 use Rattle.tbl_layout.specs.declared.entry.EntryKind.{EntryKind}
-use Rattle.tbl_layout.specs.declared.entry.EntryKind.TheVariants.{Block as BlockKind, Split as SplitKind, Text as TextKind}
+use Rattle.tbl_layout.specs.declared.entry.EntryKind.TheVariants.{Block as BlockKind, Repeated as RepeatedKind, Ruled as RuledKind, Short as ShortKind, Split as SplitKind, Text as TextKind}
 use Rattle.tbl_layout.specs.declared.entry.SplitEntry.{SplitEntry}
 use Rattle.tbl_text.specs.BlockLines.{has_word, lines_of, widest}
 use Rattle.tbl_text.specs.BlockWords.{lines_in, parts_of}
@@ -41,6 +41,10 @@ text_entry is_number from text = entry_by from (length text) (measured is_number
 abbrev pub not_filled : BlockEntry
 not_filled = record { lines = 0; width = 0; has_word = false }
 
+-- the field of a rule that begins at a place and has so many bytes
+abbrev pub rule_entry : ℕ → ℕ → EntryKind → Entry
+rule_entry from len kind = record { from = from; to = from + len; kind = kind }
+
 -- one of which no line is read, behind the line that opens it, which ends there
 abbrev pub opened_at : ℕ → Entry
 opened_at from = record { from = from; to = from; kind = BlockKind not_filled }
@@ -58,21 +62,25 @@ filled_with lines width has_word e = record e { kind = BlockKind (record { lines
 abbrev pub block_lines : List ℕ → ℕ → ℕ → List (List ℕ)
 block_lines bytes from to = if from == to then [] else lines_in (slice_range bytes (from + 1) to)
 
--- the text, or the block, that a field is
+-- the text, the block or the rule that a field is
 abbrev pub content_by : EntryKind → List ℕ → ℕ → ℕ → Content
 content_by (TextKind glyphs width) bytes from to = Text (slice_range bytes from to)
 content_by (SplitKind s) bytes from to = Text (slice_range bytes from to)
 content_by (BlockKind b) bytes from to = Block (block_lines bytes from to)
+content_by (RuledKind sign) bytes from to = Ruled sign
+content_by ShortKind bytes from to = Short
+content_by (RepeatedKind b) bytes from to = Repeated b
 
 abbrev pub content_of : List ℕ → Entry → Content
 content_of bytes e = content_by e.kind bytes e.from e.to
 
 -- how a field stands in its column, by what it measures: a text without a byte stands nowhere, and neither does a block without
--- a word
+-- a word, nor a rule
 abbrev pub stands_by : Key → EntryKind → Bool → Stands
 stands_by key (TextKind glyphs width) is_empty = if is_empty then Nowhere else unsplit key width
 stands_by key (SplitKind s) is_empty = Apart s.left (s.width - s.left)
 stands_by key (BlockKind b) is_empty = if b.has_word then unsplit key b.width else Nowhere
+stands_by key kind is_empty = Nowhere
 
 abbrev pub stands_of : Key → Entry → Stands
 stands_of key e = stands_by key e.kind (e.from == e.to)
@@ -82,6 +90,7 @@ abbrev pub lines_by : EntryKind → ℕ
 lines_by (TextKind glyphs width) = 1
 lines_by (SplitKind s) = 1
 lines_by (BlockKind b) = b.lines
+lines_by kind = 1
 
 -- a text is kept as what it measures, and lies within the table's bytes
 pub record IsText (bytes : List ℕ) (is_number : Bool) (e : Entry) : Type 0 where
@@ -89,14 +98,14 @@ pub record IsText (bytes : List ℕ) (is_number : Bool) (e : Entry) : Type 0 whe
   pub within : e.to ≤ length bytes
   pub is : e ≡ text_entry is_number e.from (slice_range bytes e.from e.to)
 
--- a block lies within them, behind the line that opens it
-pub record LiesAsBlock (bytes : List ℕ) (e : Entry) : Type 0 where
+-- a block lies within them, behind the line that opens it, and so does a rule
+pub record Lies (bytes : List ℕ) (e : Entry) : Type 0 where
   pub order : e.from ≤ e.to
   pub within : e.to ≤ length bytes
 
 -- a block that isn't filled
 pub record IsOpened (bytes : List ℕ) (e : Entry) : Type 0 where
-  pub lies : LiesAsBlock bytes e
+  pub lies : Lies bytes e
   pub is : e.kind ≡ BlockKind not_filled
 
 -- a block as its measure fills it
@@ -106,14 +115,15 @@ block_filled measure lines =
     record { lines = length filled; width = widest filled; has_word = has_word (parts_of lines) }
 
 pub record IsFilled (bytes : List ℕ) (measure : ℕ) (e : Entry) : Type 0 where
-  pub lies : LiesAsBlock bytes e
+  pub lies : Lies bytes e
   pub is : e.kind ≡ BlockKind (block_filled measure (block_lines bytes e.from e.to))
 
--- a field is kept under its key: a text by what it measures, a block as it was read
+-- a field is kept under its key: a text by what it measures, a block as it was read, a rule by where it lies
 abbrev pub IsKeptBy : EntryKind → List ℕ → Key → Entry → Type 0
 IsKeptBy (TextKind glyphs width) bytes key e = IsText bytes (is_number key) e
 IsKeptBy (SplitKind s) bytes key e = IsText bytes (is_number key) e
 IsKeptBy (BlockKind b) bytes key e = IsOpened bytes e
+IsKeptBy kind bytes key e = Lies bytes e
 
 abbrev pub IsKept : List ℕ → Key → Entry → Type 0
 IsKept bytes key e = IsKeptBy e.kind bytes key e
@@ -123,6 +133,7 @@ abbrev pub IsLaidBy : EntryKind → List ℕ → ℕ → Key → Entry → Type 
 IsLaidBy (TextKind glyphs width) bytes measure key e = IsText bytes (is_number key) e
 IsLaidBy (SplitKind s) bytes measure key e = IsText bytes (is_number key) e
 IsLaidBy (BlockKind b) bytes measure key e = IsFilled bytes measure e
+IsLaidBy kind bytes measure key e = Lies bytes e
 
 abbrev pub IsLaid : List ℕ → ℕ → Key → Entry → Type 0
 IsLaid bytes measure key e = IsLaidBy e.kind bytes measure key e

@@ -5,7 +5,8 @@ ghost use Rattle.std.specs.Prelude.{◌≡◌, ◌+◌, ◌-◌, ◌<◌, ◌^�
 ghost use Rattle.tbl_layout.specs.Columns.{equal_width, equal_widths, equalled, gaps, greatest};
 ghost use Rattle.tbl_layout.specs.Columns.{in_strip};
 ghost use Rattle.tbl_layout.specs.Columns.{lacking, made_equal, measure_of, needing, place_in};
-ghost use Rattle.tbl_layout.specs.Columns.{placed_with, share, shift, total, unsplit, width_by};
+ghost use Rattle.tbl_layout.specs.Columns.{place_of_rule, placed_with, share, shift, shift_of_rule};
+ghost use Rattle.tbl_layout.specs.Columns.{total, unsplit, widest_entry, width_by};
 ghost use Rattle.tbl_layout.specs.Columns.{width_of_all, with_equal, with_widths};
 
 use crate::widths::separation;
@@ -35,6 +36,8 @@ pub struct Needs {
     pub left: u32,
     /// The widest part right of units.
     pub right: u32,
+    /// The widest entry that is split.
+    pub split: u64,
 }
 
 /// A column: what its entries need, and at last how wide it is and where it begins.
@@ -57,6 +60,7 @@ impl Needs {
         strip: 0,
         left: 0,
         right: 0,
+        split: 0,
     };
 
     /// With an entry more.
@@ -72,20 +76,31 @@ impl Needs {
                 strip: self.strip,
                 left: self.left.max(left),
                 right: self.right.max(right),
+                split: self.split.max(u64::from(left) + u64::from(right)),
             },
             Stands::InStrip(columns) => Needs {
                 alone: self.alone,
                 strip: self.strip.max(columns + 1),
                 left: self.left,
                 right: self.right,
+                split: self.split,
             },
             Stands::Alone(columns) => Needs {
                 alone: self.alone.max(columns),
                 strip: self.strip,
                 left: self.left,
                 right: self.right,
+                split: self.split,
             },
         }
+    }
+
+    /// The columns of the widest entry.
+    pub fn widest_entry(self) -> usize
+        ensures { result ≡ widest_entry self }
+    {
+        let others = self.strip.saturating_sub(1).max(self.split);
+        self.alone.max(others) as usize
     }
 
     /// The least width that holds all entries, and what is asked.
@@ -276,6 +291,25 @@ impl Column {
             }
             Stands::Alone(columns) => { shift(key, self.width.saturating_sub(columns as usize)) }
         }
+    }
+
+    /// Where a rule begins in it that is as wide as its widest entry, by the key.
+    pub fn place_of_rule(self, key: Key) -> usize
+        ensures { result ≡ place_of_rule self key }
+    {
+        shift_of_rule(key, self.width.saturating_sub(self.needs.widest_entry()))
+    }
+}
+
+/// How far a rule is moved that is as wide as its column's widest entry, by the key and the columns
+/// to spare.
+fn shift_of_rule(key: Key, spare: usize) -> usize
+    ensures { result ≡ shift_of_rule key spare }
+{
+    match key {
+        Key::Right => spare,
+        Key::Center => spare / 2,
+        _ => 0,
     }
 }
 

@@ -1,29 +1,54 @@
 //! What the lines of a table's data are (Lesk, "Tbl": Data).
 
-ghost use Rattle.std.specs.Prelude.{◌≡◌, ◌==◌, ◌&&◌, not, drop};
+ghost use Rattle.std.specs.Prelude.{◌≡◌, ◌==◌, ◌&&◌, not, drop, [], ◌∷◌, if◌then◌else◌};
 ghost use Rattle.roff_source.specs.Bytes.{backslash};
 ghost use Rattle.tbl_layout.specs.Data.{fields, is_command};
 ghost use Rattle.tbl_layout.specs.DataLines.{begins_format, behind_blanks, behind_first};
 ghost use Rattle.tbl_layout.specs.DataLines.{block_kind_ends_row, block_line_kind, ends_in_block};
-ghost use Rattle.tbl_layout.specs.DataLines.{ends_row, is_laid_out, kind_ends_row, line_kind};
-ghost use Rattle.tbl_layout.specs.DataLines.{opens_block};
+ghost use Rattle.tbl_layout.specs.DataLines.{ends_row, field_kind, is_repeated, kind_ends_row};
+ghost use Rattle.tbl_layout.specs.DataLines.{line_kind, opens_block, other_line_kind, sign_byte};
+ghost use Rattle.tbl_layout.specs.declared.data_lines.FieldKind.TheVariants.{Repeated, Text};
 ghost use Rattle.tbl_layout.specs.Widths.{width_in_text};
 
 use crate::data::{field_len, is_opening};
 use crate::widths::width_in_text;
 use memchr::memrchr;
 
+/// What a rule is drawn with.
+#[derive(Clone, Copy)]
+pub enum RuleSign {
+    /// A single line, `-`.
+    Single,
+    /// A double one, `=`.
+    Double,
+}
+
 /// What a whole line of the data is, where no text block is open.
 #[derive(Clone, Copy)]
 pub enum LineKind {
-    /// A rule: `_` or `=` alone.
-    Rule,
+    /// A rule over the whole table: `_` or `=` alone.
+    Rule(RuleSign),
     /// `.T&`: a further format follows.
     Formats,
     /// A command.
     Command,
     /// A row, or the first line of one.
     Row,
+}
+
+/// What a field is.
+#[derive(Clone, Copy)]
+pub enum FieldKind {
+    /// A text.
+    Text,
+    /// A rule over its column: `_` or `=` alone.
+    Ruled(RuleSign),
+    /// `\_`: a rule as wide as the widest text of its column.
+    Short,
+    /// `\R` and a byte of one column: that is repeated over its column.
+    Repeated(u8),
+    /// `\^`: the field above goes on.
+    Above,
 }
 
 /// What a whole line is, where a text block is open.
@@ -41,9 +66,17 @@ pub enum BlockLineKind {
 pub fn line_kind(line: &[u8]) -> LineKind
     ensures { result ≡ line_kind line.now }
 {
-    if matches!(line, [b'_' | b'=']) {
-        return LineKind::Rule;
+    match line {
+        [b'_'] => LineKind::Rule(RuleSign::Single),
+        [b'='] => LineKind::Rule(RuleSign::Double),
+        _ => other_line_kind(line),
     }
+}
+
+/// What a line is that is no rule.
+fn other_line_kind(line: &[u8]) -> LineKind
+    ensures { result ≡ other_line_kind line.now }
+{
     if begins_format(line) {
         return LineKind::Formats;
     }
@@ -87,15 +120,38 @@ pub fn block_line_kind(line: &[u8]) -> BlockLineKind
     }
 }
 
-/// Whether a field is laid out: all are but rules, `\_`, `\^`, and `\R` with a byte of one column.
-pub fn is_laid_out(field: &[u8]) -> bool
-    ensures { result ≡ is_laid_out field.now }
+/// What a field is.
+pub fn field_kind(field: &[u8]) -> FieldKind
+    ensures { result ≡ field_kind field.now }
 {
     match field {
-        [b'_' | b'='] => false,
-        [b'\\', b'_' | b'^'] => false,
-        [b'\\', b'R', byte] => !is_repeated(*byte),
-        _ => true,
+        [b'_'] => FieldKind::Ruled(RuleSign::Single),
+        [b'='] => FieldKind::Ruled(RuleSign::Double),
+        [b'\\', b'_'] => FieldKind::Short,
+        [b'\\', b'^'] => FieldKind::Above,
+        [b'\\', b'R', byte] => repeated_kind(*byte),
+        _ => FieldKind::Text,
+    }
+}
+
+/// What `\R` and a byte are.
+fn repeated_kind(byte: u8) -> FieldKind
+    ensures { result ≡ (if is_repeated (byte ∷ []) then Repeated byte else Text) }
+{
+    if is_repeated(byte) {
+        FieldKind::Repeated(byte)
+    } else {
+        FieldKind::Text
+    }
+}
+
+/// The byte that a rule is drawn with.
+pub fn sign_byte(sign: RuleSign) -> u8
+    ensures { result ≡ sign_byte sign }
+{
+    match sign {
+        RuleSign::Single => b'-',
+        RuleSign::Double => b'=',
     }
 }
 
@@ -151,7 +207,7 @@ fn line_ends_row(separator: u8, line: &[u8]) -> bool
     ensures { result ≡ kind_ends_row (line_kind line.now) separator line.now }
 {
     match line_kind(line) {
-        LineKind::Rule => true,
+        LineKind::Rule(_) => true,
         LineKind::Formats => false,
         LineKind::Command => true,
         LineKind::Row => !ends_in_block(separator, line),

@@ -2,11 +2,13 @@
 //! (Lesk, "Tbl": Data, Text Blocks).
 
 ghost use Rattle.std.specs.Prelude.{◌≡◌, ◌+◌, ◌<◌, ◌≤◌, ◌^◌, IfSome};
-ghost use Rattle.tbl_layout.specs.KeptEntries.{entry_by, filled_with, opened_at, stands_of};
+ghost use Rattle.tbl_layout.specs.KeptEntries.{entry_by, filled_with, opened_at, rule_entry};
+ghost use Rattle.tbl_layout.specs.KeptEntries.{stands_of};
 ghost use Rattle.tbl_text.specs.Measuring.{SplitLies};
 ghost use Rattle.tbl_layout.specs.KeptEntries.{kind_by, lines_by, split_by, with_end};
 
 use crate::columns::{Stands, unsplit};
+use crate::data_lines::RuleSign;
 use tbl_format::format::Key;
 use tbl_text::block_lines::Filled;
 use tbl_text::measure::{Measured, Split};
@@ -32,6 +34,12 @@ pub enum EntryKind {
     Split(SplitEntry),
     /// A text block.
     Block(BlockEntry),
+    /// A rule over its column.
+    Ruled(RuleSign),
+    /// A rule as wide as the widest entry of its column.
+    Short,
+    /// A byte that is repeated over its column.
+    Repeated(u8),
 }
 
 /// A number that is split in two.
@@ -73,6 +81,18 @@ impl Entry {
             from: from as u32,
             to: (from + len) as u32,
             kind: kind_of(from, measured),
+        }
+    }
+
+    /// The field of a rule that begins at a place and has so many bytes.
+    pub fn of_rule(from: usize, len: usize, kind: EntryKind) -> Entry
+        requires { from + len < 2 ^ 32 }
+        ensures { result ≡ rule_entry from len kind }
+    {
+        Entry {
+            from: from as u32,
+            to: (from + len) as u32,
+            kind,
         }
     }
 
@@ -128,6 +148,9 @@ impl Entry {
             EntryKind::Text(_, _) => 1,
             EntryKind::Split(_) => 1,
             EntryKind::Block(block) => block.lines,
+            EntryKind::Ruled(_) => 1,
+            EntryKind::Short => 1,
+            EntryKind::Repeated(_) => 1,
         }
     }
 
@@ -154,6 +177,9 @@ impl Entry {
                     Stands::Nowhere
                 }
             }
+            EntryKind::Ruled(_) => Stands::Nowhere,
+            EntryKind::Short => Stands::Nowhere,
+            EntryKind::Repeated(_) => Stands::Nowhere,
         }
     }
 }

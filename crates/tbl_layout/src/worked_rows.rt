@@ -4,21 +4,25 @@ ghost use Rattle.std.specs.Prelude.{◌≡◌, [], ◌∷◌, Some, None, true, 
 ghost use Rattle.tbl_format.specs.Format.{nothing_asked, plain_key};
 ghost use Rattle.tbl_format.specs.declared.format.Key.TheVariants.{Alphabetic, Center, Left};
 ghost use Rattle.tbl_format.specs.declared.format.Key.TheVariants.{Numeric, Right};
-ghost use Rattle.tbl_layout.specs.Columns.{stands, width_of};
+ghost use Rattle.tbl_layout.specs.Columns.{needs_of, stands, widest_entry, width_of};
 ghost use Rattle.tbl_layout.specs.DataLines.{block_line_kind, ends_in_block, ends_row};
-ghost use Rattle.tbl_layout.specs.DataLines.{is_laid_out, line_kind, without_opening};
+ghost use Rattle.tbl_layout.specs.DataLines.{field_kind, is_laid_out, line_kind, without_opening};
 ghost use Rattle.tbl_layout.specs.Entries.{Block, Command as OneCommand, Row as OneRow};
-ghost use Rattle.tbl_layout.specs.Entries.{Text as OneText};
+ghost use Rattle.tbl_layout.specs.Entries.{Ruled as OneRule, Text as OneText};
 ghost use Rattle.tbl_layout.specs.declared.columns.Stands.TheVariants.{Alone, Apart, InStrip};
 ghost use Rattle.tbl_layout.specs.declared.columns.Stands.TheVariants.{Nowhere};
 ghost use Rattle.tbl_layout.specs.declared.data_lines.BlockLineKind.TheVariants.{End, Request};
 ghost use Rattle.tbl_layout.specs.declared.data_lines.BlockLineKind.TheVariants.{Text};
+ghost use Rattle.tbl_layout.specs.declared.data_lines.FieldKind.TheVariants.{Above, Repeated};
+ghost use Rattle.tbl_layout.specs.declared.data_lines.FieldKind.TheVariants.{Ruled, Short};
+ghost use Rattle.tbl_layout.specs.declared.data_lines.FieldKind.TheVariants.{Text as AText};
 ghost use Rattle.tbl_layout.specs.declared.data_lines.LineKind.TheVariants.{Command, Formats};
 ghost use Rattle.tbl_layout.specs.declared.data_lines.LineKind.TheVariants.{Row, Rule};
+ghost use Rattle.tbl_layout.specs.declared.data_lines.RuleSign.TheVariants.{Double, Single};
 
 /// What lines are.
 pub fn lines()
-    ensures rule { line_kind (codes "=") ≡ Rule }
+    ensures rule { line_kind (codes "=") ≡ Rule Double }
     ensures no_rule { line_kind (codes "_ ") ≡ Row }
     ensures formats { line_kind (codes ".T&\tx") ≡ Formats }
     ensures no_formats { line_kind (codes ".T&x") ≡ Command }
@@ -27,12 +31,14 @@ pub fn lines()
     ensures end { block_line_kind (codes "T}x:y") ≡ End }
     ensures request { block_line_kind (codes ".5") ≡ Request }
     ensures text { block_line_kind (codes "_") ≡ Text }
-    ensures built { map is_laid_out
+    ensures texts { map field_kind
         (codes "_ " ∷ codes "\\_ " ∷ codes "\\R" ∷ codes "\\R\\" ∷ codes "\\Rab" ∷ [])
-        ≡ true ∷ true ∷ true ∷ true ∷ true ∷ [] }
-    ensures unbuilt { map is_laid_out
-        (codes "_" ∷ codes "\\^" ∷ codes "\\R " ∷ codes "\\R-" ∷ [])
-        ≡ false ∷ false ∷ false ∷ false ∷ [] }
+        ≡ AText ∷ AText ∷ AText ∷ AText ∷ AText ∷ [] }
+    ensures rules { map field_kind (codes "_" ∷ codes "=" ∷ codes "\\_" ∷ codes "\\^" ∷ [])
+        ≡ Ruled Single ∷ Ruled Double ∷ Short ∷ Above ∷ [] }
+    ensures repeated { map field_kind (codes "\\R " ∷ codes "\\R-" ∷ [])
+        ≡ Repeated 32 ∷ Repeated 45 ∷ [] }
+    ensures unbuilt { is_laid_out (codes "\\^") ≡ false }
     ensures opening { ends_in_block (codes "a" ∷ codes "  T{ " ∷ []) ≡ true }
     ensures in_front { without_opening (codes "T{" ∷ codes "T{" ∷ []) ≡ codes "T{" ∷ [] }
     ensures row_ends { ends_row false 58 (codes "T{:x") ≡ true }
@@ -49,5 +55,8 @@ pub fn entries()
     ensures empty { stands 9 Alphabetic (OneText []) ≡ Nowhere }
     ensures block { stands 4 Left (Block (codes "one two" ∷ [])) ≡ Alone 3 }
     ensures blanks { stands 4 Left (Block (codes "  " ∷ [])) ≡ Nowhere }
+    ensures rule { stands 4 Left (OneRule Single) ≡ Nowhere }
+    ensures widest { widest_entry (needs_of (Apart 1 3 ∷ InStrip 5 ∷ Alone 2 ∷ [])) ≡ 5 }
+    ensures widest_split { widest_entry (needs_of (Apart 1 3 ∷ Apart 2 0 ∷ [])) ≡ 4 }
     ensures sides { width_of nothing_asked (Apart 1 3 ∷ Apart 2 0 ∷ Alone 4 ∷ []) ≡ 5 }
 {}

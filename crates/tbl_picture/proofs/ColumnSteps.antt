@@ -118,6 +118,7 @@ module _ (row : WalkedRow) (w : KeptWalk) (r : RowColumn) (at : AtColumn row w r
     can = line-passed p reached within moved;
     less = omega (arith, less, ap (steps_of_columns (most_steps row.bytes)) (entries-passed p));
     element = refl;
+    width = refl;
     room = refl;
   }
 
@@ -166,5 +167,6 @@ module _ (row : WalkedRow) (w : KeptWalk) (r : RowColumn) (at : AtColumn row w r
         };
         less = less;
         element = refl;
+        width = refl;
         room = refl;
       }

@@ -13,7 +13,7 @@ use Rattle.tbl_kept.specs.declared.table_text.Joint.{Joint as JointAt}
 use Rattle.tbl_picture.specs.Giving.{CanGive, IsLast, KeptGiving, coming, following, last_piece, lines_laid, lines_left, with_newline}
 use Rattle.tbl_picture.specs.PieceQueue.{KeptPieces, bytes_left}
 use Rattle.tbl_picture.specs.Frame.{before_lines, behind_lines, picture}
-use Rattle.tbl_picture.specs.Pieces.{AreWithin, bytes_of_all, piece_len, some_piece}
+use Rattle.tbl_picture.specs.Pieces.{AreWithin, bytes_of, bytes_of_all, piece_len, some_piece}
 use Rattle.tbl_picture.specs.Walks.{KeptWalk}
 use Rattle.tbl_picture.specs.declared.giving.Rest.{Rest}
 use Rattle.tbl_picture.specs.declared.giving.Rest.TheVariants.{Lines, Nothing, Read}
@@ -83,6 +83,14 @@ pub last-bytes : (block frame : List ℕ) (is : Bool) (bytes : List ℕ)
     → bytes ++ bytes_of_all block frame (some_piece (last_piece is)) ≡ with_newline is bytes
 last-bytes block frame false bytes = append-nil bytes
 last-bytes block frame true bytes = refl
+
+pub newline-last : (block frame : List ℕ) (is : Bool) (bytes : List ℕ) → bytes ++ bytes_of block frame (last_piece is) ≡ with_newline is bytes
+newline-last block frame false bytes = append-nil bytes
+newline-last block frame true bytes = refl
+
+pub last-len : (block frame : List ℕ) (is : Bool) → length (bytes_of block frame (last_piece is)) ≡ piece_len (last_piece is)
+last-len block frame false = refl
+last-len block frame true = refl
 
 pub last-within : (block frame : List ℕ) (is : Bool) → AreWithin block frame (some_piece (last_piece is))
 last-within block frame false = tt
@@ -160,12 +168,12 @@ module _ (t : KeptText) (r : KeptRows) (k : KeptFormat) (g : KeptGiving) where
   }
 
   -- the picture
-  module _ (indent : ℕ) (front : take g.frame_end g.frame ≡ before_lines indent) (behind : drop g.frame_end g.frame ≡ behind_lines indent) where
-    picture-bytes : lines_left t r k g.walk ≡ lines_laid t r k
+  module _ (indent width : ℕ) (front : take g.frame_end g.frame ≡ before_lines indent) (behind : drop g.frame_end g.frame ≡ behind_lines indent) where
+    picture-bytes : lines_left t r k g.walk ≡ lines_laid width t r k
         → bytes_of_all (block_of t) g.frame (some_piece (Frame 0 g.frame_end)) ++ (lines_left t r k g.walk ++ (drop g.frame_end g.frame ++ t.line))
-        ≡ picture indent (lines_laid t r k) ++ t.line
+        ≡ picture indent (lines_laid width t r k) ++ t.line
     picture-bytes walk =
-        let lines = lines_laid t r k in
+        let lines = lines_laid width t r k in
         let whole : g.frame_end - 0 ≡ g.frame_end = omega arith in
         ap (λ (bytes : List ℕ). bytes ++ (lines_left t r k g.walk ++ (drop g.frame_end g.frame ++ t.line)))
         (frame-alone (block_of t) g.frame 0 g.frame_end ∙ ap (λ (n : ℕ). take n g.frame) whole ∙ front)
@@ -174,9 +182,9 @@ module _ (t : KeptText) (r : KeptRows) (k : KeptFormat) (g : KeptGiving) where
         ∙ ap (λ (bytes : List ℕ). before_lines indent ++ bytes) (sym (append_assoc lines (behind_lines indent) t.line))
         ∙ sym (append_assoc (before_lines indent) (lines ++ behind_lines indent) t.line)
 
-    pub coming-picture : lines_left t r k g.walk ≡ lines_laid t r k
+    pub coming-picture : lines_left t r k g.walk ≡ lines_laid width t r k
         → coming t r k (giving_of (some_piece (Frame 0 g.frame_end)) g Lines)
-        ≡ with_newline g.has_newline (picture indent (lines_laid t r k) ++ t.line)
+        ≡ with_newline g.has_newline (picture indent (lines_laid width t r k) ++ t.line)
     coming-picture walk =
         newline-append g.has_newline (bytes_of_all (block_of t) g.frame (some_piece (Frame 0 g.frame_end))) (lines_left t r k g.walk ++ (drop g.frame_end g.frame ++ t.line))
         ∙ ap (with_newline g.has_newline) (picture-bytes walk)

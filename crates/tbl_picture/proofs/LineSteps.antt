@@ -58,6 +58,7 @@ module _ (row : WalkedRow) (w : KeptWalk) (frame : List ℕ) (before after : Kep
         };
         less = omega (arith, old_steps);
         element = refl;
+        width = refl;
         room = refl;
       }
 
@@ -94,6 +95,7 @@ module _ (row : WalkedRow) (w : KeptWalk) (frame : List ℕ) (before after : Kep
           adds = adds;
           all = left-now ∙ ap (λ (n : ℕ). newline ∷ lines_from 0 n (map behind_first (cells_now row w))) none;
           element = refl;
+          width = refl;
           room = refl;
         }
     ended-by false is =
@@ -123,5 +125,6 @@ module _ (row : WalkedRow) (w : KeptWalk) (frame : List ℕ) (before after : Kep
           };
           less = omega (arith, old_steps, ap (λ (k : ℕ). steps_of_rest row.bytes (row.height - k) row.entries) next-is);
           element = refl;
+          width = refl;
           room = refl;
         }

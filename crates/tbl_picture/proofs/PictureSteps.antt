@@ -4,10 +4,11 @@ use Rattle.std.specs.List.{AllByRecursion, slice_range}
 use Rattle.std.proofs.lemmas.List.Concat.{flat_map-cons}
 use Rattle.roff_source.specs.Bytes.{newline}
 use Rattle.tbl_format.specs.Format.{FormatRow}
-use Rattle.tbl_kept.specs.Rows.{Command, CommandLies, ElementLaid, KeptElement, KeptRows, Row, RowLaid, element_of, elements_of}
+use Rattle.tbl_kept.specs.Rows.{Command, CommandLies, ElementLaid, KeptElement, KeptRows, Row, RowLaid, Rule, element_of, elements_of}
 use Rattle.tbl_layout.specs.declared.columns.Column.{Column}
+use Rattle.tbl_layout.specs.declared.data_lines.RuleSign.{RuleSign}
 use Rattle.tbl_layout.specs.declared.entry.Entry.{Entry}
-use Rattle.tbl_picture.specs.PictureLines.{lines_from, lines_of_element, picture_lines}
+use Rattle.tbl_picture.specs.PictureLines.{lines_from, lines_of_element, picture_lines, rule_line}
 use Rattle.tbl_picture.specs.PieceQueue.{Adds, KeptPieces, bytes_left}
 use Rattle.tbl_picture.specs.Pieces.{AreWithin}
 use Rattle.tbl_picture.specs.RowsLeft.{cell_left, given, word_given}
@@ -77,25 +78,28 @@ does-element (AtWord word width place) false frame row old new before after s = 
 
 -- a walk before an element
 module _ (bytes : List ℕ) (formats : List FormatRow) (columns : List Column) (w : KeptWalk) (next : w.next ≡ AtElement) where
-  fresh-lines : (elements : List KeptElement) → elements_to_come bytes formats columns w elements ≡ picture_lines columns (elements_of bytes formats elements)
+  fresh-lines : (elements : List KeptElement) → elements_to_come bytes formats columns w elements ≡ picture_lines w.picture_width columns (elements_of bytes formats elements)
   fresh-lines [] = refl
   fresh-lines (Row keys height entries ∷ elements) =
       let e = element_of bytes formats (Row keys height entries) in
       let rest = elements_of bytes formats elements in
-      ap (λ (n : Next). row_to_come n (lines_of_element columns e) (row_left n (walked bytes formats columns keys height entries) w) ++ picture_lines columns rest) next
-      ∙ sym (flat_map-cons (lines_of_element columns) e rest)
+      ap (λ (n : Next). row_to_come n (lines_of_element w.picture_width columns e) (row_left n (walked bytes formats columns keys height entries) w) ++ picture_lines w.picture_width columns rest) next
+      ∙ sym (flat_map-cons (lines_of_element w.picture_width columns) e rest)
+  fresh-lines (Rule sign ∷ elements) = refl
   fresh-lines (Command from to ∷ elements) = refl
 
   fresh-stands : (elements : List KeptElement) → StandsAt bytes formats columns w elements
   fresh-stands [] = tt
   fresh-stands (Row keys height entries ∷ elements) =
       subst (λ (n : Next). IsUnderWay n (walked bytes formats columns keys height entries) w) (sym next) tt
+  fresh-stands (Rule sign ∷ elements) = next
   fresh-stands (Command from to ∷ elements) = next
 
   fresh-steps : (elements : List KeptElement) → steps_at bytes w elements ≡ steps_of (most_steps bytes) elements
   fresh-steps [] = refl
   fresh-steps (Row keys height entries ∷ elements) =
       ap (λ (n : Next). row_steps n bytes height entries w + steps_of (most_steps bytes) elements) next
+  fresh-steps (Rule sign ∷ elements) = refl
   fresh-steps (Command from to ∷ elements) = refl
 
 module _ (bytes : List ℕ) (formats : List FormatRow) (rows : KeptRows) (w : KeptWalk) (can : CanWalk bytes formats rows w) (frame : List ℕ)
@@ -105,17 +109,18 @@ module _ (bytes : List ℕ) (formats : List FormatRow) (rows : KeptRows) (w : Ke
   row = walked bytes formats rows.columns keys height entries
 
   abbrev pub whole : List ℕ
-  whole = lines_of_element rows.columns (element_of bytes formats (Row keys height entries))
+  whole = lines_of_element w.picture_width rows.columns (element_of bytes formats (Row keys height entries))
 
   abbrev pub lines-behind-row : List ℕ
-  lines-behind-row = picture_lines rows.columns (elements_of bytes formats elements)
+  lines-behind-row = picture_lines w.picture_width rows.columns (elements_of bytes formats elements)
 
   -- what is to come of a walk within the row
-  to-come-on : (k : KeptWalk) → k.element ≡ w.element → IsOn k.next
+  to-come-on : (k : KeptWalk) → k.element ≡ w.element → k.picture_width ≡ w.picture_width → IsOn k.next
       → still_to_come bytes formats rows k ≡ row_left k.next row k ++ lines-behind-row
-  to-come-on k same on =
+  to-come-on k same width on =
       ap (λ (n : ℕ). elements_to_come bytes formats rows.columns k (drop n rows.elements)) same
       ∙ ap (elements_to_come bytes formats rows.columns k) at
+      ∙ ap (λ (n : ℕ). row_to_come k.next whole (row_left k.next row k) ++ picture_lines n rows.columns (elements_of bytes formats elements)) width
       ∙ ap (λ (left : List ℕ). left ++ lines-behind-row) (left-on k.next whole (row_left k.next row k) on)
 
   stands-now : IsUnderWay w.next row w
@@ -128,7 +133,7 @@ module _ (bytes : List ℕ) (formats : List FormatRow) (rows : KeptRows) (w : Ke
   some-now on =
       omega (
         arith,
-        ap length (to-come-on w refl on),
+        ap length (to-come-on w refl refl on),
         length-append (row_left w.next row w) lines-behind-row,
         some-on w.next row w on stands-now,
       )
@@ -142,7 +147,7 @@ module _ (bytes : List ℕ) (formats : List FormatRow) (rows : KeptRows) (w : Ke
   row-begins next =
       let new = row_begun entries w in
       let all = row-laid in
-      let lines = lines-begun bytes formats rows.columns keys height entries all in
+      let lines = lines-begun w.picture_width bytes formats rows.columns keys height entries all in
       let high : 0 < height = omega (arith, all.high) in
       let old_lines : still_to_come bytes formats rows w ≡ whole ++ lines-behind-row =
       ap (elements_to_come bytes formats rows.columns w) at
@@ -199,10 +204,10 @@ module _ (bytes : List ℕ) (formats : List FormatRow) (rows : KeptRows) (w : Ke
         less = omega (arith, steps-now, ap (steps_at bytes new) there, s.less);
         same =
             ap (λ (front : List ℕ). front ++ still_to_come bytes formats rows new) (s.adds.left within)
-            ∙ ap (λ (rest : List ℕ). (bytes_left bytes frame before ++ s.added) ++ rest) (to-come-on new s.element s.on)
+            ∙ ap (λ (rest : List ℕ). (bytes_left bytes frame before ++ s.added) ++ rest) (to-come-on new s.element s.width s.on)
             ∙ append_assoc (bytes_left bytes frame before) s.added (left ++ lines-behind-row)
             ∙ ap (λ (rest : List ℕ). bytes_left bytes frame before ++ rest) (sym (append_assoc s.added left lines-behind-row)
-            ∙ ap (λ (rest : List ℕ). rest ++ lines-behind-row) (sym s.joins) ∙ sym (to-come-on w refl on));
+            ∙ ap (λ (rest : List ℕ). rest ++ lines-behind-row) (sym s.joins) ∙ sym (to-come-on w refl refl on));
         within = s.adds.within within;
         few = s.adds.few;
         grown = s.adds.grown;
@@ -218,7 +223,8 @@ module _ (bytes : List ℕ) (formats : List FormatRow) (rows : KeptRows) (w : Ke
       let there : drop (mid.element + 1) rows.elements ≡ elements =
       ap (λ (n : ℕ). drop n rows.elements) next_is ∙ drop-next w.element rows.elements (Row keys height entries) elements at in
       let lines : still_to_come bytes formats rows new ≡ lines-behind-row =
-      ap (elements_to_come bytes formats rows.columns new) there ∙ fresh-lines bytes formats rows.columns new refl elements in
+      ap (elements_to_come bytes formats rows.columns new) there ∙ fresh-lines bytes formats rows.columns new refl elements
+      ∙ ap (λ (n : ℕ). picture_lines n rows.columns (elements_of bytes formats elements)) s.width in
       record {
         some = some-now on;
         can = record {
@@ -232,7 +238,7 @@ module _ (bytes : List ℕ) (formats : List FormatRow) (rows : KeptRows) (w : Ke
             ap (λ (front : List ℕ). front ++ still_to_come bytes formats rows new) (s.adds.left within)
             ∙ ap (λ (rest : List ℕ). (bytes_left bytes frame before ++ s.added) ++ rest) lines
             ∙ append_assoc (bytes_left bytes frame before) s.added lines-behind-row
-            ∙ ap (λ (rest : List ℕ). bytes_left bytes frame before ++ rest) (ap (λ (rest : List ℕ). rest ++ lines-behind-row) (sym s.all) ∙ sym (to-come-on w refl on));
+            ∙ ap (λ (rest : List ℕ). bytes_left bytes frame before ++ rest) (ap (λ (rest : List ℕ). rest ++ lines-behind-row) (sym s.all) ∙ sym (to-come-on w refl refl on));
         within = s.adds.within within;
         few = s.adds.few;
         grown = s.adds.grown;
@@ -254,37 +260,33 @@ module _ (bytes : List ℕ) (formats : List FormatRow) (rows : KeptRows) (w : Ke
   row-by (AtWord word width place) true mid next s = row-ends mid (subst IsOn (sym next) tt) s
   row-by (AtWord word width place) false mid next s = row-goes-on mid (subst IsOn (sym next) tt) s
 
--- a command
+-- an element that is no row
 module _ (bytes : List ℕ) (formats : List FormatRow) (rows : KeptRows) (w : KeptWalk) (can : CanWalk bytes formats rows w) (frame : List ℕ)
-    (before after : KeptPieces) (within : AreWithin bytes frame before.pieces) (from to : ℕ) (elements : List KeptElement)
-    (at : drop w.element rows.elements ≡ Command from to ∷ elements) where
-  pub command-lies : CommandLies bytes from to
-  command-lies = all-at (ElementLaid bytes formats rows.columns) w.element rows.elements (Command from to) elements can.laid at
-
-  pub command-steps : Adds bytes frame 4 before after (slice_range bytes from to ++ newline ∷ [])
+    (before after : KeptPieces) (within : AreWithin bytes frame before.pieces) (elements : List KeptElement) where
+  -- its line is given at once
+  line-steps : (e : KeptElement) (text : List ℕ) → drop w.element rows.elements ≡ e ∷ elements → w.next ≡ AtElement
+      → elements_to_come bytes formats rows.columns w (e ∷ elements) ≡ text ++ picture_lines w.picture_width rows.columns (elements_of bytes formats elements)
+      → steps_at bytes w (e ∷ elements) ≡ suc (steps_of (most_steps bytes) elements) → 0 < length text
+      → Adds bytes frame 4 before after text
       → Steps bytes frame formats rows w (record w { element = w.element + 1 }) before after
-  command-steps adds =
+  line-steps e text at next lines steps some adds =
       let new : KeptWalk = record w { element = w.element + 1 } in
-      let text = slice_range bytes from to ++ newline ∷ [] in
-      let rest = picture_lines rows.columns (elements_of bytes formats elements) in
-      let next : w.next ≡ AtElement = subst (StandsAt bytes formats rows.columns w) at can.row in
+      let rest = picture_lines w.picture_width rows.columns (elements_of bytes formats elements) in
       let next_is : w.element + 1 ≡ suc w.element = omega arith in
       let there : drop (w.element + 1) rows.elements ≡ elements =
-      ap (λ (n : ℕ). drop n rows.elements) next_is ∙ drop-next w.element rows.elements (Command from to) elements at in
-      let old_lines : still_to_come bytes formats rows w ≡ text ++ rest =
-      ap (elements_to_come bytes formats rows.columns w) at
-      ∙ flat_map-cons (lines_of_element rows.columns) (element_of bytes formats (Command from to)) (elements_of bytes formats elements) in
+      ap (λ (n : ℕ). drop n rows.elements) next_is ∙ drop-next w.element rows.elements e elements at in
+      let old_lines : still_to_come bytes formats rows w ≡ text ++ rest = ap (elements_to_come bytes formats rows.columns w) at ∙ lines in
       let new_lines : still_to_come bytes formats rows new ≡ rest =
       ap (elements_to_come bytes formats rows.columns new) there ∙ fresh-lines bytes formats rows.columns new next elements in
       record {
-        some = omega (arith, ap length old_lines, length-append text rest, length-append (slice_range bytes from to) (newline ∷ []));
+        some = omega (arith, ap length old_lines, length-append text rest, some);
         can = record {
           laid = can.laid;
           narrow = can.narrow;
           room = can.room;
           row = subst (StandsAt bytes formats rows.columns new) (sym there) (fresh-stands bytes formats rows.columns new next elements);
         };
-        less = omega (arith, ap (steps_at bytes w) at, ap (steps_at bytes new) there, fresh-steps bytes formats rows.columns new next elements);
+        less = omega (arith, ap (steps_at bytes w) at, steps, ap (steps_at bytes new) there, fresh-steps bytes formats rows.columns new next elements);
         same =
             ap (λ (front : List ℕ). front ++ still_to_come bytes formats rows new) (adds.left within)
             ∙ ap (λ (more : List ℕ). (bytes_left bytes frame before ++ text) ++ more) new_lines
@@ -296,3 +298,25 @@ module _ (bytes : List ℕ) (formats : List FormatRow) (rows : KeptRows) (w : Ke
         pieces_room = adds.room;
         room = refl;
       }
+
+  -- a command
+  pub command-lies : (from to : ℕ) → drop w.element rows.elements ≡ Command from to ∷ elements → CommandLies bytes from to
+  command-lies from to at = all-at (ElementLaid bytes formats rows.columns) w.element rows.elements (Command from to) elements can.laid at
+
+  pub command-steps : (from to : ℕ) → drop w.element rows.elements ≡ Command from to ∷ elements
+      → Adds bytes frame 4 before after (slice_range bytes from to ++ newline ∷ [])
+      → Steps bytes frame formats rows w (record w { element = w.element + 1 }) before after
+  command-steps from to at adds =
+      let text = slice_range bytes from to ++ newline ∷ [] in
+      line-steps (Command from to) text at (subst (StandsAt bytes formats rows.columns w) at can.row)
+      (flat_map-cons (lines_of_element w.picture_width rows.columns) (element_of bytes formats (Command from to)) (elements_of bytes formats elements))
+      refl (omega (arith, length-append (slice_range bytes from to) (newline ∷ []))) adds
+
+  -- a rule
+  pub rule-steps : (sign : RuleSign) → drop w.element rows.elements ≡ Rule sign ∷ elements
+      → Adds bytes frame 4 before after (rule_line w.picture_width sign)
+      → Steps bytes frame formats rows w (record w { element = w.element + 1 }) before after
+  rule-steps sign at adds =
+      line-steps (Rule sign) (rule_line w.picture_width sign) at (subst (StandsAt bytes formats rows.columns w) at can.row)
+      (flat_map-cons (lines_of_element w.picture_width rows.columns) (element_of bytes formats (Rule sign)) (elements_of bytes formats elements))
+      refl (omega arith) adds

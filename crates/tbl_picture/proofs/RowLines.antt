@@ -9,16 +9,19 @@ use Rattle.tbl_format.specs.declared.format.Key.{Key}
 use Rattle.tbl_kept.specs.Rows.{AreLaid, Row, RowLaid, element_of, measures}
 use Rattle.tbl_format.specs.RowsServed.{row_at}
 use Rattle.tbl_layout.specs.Columns.{greatest, place_in, stands, text_stands}
+use Rattle.tbl_layout.specs.DataLines.{sign_byte}
 use Rattle.tbl_layout.specs.Entries.{Block, Content, field_at, up_to_last_glyph, Run, Text, block_line, is_number, key_at, lines_of_field, run_of}
 use Rattle.tbl_layout.specs.KeptEntries.{IsFilled, IsLaid, IsLaidBy, IsText, block_lines, content_by, content_of, kind_with, lines_by, stands_by, stands_of, text_entry}
 use Rattle.tbl_layout.specs.declared.columns.Column.{Column}
 use Rattle.tbl_layout.specs.declared.columns.Stands.{Stands}
+use Rattle.tbl_layout.specs.declared.data_lines.RuleSign.{RuleSign}
 use Rattle.tbl_layout.specs.declared.entry.Entry.{Entry}
 use Rattle.tbl_layout.specs.declared.entry.EntryKind.{EntryKind}
-use Rattle.tbl_layout.specs.declared.entry.EntryKind.TheVariants.{Block as BlockKind, Split as SplitKind, Text as TextKind}
-use Rattle.tbl_picture.specs.PictureLines.{Cell, at_column, cells_from, end_of, line_of, lines_from, lines_of_element, written}
-use Rattle.tbl_picture.specs.RowsLeft.{block_text, cell_left, lines_left_by, row_columns, text_lines, text_run}
+use Rattle.tbl_layout.specs.declared.entry.EntryKind.TheVariants.{Block as BlockKind, Repeated as RepeatedKind, Ruled as RuledKind, Short as ShortKind, Split as SplitKind, Text as TextKind}
+use Rattle.tbl_picture.specs.PictureLines.{Cell, at_column, cell_of, cells_from, end_of, is_ruled, one_run, repeated, rule_end, line_of, lines_from, lines_of_element, written}
+use Rattle.tbl_picture.specs.RowsLeft.{begins_at, begins_by, block_text, cell_left, end_by, is_ruled_by, lines_left_by, row_columns, rule_end_by, text_lines, text_run}
 use Rattle.tbl_picture.specs.Walks.{first_place}
+use Rattle.tbl_picture.specs.declared.row_columns.RowColumn.{RowColumn}
 use Rattle.roff_source.specs.Bytes.{newline}
 use Rattle.tbl_picture.proofs.RowColumns.{drop-next, drop-none}
 use Rattle.tbl_picture.proofs.RowsBegun.{split-is, text-run}
@@ -76,17 +79,18 @@ text-high : (measure : ℕ) (key : Key) (all : List ℕ) → max 1 (length (line
 text-high measure key [] = omega arith
 text-high measure key (b ∷ all) = omega arith
 
--- what is left of a field that begins is the field
-record FieldSame (bytes : List ℕ) (measure : ℕ) (key : Key) (e : Entry) : Type 0 where
-  stands : stands_of key e ≡ stands measure key (content_of bytes e)
-  lines : lines_left_by e.kind bytes 0 measure e (first_place e) ≡ lines_of_field measure key (content_of bytes e)
-  high : max 1 (length (lines_of_field measure key (content_of bytes e))) ≡ max 1 (lines_by e.kind)
+-- what is left of a text or a block that begins is that
+record FieldSame (bytes : List ℕ) (c : Column) (end : ℕ) (key : Key) (e : Entry) (f : Content) : Type 0 where
+  begins : begins_by e.kind c key e ≡ c.start + place_in c key (stands_of key e)
+  stands : stands_of key e ≡ stands c.measure key f
+  lines : lines_left_by e.kind bytes 0 c end e (first_place e) ≡ lines_of_field c.measure key f
+  high : max 1 (length (lines_of_field c.measure key f)) ≡ max 1 (lines_by e.kind)
 
-module _ (bytes : List ℕ) (measure : ℕ) (key : Key) (e : Entry) where
+module _ (bytes : List ℕ) (c : Column) (end : ℕ) (key : Key) (e : Entry) where
   text-lines-by : (p : BlockPlace) (split : Option Split) (all : List ℕ) → (measured (is_number key) all).split ≡ split → slice_range bytes e.from e.to ≡ all
       → e.from ≤ e.to → e.to ≤ length bytes
-      → lines_left_by (kind_with e.from (e.from + (measured (is_number key) all).glyphs) (measured (is_number key) all).width split) bytes 0 measure e p
-      ≡ lines_of_field measure key (Text all)
+      → lines_left_by (kind_with e.from (e.from + (measured (is_number key) all).glyphs) (measured (is_number key) all).width split) bytes 0 c end e p
+      ≡ lines_of_field c.measure key (Text all)
   text-lines-by p None [] is slice order within =
       let none : e.from ≡ e.to = omega (arith, order, ap length slice, length-slice_range bytes e.from e.to within) in
       let m = measured (is_number key) [] in
@@ -101,20 +105,25 @@ module _ (bytes : List ℕ) (measure : ℕ) (key : Key) (e : Entry) where
       let m = measured (is_number key) (b ∷ all) in
       ap (λ (run : Run). (run ∷ []) ∷ []) (split-is bytes e m s is ∙ ap (run_of m) slice)
 
-  text-field : IsText bytes (is_number key) e → content_of bytes e ≡ Text (slice_range bytes e.from e.to) → FieldSame bytes measure key e
-  text-field laid content =
+  text-begins : (from glyphs width : ℕ) (split : Option Split)
+      → begins_by (kind_with from glyphs width split) c key e ≡ c.start + place_in c key (stands_of key e)
+  text-begins from glyphs width None = refl
+  text-begins from glyphs width (Some s) = refl
+
+  text-field : IsText bytes (is_number key) e → FieldSame bytes c end key e (Text (slice_range bytes e.from e.to))
+  text-field laid =
       let all = slice_range bytes e.from e.to in
       let m = measured (is_number key) all in
       let kind : e.kind ≡ kind_with e.from (e.from + m.glyphs) m.width m.split = ap (λ (x : Entry). x.kind) laid.is in
       record {
-        stands = ap (stands_of key) laid.is ∙ text-stands measure key e.from all ∙ ap (stands measure key) (sym content);
+        begins = ap (λ (k : EntryKind). begins_by k c key e) kind ∙ text-begins e.from (e.from + m.glyphs) m.width m.split;
+        stands = ap (stands_of key) laid.is ∙ text-stands c.measure key e.from all;
         lines =
-            ap (λ (k : EntryKind). lines_left_by k bytes 0 measure e (first_place e)) kind
-            ∙ text-lines-by (first_place e) m.split all refl refl laid.order laid.within
-            ∙ ap (lines_of_field measure key) (sym content);
+            ap (λ (k : EntryKind). lines_left_by k bytes 0 c end e (first_place e)) kind
+            ∙ text-lines-by (first_place e) m.split all refl refl laid.order laid.within;
         high =
             let one : lines_by e.kind ≡ 1 = ap lines_by kind ∙ lines-one e.from (e.from + m.glyphs) m.width m.split in
-            ap (λ (c : Content). max 1 (length (lines_of_field measure key c))) content ∙ text-high measure key all ∙ omega (arith, one);
+            text-high c.measure key all ∙ omega (arith, one);
       }
 
   block-parts : (t : Bool) → nat_lt e.from e.to ≡ t → e.from ≤ e.to
@@ -126,26 +135,80 @@ module _ (bytes : List ℕ) (measure : ℕ) (key : Key) (e : Entry) where
       let none : (e.from == e.to) ≡ true = eq-eqb e.from e.to (omega (arith, order, ltb-false e.from e.to is)) in
       ap (λ (t : Bool). parts_of (if t then [] else lines_in (block_text bytes e))) (sym none)
 
-  block-field : IsFilled bytes measure e → content_of bytes e ≡ Block (block_lines bytes e.from e.to) → FieldSame bytes measure key e
-  block-field laid content =
+  block-field : IsFilled bytes c.measure e → FieldSame bytes c end key e (Block (block_lines bytes e.from e.to))
+  block-field laid =
       let lines = block_lines bytes e.from e.to in
-      let f : List Part → List (List Run) = λ parts. map block_line (lines_of measure parts) in
+      let f : List Part → List (List Run) = λ parts. map block_line (lines_of c.measure parts) in
       record {
-        stands = ap (λ (k : EntryKind). stands_by key k (e.from == e.to)) laid.is ∙ ap (stands measure key) (sym content);
+        begins = ap (λ (k : EntryKind). begins_by k c key e) laid.is;
+        stands = ap (λ (k : EntryKind). stands_by key k (e.from == e.to)) laid.is;
         lines =
-            ap (λ (k : EntryKind). lines_left_by k bytes 0 measure e (first_place e)) laid.is
-            ∙ ap f (block-parts (nat_lt e.from e.to) refl laid.lies.order)
-            ∙ ap (lines_of_field measure key) (sym content);
+            ap (λ (k : EntryKind). lines_left_by k bytes 0 c end e (first_place e)) laid.is
+            ∙ ap f (block-parts (nat_lt e.from e.to) refl laid.lies.order);
         high =
-            ap (λ (c : Content). max 1 (length (lines_of_field measure key c))) content
-            ∙ ap (λ (n : ℕ). max 1 n) (length-map (lines_of measure (parts_of lines)) block_line)
+            ap (λ (n : ℕ). max 1 n) (length-map (lines_of c.measure (parts_of lines)) block_line)
             ∙ ap (λ (k : EntryKind). max 1 (lines_by k)) (sym laid.is);
       }
 
-  field-by : (k : EntryKind) → k ≡ e.kind → IsLaidBy k bytes measure key e → FieldSame bytes measure key e
-  field-by (TextKind glyphs width) is laid = text-field laid (ap (λ (k : EntryKind). content_by k bytes e.from e.to) (sym is))
-  field-by (SplitKind s) is laid = text-field laid (ap (λ (k : EntryKind). content_by k bytes e.from e.to) (sym is))
-  field-by (BlockKind b) is laid = block-field laid (ap (λ (k : EntryKind). content_by k bytes e.from e.to) (sym is))
+-- whether a field is a rule that is drawn so
+ruled-same : (sign : RuleSign) (k : EntryKind) (bytes : List ℕ) (from to : ℕ) → is_ruled sign (content_by k bytes from to) ≡ is_ruled_by sign k
+ruled-same sign (TextKind glyphs width) bytes from to = refl
+ruled-same sign (SplitKind s) bytes from to = refl
+ruled-same sign (BlockKind b) bytes from to = refl
+ruled-same sign (RuledKind other) bytes from to = refl
+ruled-same sign ShortKind bytes from to = refl
+ruled-same sign (RepeatedKind b) bytes from to = refl
+
+-- what is left of a field that begins is the field, in front of these columns and these fields
+module _ (bytes : List ℕ) (c : Column) (columns : List Column) (key : Key) (e : Entry) (next : Content) (entries : List Entry) where
+  abbrev held : RowColumn
+  held = record { column = c; key = key; entry = e; place = first_place e; end = end_by e.kind c columns entries }
+
+  record CellSame : Type 0 where
+    cell : cell_of key c columns next (content_of bytes e) ≡ cell_left bytes 0 held
+    high : max 1 (length (cell_left bytes 0 held).lines) ≡ max 1 (lines_by e.kind)
+
+  -- what a field of a kind would be
+  abbrev cell_by : EntryKind → Cell
+  cell_by k = record { at = begins_by k c key e; lines = lines_left_by k bytes 0 c (end_by k c columns entries) e (first_place e) }
+
+  field-cell : (f : Content) → FieldSame bytes c (end_by e.kind c columns entries) key e f → content_of bytes e ≡ f
+      → cell_of key c columns next f ≡ record { at = c.start + place_in c key (stands c.measure key f); lines = lines_of_field c.measure key f }
+      → CellSame
+  field-cell f same content is =
+      let cell : ℕ → List (List Run) → Cell = λ at lines. record { at = at; lines = lines } in
+      let lines = lines_of_field c.measure key f in
+      record {
+        cell =
+            ap (cell_of key c columns next) content ∙ is
+            ∙ ap (λ (s : Stands). cell (c.start + place_in c key s) lines) (sym same.stands)
+            ∙ ap (λ (n : ℕ). cell n lines) (sym same.begins)
+            ∙ ap (cell (begins_at held)) (sym same.lines);
+        high = ap (λ (ls : List (List Run)). max 1 (length ls)) same.lines ∙ same.high;
+      }
+
+  rule-cell : (k : EntryKind) → k ≡ e.kind → cell_of key c columns next (content_by k bytes e.from e.to) ≡ cell_by k
+      → max 1 (length (cell_by k).lines) ≡ max 1 (lines_by k) → CellSame
+  rule-cell k is cell high = record {
+    cell = ap (λ (x : EntryKind). cell_of key c columns next (content_by x bytes e.from e.to)) (sym is) ∙ cell ∙ ap cell_by is;
+    high = ap (λ (x : EntryKind). max 1 (length (cell_by x).lines)) (sym is) ∙ high ∙ ap (λ (x : EntryKind). max 1 (lines_by x)) is;
+  }
+
+  cell-same : (k : EntryKind) → k ≡ e.kind → IsLaidBy k bytes c.measure key e
+      → ((sign : RuleSign) → rule_end sign c columns next ≡ rule_end_by sign c columns entries) → CellSame
+  cell-same (TextKind glyphs width) is laid ends =
+      field-cell (Text (slice_range bytes e.from e.to)) (text-field bytes c (end_by e.kind c columns entries) key e laid)
+      (ap (λ (k : EntryKind). content_by k bytes e.from e.to) (sym is)) refl
+  cell-same (SplitKind s) is laid ends =
+      field-cell (Text (slice_range bytes e.from e.to)) (text-field bytes c (end_by e.kind c columns entries) key e laid)
+      (ap (λ (k : EntryKind). content_by k bytes e.from e.to) (sym is)) refl
+  cell-same (BlockKind b) is laid ends =
+      field-cell (Block (block_lines bytes e.from e.to)) (block-field bytes c (end_by e.kind c columns entries) key e laid)
+      (ap (λ (k : EntryKind). content_by k bytes e.from e.to) (sym is)) refl
+  cell-same (RuledKind sign) is laid ends =
+      rule-cell (RuledKind sign) is (ap (λ (end : ℕ). one_run c.start (repeated (sign_byte sign) (end - c.start))) (ends sign)) refl
+  cell-same ShortKind is laid ends = rule-cell ShortKind is refl refl
+  cell-same (RepeatedKind b) is laid ends = rule-cell (RepeatedKind b) is refl refl
 
 -- the same cells, and behind them such as have no line
 abbrev SameLines : List Cell → List Cell → Type 0
@@ -187,16 +250,36 @@ module _ (bytes : List ℕ) (format : FormatRow) (all_columns : List Column) (al
   past-same column [] past = tt
   past-same column (c ∷ columns) past =
       let none : field_at fields column ≡ Text [] =
-      get-past column fields (Text []) (drop-map (content_of bytes) column all_entries ∙ ap (map (content_of bytes)) past) in
-      (ap (lines_of_field c.measure (key_at format column)) none, past-same (suc column) columns (drop-past column all_entries past))
+      get-past column fields (Text []) (drop-map (content_of bytes) column all_entries ∙ ap (map (content_of bytes)) past) in (
+        ap (λ (f : Content). (cell_of (key_at format column) c columns (field_at fields (suc column)) f).lines) none,
+        past-same (suc column) columns (drop-past column all_entries past),
+      )
 
-  field-at : (column : ℕ) (c : Column) (columns : List Column) (e : Entry) → drop column all_columns ≡ c ∷ columns
-      → IsLaid bytes (measures all_columns column) (key_at format column) e → FieldSame bytes c.measure (key_at format column) e
-  field-at column c columns e at laid =
+  -- a field of the row, and where a rule ends in front of it
+  content-at : (column : ℕ) (e : Entry) (entries : List Entry) → drop column all_entries ≡ e ∷ entries → field_at fields column ≡ content_of bytes e
+  content-at column e entries at =
+      get-at column fields (content_of bytes e) (map (content_of bytes) entries) (Text [])
+      (drop-map (content_of bytes) column all_entries ∙ ap (map (content_of bytes)) at)
+
+  ends-same : (column : ℕ) (c : Column) (columns : List Column) (entries : List Entry) → drop column all_entries ≡ entries
+      → (sign : RuleSign) → rule_end sign c columns (field_at fields column) ≡ rule_end_by sign c columns entries
+  ends-same column c [] entries at sign = refl
+  ends-same column c (d ∷ columns) [] at sign =
+      ap (rule_end sign c (d ∷ columns))
+      (get-past column fields (Text []) (drop-map (content_of bytes) column all_entries ∙ ap (map (content_of bytes)) at))
+  ends-same column c (d ∷ columns) (e ∷ entries) at sign =
+      ap (rule_end sign c (d ∷ columns)) (content-at column e entries at)
+      ∙ ap (λ (t : Bool). if t then d.start else c.start + c.width) (ruled-same sign e.kind bytes e.from e.to)
+
+  field-at : (column : ℕ) (c : Column) (columns : List Column) (e : Entry) (entries : List Entry) → drop column all_columns ≡ c ∷ columns
+      → drop (suc column) all_entries ≡ entries → IsLaid bytes (measures all_columns column) (key_at format column) e
+      → CellSame bytes c columns (key_at format column) e (field_at fields (suc column)) entries
+  field-at column c columns e entries at behind laid =
       let m : measures all_columns column ≡ c.measure =
       get-at column (map (λ (x : Column). x.measure) all_columns) c.measure (map (λ (x : Column). x.measure) columns) 0
       (drop-map (λ (x : Column). x.measure) column all_columns ∙ ap (map (λ (x : Column). x.measure)) at) in
-      field-by bytes c.measure (key_at format column) e e.kind refl (subst (λ (n : ℕ). IsLaid bytes n (key_at format column) e) m laid)
+      cell-same bytes c columns (key_at format column) e (field_at fields (suc column)) entries e.kind refl
+      (subst (λ (n : ℕ). IsLaid bytes n (key_at format column) e) m laid) (ends-same (suc column) c columns entries behind)
 
   cells-same : (column : ℕ) (columns : List Column) (entries : List Entry) → drop column all_columns ≡ columns → drop column all_entries ≡ entries
       → length entries ≤ length columns → AreLaid bytes all_columns format column entries
@@ -205,45 +288,37 @@ module _ (bytes : List ℕ) (format : FormatRow) (all_columns : List Column) (al
   cells-same column [] (e ∷ entries) at_columns at_entries short laid = absurd (omega (arith, short))
   cells-same column (c ∷ columns) [] at_columns at_entries short laid = past-same column (c ∷ columns) at_entries
   cells-same column (c ∷ columns) (e ∷ entries) at_columns at_entries short laid =
-      let key = key_at format column in
-      let same = field-at column c columns e at_columns laid.0 in
-      let field : field_at fields column ≡ content_of bytes e =
-      get-at column fields (content_of bytes e) (map (content_of bytes) entries) (Text [])
-      (drop-map (content_of bytes) column all_entries ∙ ap (map (content_of bytes)) at_entries) in
-      let cell : Stands → List (List Run) → Cell = λ stands lines. record { at = c.start + place_in c key stands; lines = lines } in (
-        ap (λ (f : Content). cell (stands c.measure key f) (lines_of_field c.measure key f)) field
-            ∙ ap (λ (s : Stands). cell s (lines_of_field c.measure key (content_of bytes e))) (sym same.stands)
-            ∙ ap (cell (stands_of key e)) (sym same.lines),
-        cells-same (suc column) columns entries (drop-next column all_columns c columns at_columns) (drop-next column all_entries e entries at_entries)
-            (omega (arith, short)) laid.1,
+      let behind = drop-next column all_entries e entries at_entries in (
+        ap (cell_of (key_at format column) c columns (field_at fields (suc column))) (content-at column e entries at_entries)
+            ∙ (field-at column c columns e entries at_columns behind laid.0).cell,
+        cells-same (suc column) columns entries (drop-next column all_columns c columns at_columns) behind (omega (arith, short)) laid.1,
       )
 
-  rows-high : (column : ℕ) (columns : List Column) (entries : List Entry) → drop column all_columns ≡ columns
+  rows-high : (column : ℕ) (columns : List Column) (entries : List Entry) → drop column all_columns ≡ columns → drop column all_entries ≡ entries
       → length entries ≤ length columns → AreLaid bytes all_columns format column entries
       → max 1 (greatest (map (λ c. length c.lines) (map (cell_left bytes 0) (row_columns format.keys column columns entries (map first_place entries)))))
       ≡ max 1 (greatest (map (λ e. lines_by e.kind) entries))
-  rows-high column [] [] at_columns short laid = refl
-  rows-high column [] (e ∷ entries) at_columns short laid = absurd (omega (arith, short))
-  rows-high column (c ∷ columns) [] at_columns short laid = refl
-  rows-high column (c ∷ columns) (e ∷ entries) at_columns short laid =
-      let same = field-at column c columns e at_columns laid.0 in
+  rows-high column [] [] at_columns at_entries short laid = refl
+  rows-high column [] (e ∷ entries) at_columns at_entries short laid = absurd (omega (arith, short))
+  rows-high column (c ∷ columns) [] at_columns at_entries short laid = refl
+  rows-high column (c ∷ columns) (e ∷ entries) at_columns at_entries short laid =
+      let behind = drop-next column all_entries e entries at_entries in
       omega (
         arith,
-        ap length same.lines,
-        same.high,
-        rows-high (suc column) columns entries (drop-next column all_columns c columns at_columns) (omega (arith, short)) laid.1,
+        (field-at column c columns e entries at_columns behind laid.0).high,
+        rows-high (suc column) columns entries (drop-next column all_columns c columns at_columns) behind (omega (arith, short)) laid.1,
       )
 
 -- the lines of a row that begins
-pub lines-begun : (bytes : List ℕ) (formats : List FormatRow) (columns : List Column) (keys height : ℕ) (entries : List Entry)
+pub lines-begun : (width : ℕ) (bytes : List ℕ) (formats : List FormatRow) (columns : List Column) (keys height : ℕ) (entries : List Entry)
     → RowLaid bytes formats columns keys height entries
-    → lines_of_element columns (element_of bytes formats (Row keys height entries))
+    → lines_of_element width columns (element_of bytes formats (Row keys height entries))
     ≡ lines_from 0 (height - 0) (map (cell_left bytes 0) (row_columns (row_at formats keys).keys 0 columns entries (map first_place entries)))
-lines-begun bytes formats columns keys height entries laid =
+lines-begun width bytes formats columns keys height entries laid =
     let format = row_at formats keys in
     let cells = cells_from 0 columns format (map (content_of bytes) entries) in
     let left = map (cell_left bytes 0) (row_columns format.keys 0 columns entries (map first_place entries)) in
     let same = cells-same bytes format columns entries 0 columns entries refl refl laid.short laid.laid in
     let high : max 1 (greatest (map (λ c. length c.lines) cells)) ≡ height - 0 =
-    omega (arith, laid.high, highest-same cells left same, rows-high bytes format columns entries 0 columns entries refl laid.short laid.laid) in
+    omega (arith, laid.high, highest-same cells left same, rows-high bytes format columns entries 0 columns entries refl refl laid.short laid.laid) in
     ap (λ (n : ℕ). lines_from 0 n cells) high ∙ lines-same 0 (height - 0) cells left same

@@ -9,13 +9,13 @@ use Rattle.tbl_format.specs.Format.{FormatRow}
 use Rattle.tbl_format.specs.declared.format.Key.{Key}
 use Rattle.tbl_kept.specs.Rows.{AreLaid, measures}
 use Rattle.tbl_layout.specs.Entries.{Run, key_at, run_of, without}
-use Rattle.tbl_layout.specs.KeptEntries.{IsLaidBy, split_by}
+use Rattle.tbl_layout.specs.KeptEntries.{IsLaidBy, Lies, split_by}
 use Rattle.tbl_layout.specs.declared.columns.Column.{Column}
 use Rattle.tbl_layout.specs.declared.entry.Entry.{Entry}
 use Rattle.tbl_layout.specs.declared.entry.EntryKind.{EntryKind}
-use Rattle.tbl_layout.specs.declared.entry.EntryKind.TheVariants.{Block as BlockKind, Split as SplitKind, Text as TextKind}
+use Rattle.tbl_layout.specs.declared.entry.EntryKind.TheVariants.{Block as BlockKind, Repeated as RepeatedKind, Ruled as RuledKind, Short as ShortKind, Split as SplitKind, Text as TextKind}
 use Rattle.tbl_picture.specs.RowsLeft.{block_text, parts_to, split_run, text_run}
-use Rattle.tbl_picture.specs.RowsWalked.{EntryLies, PlacesLie}
+use Rattle.tbl_picture.specs.RowsWalked.{PlacesLie}
 use Rattle.tbl_picture.specs.Walks.{first_place}
 use Rattle.tbl_text.specs.BlockPlaces.{IsWithin}
 use Rattle.tbl_text.specs.declared.block_parts.BlockPlace.TheVariants.{AtEnd, AtLine}
@@ -74,13 +74,16 @@ module _ (bytes : List ℕ) (e : Entry) where
       ∙ ap (λ (split : Option Split). run (without split all) (without split (take m.glyphs all))) (sym is)
 
 -- what is kept of a row lies in the table's bytes
-entry-lies : (k : EntryKind) (bytes : List ℕ) (measure : ℕ) (key : Key) (e : Entry) → IsLaidBy k bytes measure key e → EntryLies bytes e
+entry-lies : (k : EntryKind) (bytes : List ℕ) (measure : ℕ) (key : Key) (e : Entry) → IsLaidBy k bytes measure key e → Lies bytes e
 entry-lies (TextKind glyphs width) bytes measure key e laid = record { order = laid.order; within = laid.within }
 entry-lies (SplitKind s) bytes measure key e laid = record { order = laid.order; within = laid.within }
-entry-lies (BlockKind b) bytes measure key e laid = record { order = laid.lies.order; within = laid.lies.within }
+entry-lies (BlockKind b) bytes measure key e laid = laid.lies
+entry-lies (RuledKind sign) bytes measure key e laid = laid
+entry-lies ShortKind bytes measure key e laid = laid
+entry-lies (RepeatedKind b) bytes measure key e laid = laid
 
 pub entries-lie : (bytes : List ℕ) (columns : List Column) (format : FormatRow) (column : ℕ) (entries : List Entry)
-    → AreLaid bytes columns format column entries → AllByRecursion (EntryLies bytes) entries
+    → AreLaid bytes columns format column entries → AllByRecursion (Lies bytes) entries
 entries-lie bytes columns format column [] laid = tt
 entries-lie bytes columns format column (e ∷ entries) laid =
     (entry-lies e.kind bytes (measures columns column) (key_at format column) e laid.0, entries-lie bytes columns format (suc column) entries laid.1)

@@ -5,12 +5,14 @@ use Rattle.std.proofs.lemmas.List.{drop-drop, drop-take, take-take}
 use Rattle.std.proofs.lemmas.List.Sums.{sum_by-cons}
 use Rattle.std.proofs.lemmas.Slice.{between_is}
 use Rattle.tbl_layout.specs.Entries.{Run, block_line, columns_of, further_words}
+use Rattle.tbl_layout.specs.KeptEntries.{Lies}
+use Rattle.tbl_layout.specs.declared.columns.Column.{Column}
 use Rattle.tbl_layout.specs.declared.entry.Entry.{Entry}
 use Rattle.tbl_layout.specs.declared.entry.EntryKind.{EntryKind}
-use Rattle.tbl_layout.specs.declared.entry.EntryKind.TheVariants.{Block, Split, Text}
+use Rattle.tbl_layout.specs.declared.entry.EntryKind.TheVariants.{Block, Repeated, Ruled, Short, Split, Text}
 use Rattle.tbl_picture.specs.PictureLines.{Cell}
 use Rattle.tbl_picture.specs.RowsLeft.{begins_at, behind_first, block_text, cell_left, first_of, lines_left_by}
-use Rattle.tbl_picture.specs.RowsWalked.{EntryLies, IsBlock}
+use Rattle.tbl_picture.specs.RowsWalked.{IsBlock}
 use Rattle.tbl_picture.specs.declared.row_columns.RowColumn.{RowColumn}
 use Rattle.tbl_text.proofs.BlockSlices.{length-slice_range}
 use Rattle.tbl_text.specs.BlockLines.{lines_of, width_behind}
@@ -43,7 +45,7 @@ columns-further width (OneWord w ∷ words) =
     )
 
 -- a block's bytes are no more than the table's
-pub few-bytes : (bytes : List ℕ) (e : Entry) → EntryLies bytes e → length (block_text bytes e) ≤ length bytes
+pub few-bytes : (bytes : List ℕ) (e : Entry) → Lies bytes e → length (block_text bytes e) ≤ length bytes
 few-bytes bytes e lies = omega (arith, lies.within, length-slice_range bytes (e.from + 1) e.to lies.within)
 
 pub few-left : (bytes : List ℕ) (p : BlockPlace) → left_at bytes p ≤ length bytes + 1
@@ -58,21 +60,24 @@ drop-of-none (suc n) [] none = refl
 drop-of-none (suc n) (x ∷ xs) none = absurd (cc)
 
 -- the lines of a block are those of what is left of it
-block-by : (k : EntryKind) (bytes : List ℕ) (line measure : ℕ) (e : Entry) (p : BlockPlace) → IsBlock k
-    → lines_left_by k bytes line measure e p ≡ map block_line (lines_of measure (parts_at (block_text bytes e) p))
-block-by (Text glyphs width) bytes line measure e p is = absurd is
-block-by (Split s) bytes line measure e p is = absurd is
-block-by (Block b) bytes line measure e p is = refl
+block-by : (k : EntryKind) (bytes : List ℕ) (line : ℕ) (c : Column) (end : ℕ) (e : Entry) (p : BlockPlace) → IsBlock k
+    → lines_left_by k bytes line c end e p ≡ map block_line (lines_of c.measure (parts_at (block_text bytes e) p))
+block-by (Text glyphs width) bytes line c end e p is = absurd is
+block-by (Split s) bytes line c end e p is = absurd is
+block-by (Block b) bytes line c end e p is = refl
+block-by (Ruled sign) bytes line c end e p is = absurd is
+block-by Short bytes line c end e p is = absurd is
+block-by (Repeated b) bytes line c end e p is = absurd is
 
 module _ (bytes : List ℕ) (line : ℕ) (r : RowColumn) (is : IsBlock r.entry.kind) where
   pub block-first : first_of (cell_left bytes line r)
       ≡ get_or (map block_line (lines_of r.column.measure (parts_at (block_text bytes r.entry) r.place))) 0 []
-  block-first = ap (λ (lines : List (List Run)). get_or lines 0 []) (block-by r.entry.kind bytes line r.column.measure r.entry r.place is)
+  block-first = ap (λ (lines : List (List Run)). get_or lines 0 []) (block-by r.entry.kind bytes line r.column r.end r.entry r.place is)
 
   pub block-moved : (p : BlockPlace) → map block_line (lines_of r.column.measure (parts_at (block_text bytes r.entry) p))
       ≡ drop 1 (map block_line (lines_of r.column.measure (parts_at (block_text bytes r.entry) r.place)))
       → cell_left bytes (suc line) (record r { place = p }) ≡ behind_first (cell_left bytes line r)
   block-moved p moved =
       let cell : List (List Run) → Cell = λ lines. record { at = begins_at r; lines = lines } in
-      ap cell (block-by r.entry.kind bytes (suc line) r.column.measure r.entry p is ∙ moved)
-      ∙ ap (λ (lines : List (List Run)). cell (drop 1 lines)) (sym (block-by r.entry.kind bytes line r.column.measure r.entry r.place is))
+      ap cell (block-by r.entry.kind bytes (suc line) r.column r.end r.entry p is ∙ moved)
+      ∙ ap (λ (lines : List (List Run)). cell (drop 1 lines)) (sym (block-by r.entry.kind bytes line r.column r.end r.entry r.place is))

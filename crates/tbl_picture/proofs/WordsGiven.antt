@@ -3,10 +3,11 @@ use Rattle.std.proofs.Common.{◌≡◌, ℕ, zero, suc, ◌+◌, ◌-◌, ◌<�
 use Rattle.std.specs.List.{slice_range}
 use Rattle.roff_source.specs.Bytes.{blank}
 use Rattle.tbl_layout.specs.Entries.{blanks, block_line, further_words, run_of_word}
+use Rattle.tbl_layout.specs.KeptEntries.{Lies}
 use Rattle.tbl_layout.specs.declared.entry.Entry.{Entry}
 use Rattle.tbl_picture.specs.PieceQueue.{Adds, KeptPieces}
 use Rattle.tbl_picture.specs.RowsLeft.{begins_at, block_text, end_given, given, given_of, if_given, one_less, word_given}
-use Rattle.tbl_picture.specs.RowsWalked.{EntryLies, StandsInFirst, StandsNext, most_steps, steps_of_columns, steps_of_word}
+use Rattle.tbl_picture.specs.RowsWalked.{StandsInFirst, StandsNext, most_steps, steps_of_columns, steps_of_word}
 use Rattle.tbl_picture.specs.Walks.{AtColumn, InWord, KeptWalk, RowSteps, WalkedRow, at_word, further_lines, passed, row_left, row_steps, steps_of_rest}
 use Rattle.tbl_picture.specs.declared.row_columns.RowColumn.{RowColumn}
 use Rattle.tbl_picture.specs.declared.walk.Next.{Next}
@@ -45,13 +46,13 @@ word-last block word (suc zero) within =
 word-last block word (suc (suc n)) within = refl
 
 -- the bytes of a word that lies in a block
-pub word-in : (bytes : List ℕ) (e : Entry) (from to : ℕ) → EntryLies bytes e → 0 < to → to ≤ length (block_text bytes e)
+pub word-in : (bytes : List ℕ) (e : Entry) (from to : ℕ) → Lies bytes e → 0 < to → to ≤ length (block_text bytes e)
     → slice_range bytes (e.from + 1 + from) (e.from + 1 + to) ≡ slice_range (block_text bytes e) from to
 word-in bytes e from to lies some within =
     let len = length-slice_range bytes (e.from + 1) e.to lies.within in
     sym (slice-in bytes (e.from + 1) e.to from to (omega (arith, some, within, len)))
 
-pub word-within : (bytes : List ℕ) (e : Entry) (to : ℕ) → EntryLies bytes e → 0 < to → to ≤ length (block_text bytes e) → e.from + 1 + to ≤ length bytes
+pub word-within : (bytes : List ℕ) (e : Entry) (to : ℕ) → Lies bytes e → 0 < to → to ≤ length (block_text bytes e) → e.from + 1 + to ≤ length bytes
 word-within bytes e to lies some within =
     omega (arith, some, within, lies.within, length-slice_range bytes (e.from + 1) e.to lies.within)
 

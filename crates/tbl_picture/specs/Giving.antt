@@ -35,9 +35,9 @@ pub record IsLaidOut (t : KeptText) (r : KeptRows) (k : KeptFormat) (columns : �
   pub narrow : AreNarrow r.columns
   pub small : length (block_of t) < 2 ^ 33
 
--- the lines of its picture
-abbrev pub lines_laid : KeptText → KeptRows → KeptFormat → List ℕ
-lines_laid t r k = picture_lines r.columns (elements_of (block_of t) (all_rows k.format) r.elements)
+-- the lines of its picture, which is so wide
+abbrev pub lines_laid : ℕ → KeptText → KeptRows → KeptFormat → List ℕ
+lines_laid width t r k = picture_lines width r.columns (elements_of (block_of t) (all_rows k.format) r.elements)
 
 -- what the walk is to give
 abbrev pub lines_left : KeptText → KeptRows → KeptFormat → KeptWalk → List ℕ

@@ -1,5 +1,6 @@
 pub mod Frame
 pub mod PictureLines
+pub mod WorkedPictures
 pub mod RowsLeft
 pub mod RowsWalked
 pub mod Walks

@@ -1,15 +1,16 @@
--- The pieces of which a line is given: parts of the block, and blanks between them.
+-- The pieces of which a line is given: parts of the block, and blanks and rules between them.
 use Rattle.std.specs.Prelude.{◌≡◌, ℕ, ◌-◌, ◌<◌, List, [], ◌∷◌, ◌++◌, length, replicate, codes, if◌then◌else◌, ◌==◌}
 use Rattle.std.specs.List.{slice_range, AllByRecursion}
 use Rattle.roff_source.specs.Bytes.{newline, blank, backslash}
 use Rattle.tbl_picture.specs.declared.picture.Piece.{Piece}
-use Rattle.tbl_picture.specs.declared.picture.Piece.TheVariants.{Blanks, Block, Frame, Joint, LineEnd, LineFront}
+use Rattle.tbl_picture.specs.declared.picture.Piece.TheVariants.{Blanks, Block, Frame, Joint, LineEnd, LineFront, Repeated}
 
 -- the bytes of a piece
 abbrev pub bytes_of : List ℕ → List ℕ → Piece → List ℕ
 bytes_of block frame (Block from to) = slice_range block from to
 bytes_of block frame (Frame from to) = slice_range frame from to
 bytes_of block frame (Blanks count) = replicate count blank
+bytes_of block frame (Repeated b count) = replicate count b
 bytes_of block frame LineFront = codes "\\&"
 bytes_of block frame LineEnd = newline ∷ []
 bytes_of block frame Joint = backslash ∷ newline ∷ []
@@ -19,6 +20,7 @@ abbrev pub piece_len : Piece → ℕ
 piece_len (Block from to) = to - from
 piece_len (Frame from to) = to - from
 piece_len (Blanks count) = count
+piece_len (Repeated b count) = count
 piece_len LineFront = 2
 piece_len LineEnd = 1
 piece_len Joint = 2

@@ -1,18 +1,21 @@
 -- What is left of a row of a table's picture, as it is walked: of each field its lines that were not given.
-use Rattle.std.specs.Prelude.{ℕ, zero, suc, ◌+◌, min, Bool, List, [], ◌∷◌, ◌++◌, drop, get_or, map, if◌then◌else◌, ◌==◌}
+use Rattle.std.specs.Prelude.{ℕ, zero, suc, ◌+◌, ◌-◌, min, Bool, false, List, [], ◌∷◌, ◌++◌, drop, get_or, map, if◌then◌else◌, ◌==◌}
 use Rattle.std.specs.List.{slice_range, flat_map}
 use Rattle.tbl_format.specs.declared.format.FormatKey.{FormatKey}
 use Rattle.tbl_format.specs.declared.format.Key.{Key}
 use Rattle.tbl_format.specs.declared.format.Key.TheVariants.{Left}
-use Rattle.tbl_layout.specs.Columns.{place_in}
+use Rattle.tbl_layout.specs.Columns.{place_in, place_of_rule, widest_entry}
+use Rattle.tbl_layout.specs.DataLines.{is_same_sign, sign_byte}
 use Rattle.tbl_layout.specs.Entries.{Run, block_line, further_words, run_of_word, up_to_last_glyph}
 use Rattle.tbl_layout.specs.KeptEntries.{stands_of}
 use Rattle.tbl_layout.specs.declared.columns.Column.{Column}
+use Rattle.tbl_layout.specs.declared.data_lines.RuleSign.{RuleSign}
+use Rattle.tbl_layout.specs.declared.data_lines.RuleSign.TheVariants.{Single}
 use Rattle.tbl_layout.specs.declared.entry.Entry.{Entry}
 use Rattle.tbl_layout.specs.declared.entry.EntryKind.{EntryKind}
-use Rattle.tbl_layout.specs.declared.entry.EntryKind.TheVariants.{Block, Split, Text}
+use Rattle.tbl_layout.specs.declared.entry.EntryKind.TheVariants.{Block, Repeated, Ruled, Short, Split, Text}
 use Rattle.tbl_layout.specs.declared.entry.SplitEntry.{SplitEntry}
-use Rattle.tbl_picture.specs.PictureLines.{Cell, at_column, end_of}
+use Rattle.tbl_picture.specs.PictureLines.{Cell, at_column, end_of, repeated}
 use Rattle.tbl_picture.specs.declared.row_columns.RowColumn.{RowColumn}
 use Rattle.tbl_text.specs.BlockLines.{lines_of, rest_of_line, width_behind}
 use Rattle.tbl_text.specs.BlockPlaces.{parts_at, word_at}
@@ -46,32 +49,63 @@ split_run bytes e s = record {
 abbrev pub text_lines : Bool → Run → List (List Run)
 text_lines is_empty run = if is_empty then [] else (run ∷ []) ∷ []
 
--- the lines of a field from one of its row on; the block that it is goes on at a place, in this measure
-abbrev pub lines_left_by : EntryKind → List ℕ → ℕ → ℕ → Entry → BlockPlace → List (List Run)
-lines_left_by (Text glyphs width) bytes line measure e place = drop line (text_lines (e.from == e.to) (text_run bytes e glyphs width))
-lines_left_by (Split s) bytes line measure e place = drop line ((split_run bytes e s ∷ []) ∷ [])
-lines_left_by (Block b) bytes line measure e place = map block_line (lines_of measure (parts_at (block_text bytes e) place))
+-- the lines of a byte that is repeated so often, from one of its row on: it stands on the first
+abbrev pub repeated_lines : ℕ → ℕ → ℕ → List (List Run)
+repeated_lines line b count = drop line ((repeated b count ∷ []) ∷ [])
+
+-- the lines of a field in its column from one of its row on; the rule that it is ends there, and the block that it is goes on at a
+-- place
+abbrev pub lines_left_by : EntryKind → List ℕ → ℕ → Column → ℕ → Entry → BlockPlace → List (List Run)
+lines_left_by (Text glyphs width) bytes line c end e place = drop line (text_lines (e.from == e.to) (text_run bytes e glyphs width))
+lines_left_by (Split s) bytes line c end e place = drop line ((split_run bytes e s ∷ []) ∷ [])
+lines_left_by (Block b) bytes line c end e place = map block_line (lines_of c.measure (parts_at (block_text bytes e) place))
+lines_left_by (Ruled sign) bytes line c end e place = repeated_lines line (sign_byte sign) (end - c.start)
+lines_left_by Short bytes line c end e place = repeated_lines line (sign_byte Single) (widest_entry c.needs)
+lines_left_by (Repeated b) bytes line c end e place = repeated_lines line b c.width
 
 -- the column of the page at which the field of a column stands
+abbrev pub begins_by : EntryKind → Column → Key → Entry → ℕ
+begins_by (Ruled sign) c key e = c.start
+begins_by Short c key e = c.start + place_of_rule c key
+begins_by (Repeated b) c key e = c.start
+begins_by kind c key e = c.start + place_in c key (stands_of key e)
+
 abbrev pub begins_at : RowColumn → ℕ
-begins_at r = r.column.start + place_in r.column r.key (stands_of r.key r.entry)
+begins_at r = begins_by r.entry.kind r.column r.key r.entry
 
 -- what is left of it from a line of the row on
 abbrev pub cell_left : List ℕ → ℕ → RowColumn → Cell
 cell_left bytes line r =
-    record { at = begins_at r; lines = lines_left_by r.entry.kind bytes line r.column.measure r.entry r.place }
+    record { at = begins_at r; lines = lines_left_by r.entry.kind bytes line r.column r.end r.entry r.place }
 
 -- the key of a column: behind those of a row come such as `l`
 abbrev pub key_of : List FormatKey → ℕ → Key
 key_of keys column = get_or (map (λ k. k.key) keys) column Left
 
--- the columns of a row from one on, as many as it has fields, with their keys, and where their blocks go on
+-- whether a field is a rule over its column that is drawn with this sign
+abbrev pub is_ruled_by : RuleSign → EntryKind → Bool
+is_ruled_by sign (Ruled other) = is_same_sign sign other
+is_ruled_by sign kind = false
+
+-- where a rule over a column ends, behind which these columns and these fields come
+abbrev pub rule_end_by : RuleSign → Column → List Column → List Entry → ℕ
+rule_end_by sign c [] entries = c.start + c.width
+rule_end_by sign c (d ∷ columns) [] = c.start + c.width
+rule_end_by sign c (d ∷ columns) (e ∷ entries) = if is_ruled_by sign e.kind then d.start else c.start + c.width
+
+-- where the field of a column ends, if it is a rule over it, else 0
+abbrev pub end_by : EntryKind → Column → List Column → List Entry → ℕ
+end_by (Ruled sign) c columns entries = rule_end_by sign c columns entries
+end_by kind c columns entries = 0
+
+-- the columns of a row from one on, as many as it has fields, with their keys, where their blocks go on, and where their rules end
 abbrev pub row_columns : List FormatKey → ℕ → List Column → List Entry → List BlockPlace → List RowColumn
 row_columns keys column [] entries places = []
 row_columns keys column (c ∷ columns) [] places = []
 row_columns keys column (c ∷ columns) (e ∷ entries) [] = []
 row_columns keys column (c ∷ columns) (e ∷ entries) (p ∷ places) =
-    record { column = c; key = key_of keys column; entry = e; place = p } ∷ row_columns keys (suc column) columns entries places
+    record { column = c; key = key_of keys column; entry = e; place = p; end = end_by e.kind c columns entries }
+    ∷ row_columns keys (suc column) columns entries places
 
 -- the first line of a cell, and a cell without it
 abbrev pub first_of : Cell → List Run

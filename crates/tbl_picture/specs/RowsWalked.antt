@@ -1,14 +1,14 @@
 -- What the walk of a row's lines needs, and how many steps it may take.
 use Rattle.std.specs.Prelude.{◌≡◌, ℕ, zero, suc, ◌+◌, ◌≤◌, ◌<◌, List, [], ◌∷◌, drop, length, map}
 use Rattle.std.specs.List.{AllByRecursion}
-use Rattle.tbl_kept.specs.Rows.{Command, KeptElement, Row}
+use Rattle.tbl_kept.specs.Rows.{Command, KeptElement, Row, Rule}
 use Rattle.tbl_layout.specs.Entries.{Run, block_line, up_to_last_glyph}
 use Rattle.tbl_layout.specs.declared.columns.Column.{Column}
 use Rattle.tbl_layout.specs.declared.entry.Entry.{Entry}
 use Rattle.tbl_layout.specs.declared.entry.EntryKind.{EntryKind}
-use Rattle.tbl_layout.specs.declared.entry.EntryKind.TheVariants.{Block, Split, Text}
+use Rattle.tbl_layout.specs.declared.entry.EntryKind.TheVariants.{Block}
 use Rattle.tbl_picture.specs.PictureLines.{Cell}
-use Rattle.tbl_picture.specs.RowsLeft.{block_text, first_of}
+use Rattle.tbl_picture.specs.RowsLeft.{block_text, first_of, lines_left_by, repeated_lines}
 use Rattle.tbl_picture.specs.declared.row_columns.RowColumn.{RowColumn}
 use Rattle.tbl_text.specs.BlockLines.{behind_rest, lines_of}
 use Rattle.tbl_text.specs.BlockPlaces.{IsWithin, LiesBehind, left_at, parts_at}
@@ -41,16 +41,14 @@ LastHasGlyph zero (c ∷ cells) = Unit {0}
 LastHasGlyph (suc zero) (c ∷ cells) = HasGlyph (first_of c)
 LastHasGlyph (suc (suc n)) (c ∷ cells) = LastHasGlyph (suc n) cells
 
--- a field lies in the table's bytes
-pub record EntryLies (bytes : List ℕ) (e : Entry) : Type 0 where
-  pub order : e.from ≤ e.to
-  pub within : e.to ≤ length bytes
-
 -- a field is a block
 abbrev pub IsBlock : EntryKind → Type 0
-IsBlock (Text glyphs width) = ⊥
-IsBlock (Split s) = ⊥
 IsBlock (Block b) = Unit {0}
+IsBlock kind = ⊥
+
+-- the field of a column is a byte that is repeated so often
+pub record Repeats (b count : ℕ) (r : RowColumn) : Type 0 where
+  pub lines : (bytes : List ℕ) (line : ℕ) → lines_left_by r.entry.kind bytes line r.column r.end r.entry r.place ≡ repeated_lines line b count
 
 -- the word of a column's block that comes next, on a line that is so wide with it, and the place behind it
 pub record StandsNext (bytes : List ℕ) (word : BlockWord) (width : ℕ) (place : BlockPlace) (r : RowColumn) : Type 0 where
@@ -80,6 +78,7 @@ steps_of_lines steps (suc count) = suc steps + steps_of_lines steps count
 abbrev pub steps_of : ℕ → List KeptElement → ℕ
 steps_of most [] = 0
 steps_of most (Row keys height entries ∷ elements) = suc (steps_of_lines (steps_of_columns most entries) height) + steps_of most elements
+steps_of most (Rule sign ∷ elements) = suc (steps_of most elements)
 steps_of most (Command from to ∷ elements) = suc (steps_of most elements)
 
 -- the most steps of what is left of a block's line, behind a place of the first field's block

@@ -5,14 +5,15 @@ use Rattle.roff_source.specs.Bytes.{newline}
 use Rattle.tbl_format.specs.Format.{FormatRow}
 use Rattle.tbl_format.specs.RowsServed.{row_at}
 use Rattle.tbl_format.specs.declared.format.FormatKey.{FormatKey}
-use Rattle.tbl_kept.specs.Rows.{Command, KeptElement, KeptRows, Row, RowsLaid, element_of, elements_of}
+use Rattle.tbl_kept.specs.Rows.{Command, KeptElement, KeptRows, Row, RowsLaid, Rule, element_of, elements_of}
+use Rattle.tbl_layout.specs.KeptEntries.{Lies}
 use Rattle.tbl_layout.specs.declared.columns.Column.{Column}
 use Rattle.tbl_layout.specs.declared.entry.Entry.{Entry}
 use Rattle.tbl_picture.specs.PictureLines.{Cell, lines_from, lines_of_element, picture_lines}
 use Rattle.tbl_picture.specs.PieceQueue.{Adds, KeptPieces, bytes_left}
 use Rattle.tbl_picture.specs.Pieces.{AreWithin}
 use Rattle.tbl_picture.specs.RowsLeft.{behind_first, block_text, cell_left, given, one_less, row_columns, word_given}
-use Rattle.tbl_picture.specs.RowsWalked.{AreNarrow, EntryLies, IsNarrow, LastHasGlyph, PlacesLie, StandsInFirst, most_steps, steps_of, steps_of_columns, steps_of_lines, steps_of_word}
+use Rattle.tbl_picture.specs.RowsWalked.{AreNarrow, IsNarrow, LastHasGlyph, PlacesLie, StandsInFirst, most_steps, steps_of, steps_of_columns, steps_of_lines, steps_of_word}
 use Rattle.tbl_picture.specs.declared.row_columns.RowColumn.{RowColumn}
 use Rattle.tbl_picture.specs.declared.row_columns.RowLent.{RowLent}
 use Rattle.tbl_picture.specs.declared.walk.Next.{Next}
@@ -24,8 +25,8 @@ use Rattle.tbl_text.specs.declared.block_parts.BlockPlace.TheVariants.{AtEnd, At
 use Rattle.tbl_text.specs.declared.block_words.BlockWord.{BlockWord}
 
 -- the element and the line of it, how many columns are left up to the line's last glyph, the column of the page that is reached,
--- what comes next, and for each column of the row where its block goes on: on this line, and behind it, of the columns that are
--- behind the walk
+-- what comes next, for each column of the row where its block goes on: on this line, and behind it, of the columns that are
+-- behind the walk; and how wide the picture is
 pub record KeptWalk : Type 0 where
   pub element : ℕ
   pub line : ℕ
@@ -34,6 +35,7 @@ pub record KeptWalk : Type 0 where
   pub next : Next
   pub places : List BlockPlace
   pub behind : List BlockPlace
+  pub picture_width : ℕ
   pub room : ℕ
 
 abbrev pub kept_by : Inside → KeptWalk
@@ -45,6 +47,7 @@ kept_by a = record {
   next = a.next;
   places = a.places.items;
   behind = a.behind.items;
+  picture_width = a.picture_width;
   room = a.room;
 }
 
@@ -109,19 +112,21 @@ walked bytes formats columns keys height entries =
 abbrev pub elements_to_come : List ℕ → List FormatRow → List Column → KeptWalk → List KeptElement → List ℕ
 elements_to_come bytes formats columns w [] = []
 elements_to_come bytes formats columns w (Row keys height entries ∷ elements) =
-    row_to_come w.next (lines_of_element columns (element_of bytes formats (Row keys height entries)))
+    row_to_come w.next (lines_of_element w.picture_width columns (element_of bytes formats (Row keys height entries)))
     (row_left w.next (walked bytes formats columns keys height entries) w)
-    ++ picture_lines columns (elements_of bytes formats elements)
+    ++ picture_lines w.picture_width columns (elements_of bytes formats elements)
+elements_to_come bytes formats columns w (Rule sign ∷ elements) =
+    picture_lines w.picture_width columns (elements_of bytes formats (Rule sign ∷ elements))
 elements_to_come bytes formats columns w (Command from to ∷ elements) =
-    picture_lines columns (elements_of bytes formats (Command from to ∷ elements))
+    picture_lines w.picture_width columns (elements_of bytes formats (Command from to ∷ elements))
 
 -- the bytes that are to come
 abbrev pub still_to_come : List ℕ → List FormatRow → KeptRows → KeptWalk → List ℕ
 still_to_come bytes formats rows w = elements_to_come bytes formats rows.columns w (drop w.element rows.elements)
 
--- nothing of the picture is given
-abbrev pub started : KeptWalk → KeptWalk
-started w = record w { element = 0; line = 0; next = AtElement }
+-- nothing of the picture is given, which is so wide
+abbrev pub started : ℕ → KeptWalk → KeptWalk
+started width w = record w { element = 0; line = 0; next = AtElement; picture_width = width }
 
 -- a row is before one of its lines
 pub record BeforeLine (row : WalkedRow) (w : KeptWalk) : Type 0 where
@@ -129,7 +134,7 @@ pub record BeforeLine (row : WalkedRow) (w : KeptWalk) : Type 0 where
   pub short : length row.entries ≤ length row.columns
   pub room : length row.entries ≤ w.room
   pub narrow : AreNarrow row.columns
-  pub lie : AllByRecursion (EntryLies row.bytes) row.entries
+  pub lie : AllByRecursion (Lies row.bytes) row.entries
   pub places : PlacesLie row.bytes row.entries w.places
 
 -- a row is within one of its lines: the blocks of the columns that are behind the walk go on behind this line
@@ -157,6 +162,7 @@ abbrev pub StandsAt : List ℕ → List FormatRow → List Column → KeptWalk �
 StandsAt bytes formats columns w [] = Unit {0}
 StandsAt bytes formats columns w (Row keys height entries ∷ elements) =
     IsUnderWay w.next (walked bytes formats columns keys height entries) w
+StandsAt bytes formats columns w (Rule sign ∷ elements) = w.next ≡ AtElement
 StandsAt bytes formats columns w (Command from to ∷ elements) = w.next ≡ AtElement
 
 -- what the walk needs
@@ -182,6 +188,7 @@ row_steps (AtWord word width place) bytes height entries w =
 abbrev pub steps_at : List ℕ → KeptWalk → List KeptElement → ℕ
 steps_at bytes w [] = 0
 steps_at bytes w (Row keys height entries ∷ elements) = row_steps w.next bytes height entries w + steps_of (most_steps bytes) elements
+steps_at bytes w (Rule sign ∷ elements) = suc (steps_of (most_steps bytes) elements)
 steps_at bytes w (Command from to ∷ elements) = suc (steps_of (most_steps bytes) elements)
 
 -- the most steps that are left
@@ -204,6 +211,7 @@ pub record RowSteps (frame : List ℕ) (row : WalkedRow) (old new : KeptWalk) (b
   pub can : IsUnderWay new.next row new
   pub less : row_steps new.next row.bytes row.height row.entries new < row_steps old.next row.bytes row.height row.entries old
   pub element : new.element ≡ old.element
+  pub width : new.picture_width ≡ old.picture_width
   pub room : new.room ≡ old.room
 
 -- a step within a row that ends it: these bytes are given, and nothing of the row is left
@@ -212,6 +220,7 @@ pub record RowEnds (frame : List ℕ) (row : WalkedRow) (old new : KeptWalk) (be
   pub adds : Adds row.bytes frame 4 before after added
   pub all : row_left old.next row old ≡ added
   pub element : new.element ≡ old.element
+  pub width : new.picture_width ≡ old.picture_width
   pub room : new.room ≡ old.room
 
 abbrev pub RowEndsOrGoesOn : Bool → List ℕ → WalkedRow → KeptWalk → KeptWalk → KeptPieces → KeptPieces → Type 0
@@ -249,7 +258,7 @@ pub record AtColumn (row : WalkedRow) (w : KeptWalk) (r : RowColumn) : Type 0 wh
   pub line : InLine row w
   pub first : columns_left row w ≡ r ∷ drop (suc (length w.behind)) (columns_walked row w)
   pub entries : drop (length w.behind) row.entries ≡ r.entry ∷ drop (suc (length w.behind)) row.entries
-  pub lies : EntryLies row.bytes r.entry
+  pub lies : Lies row.bytes r.entry
   pub within : IsWithin (block_text row.bytes r.entry) r.place
   pub narrow : IsNarrow r.column
   pub free : length w.behind < w.room

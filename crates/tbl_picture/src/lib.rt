@@ -7,3 +7,4 @@ pub mod picture;
 pub mod piece_queue;
 pub mod row_columns;
 pub mod walk;
+pub mod worked_rules;

@@ -2,7 +2,7 @@
 //! Formatting).
 
 ghost use Rattle.std.specs.Prelude.{◌≡◌, ℕ, ◌+◌, ◌-◌, ◌*◌, ◌<◌, ◌≤◌, ◌^◌, List, ◌++◌, length, take};
-ghost use Rattle.std.specs.Prelude.{drop, min, replicate, slice_index, slice_range, vec_capacity};
+ghost use Rattle.std.specs.Prelude.{[], ◌∷◌, drop, min, replicate, slice_index, slice_range, vec_capacity};
 ghost use Rattle.std.specs.Prelude.{vec_len, if◌then◌else◌};
 ghost use Rattle.roff_source.specs.Bytes.{blank};
 ghost use Rattle.tbl_picture.specs.Frame.{before_lines, behind_lines, indenting};
@@ -21,6 +21,8 @@ pub enum Piece {
     Frame(usize, usize),
     /// So many blanks.
     Blanks(usize),
+    /// A byte, so many times.
+    Repeated(u8, usize),
     /// What a line of the picture begins with: `\&`.
     LineFront,
     /// The newline of a line of the picture.
@@ -38,6 +40,7 @@ impl Piece {
             Piece::Block(from, to) => to.saturating_sub(from),
             Piece::Frame(from, to) => to.saturating_sub(from),
             Piece::Blanks(count) => count,
+            Piece::Repeated(_, count) => count,
             Piece::LineFront => 2,
             Piece::LineEnd => 1,
             Piece::Joint => 2,
@@ -53,13 +56,15 @@ impl Piece {
             Piece::Block(from, to) => part_byte(block, from, to, at),
             Piece::Frame(from, to) => part_byte(frame, from, to, at),
             Piece::Blanks(_) => b' ',
+            Piece::Repeated(byte, _) => byte,
             Piece::LineFront => [b'\\', b'&'][at],
             Piece::LineEnd => b'\n',
             Piece::Joint => [b'\\', b'\n'][at],
         }
     }
 
-    /// Those of its bytes that lie together from a place on: all, but of blanks at most 64.
+    /// Those of its bytes that lie together from a place on: all, but of blanks and rules at most
+    /// 64, and of another byte that is repeated one.
     #[inline(always)]
     pub fn from<'a>(self, block: &'a [u8], frame: &'a [u8], at: usize) -> &'a [u8]
         requires within { length (bytes_of block.now frame.now self) ≡ piece_len self }
@@ -71,6 +76,7 @@ impl Piece {
             Piece::Block(from, to) => part_behind(block, from, to, at),
             Piece::Frame(from, to) => part_behind(frame, from, to, at),
             Piece::Blanks(count) => blanks(count - at),
+            Piece::Repeated(byte, count) => repeated(byte, count - at),
             Piece::LineFront => behind(b"\\&", at),
             Piece::LineEnd => behind(b"\n", at),
             Piece::Joint => behind(b"\\\n", at),
@@ -108,6 +114,55 @@ fn blanks(most: usize) -> &'static [u8]
 {
     at_most(MOST_BLANKS, most)
 }
+
+/// As many bytes of a single rule are given at once.
+const SINGLE: &[u8; 64] = b"----------------------------------------------------------------";
+
+/// As many of a double one.
+const DOUBLE: &[u8; 64] = b"================================================================";
+
+/// A byte, so many times or 64, or one of a byte that rules aren't drawn with.
+fn repeated(byte: u8, most: usize) -> &'static [u8]
+    requires { 0 < most }
+    ensures value { result.now ≡ replicate (length result.now) byte }
+    ensures few { length result.now ≤ most }
+    ensures some { 1 ≤ length result.now }
+{
+    match byte {
+        b'-' => at_most(SINGLE, most),
+        b'=' => at_most(DOUBLE, most),
+        _ => one_byte(byte),
+    }
+}
+
+/// A byte alone.
+fn one_byte(byte: u8) -> &'static [u8]
+    ensures { result.now ≡ byte ∷ [] }
+{
+    let bytes: &'static [u8] = BYTES;
+    let at = byte as usize;
+    &bytes[at..at + 1]
+}
+
+/// All bytes.
+const BYTES: &[u8; 256] = b"\
+    \x00\x01\x02\x03\x04\x05\x06\x07\x08\x09\x0a\x0b\x0c\x0d\x0e\x0f\
+    \x10\x11\x12\x13\x14\x15\x16\x17\x18\x19\x1a\x1b\x1c\x1d\x1e\x1f\
+    \x20\x21\x22\x23\x24\x25\x26\x27\x28\x29\x2a\x2b\x2c\x2d\x2e\x2f\
+    \x30\x31\x32\x33\x34\x35\x36\x37\x38\x39\x3a\x3b\x3c\x3d\x3e\x3f\
+    \x40\x41\x42\x43\x44\x45\x46\x47\x48\x49\x4a\x4b\x4c\x4d\x4e\x4f\
+    \x50\x51\x52\x53\x54\x55\x56\x57\x58\x59\x5a\x5b\x5c\x5d\x5e\x5f\
+    \x60\x61\x62\x63\x64\x65\x66\x67\x68\x69\x6a\x6b\x6c\x6d\x6e\x6f\
+    \x70\x71\x72\x73\x74\x75\x76\x77\x78\x79\x7a\x7b\x7c\x7d\x7e\x7f\
+    \x80\x81\x82\x83\x84\x85\x86\x87\x88\x89\x8a\x8b\x8c\x8d\x8e\x8f\
+    \x90\x91\x92\x93\x94\x95\x96\x97\x98\x99\x9a\x9b\x9c\x9d\x9e\x9f\
+    \xa0\xa1\xa2\xa3\xa4\xa5\xa6\xa7\xa8\xa9\xaa\xab\xac\xad\xae\xaf\
+    \xb0\xb1\xb2\xb3\xb4\xb5\xb6\xb7\xb8\xb9\xba\xbb\xbc\xbd\xbe\xbf\
+    \xc0\xc1\xc2\xc3\xc4\xc5\xc6\xc7\xc8\xc9\xca\xcb\xcc\xcd\xce\xcf\
+    \xd0\xd1\xd2\xd3\xd4\xd5\xd6\xd7\xd8\xd9\xda\xdb\xdc\xdd\xde\xdf\
+    \xe0\xe1\xe2\xe3\xe4\xe5\xe6\xe7\xe8\xe9\xea\xeb\xec\xed\xee\xef\
+    \xf0\xf1\xf2\xf3\xf4\xf5\xf6\xf7\xf8\xf9\xfa\xfb\xfc\xfd\xfe\xff\
+    ";
 
 /// A byte of a part of a block.
 fn part_byte(block: &[u8], from: usize, to: usize, at: usize) -> u8

@@ -1,13 +1,16 @@
 //! The columns of a row whose lines are given.
 
-ghost use Rattle.std.specs.Prelude.{◌≡◌, ℕ, suc, ◌+◌, ◌<◌, ◌≤◌, ◌^◌, List, [], ◌∷◌, length, drop};
-ghost use Rattle.std.specs.Prelude.{map, get_or, true, false};
+ghost use Rattle.std.specs.Prelude.{◌≡◌, ℕ, suc, ◌+◌, ◌-◌, ◌<◌, ◌≤◌, ◌^◌, List, [], ◌∷◌, length, drop};
+ghost use Rattle.std.specs.Prelude.{map, get_or, true, false, if◌then◌else◌};
 ghost use Rattle.std.specs.List.{AllByRecursion};
 ghost use Rattle.tbl_picture.specs.RowsLeft.{begins_at, block_text, cell_left, first_of};
-ghost use Rattle.tbl_picture.specs.RowsLeft.{row_columns, split_run};
-ghost use Rattle.tbl_picture.specs.RowsWalked.{AreGlyphless, AreNarrow, EntryLies, HasGlyph};
-ghost use Rattle.tbl_picture.specs.RowsWalked.{IsNarrow, LastHasGlyph, PlacesLie};
+ghost use Rattle.tbl_picture.specs.RowsLeft.{end_by, is_ruled_by, repeated_lines, row_columns};
+ghost use Rattle.tbl_picture.specs.RowsLeft.{rule_end_by, split_run};
+ghost use Rattle.tbl_picture.specs.RowsWalked.{AreGlyphless, AreNarrow, HasGlyph, IsNarrow};
+ghost use Rattle.tbl_picture.specs.RowsWalked.{LastHasGlyph, PlacesLie};
+ghost use Rattle.tbl_layout.specs.DataLines.{is_same_sign};
 ghost use Rattle.tbl_layout.specs.Entries.{block_line, up_to_last_glyph};
+ghost use Rattle.tbl_layout.specs.KeptEntries.{Lies};
 ghost use Rattle.tbl_text.specs.BlockLines.{lines_of};
 ghost use Rattle.tbl_text.specs.BlockPlaces.{IsWithin, parts_at};
 
@@ -15,6 +18,7 @@ use roff_escape::OpenEscapes;
 use tbl_format::format::{FormatKey, Key};
 use tbl_kept::rows::key_at;
 use tbl_layout::columns::Column;
+use tbl_layout::data_lines::{RuleSign, sign_byte};
 use tbl_layout::entry::{Entry, EntryKind, SplitEntry};
 use tbl_text::block_parts::{BlockPart, BlockPlace, next_part};
 
@@ -33,7 +37,8 @@ pub struct RowLent<'a> {
     pub height: u32,
 }
 
-/// A column of a row: its key, its field, and where the block that this is goes on.
+/// A column of a row: its key, its field, where the block that this is goes on, and where the rule
+/// over the column ends.
 #[derive(Clone, Copy)]
 pub struct RowColumn {
     /// The column.
@@ -44,6 +49,8 @@ pub struct RowColumn {
     pub entry: Entry,
     /// Where the block goes on.
     pub place: BlockPlace,
+    /// The column of the page where the rule over the column ends, else 0.
+    pub end: usize,
 }
 
 /// A column of a row, whose blocks go on at these places.
@@ -51,21 +58,80 @@ pub fn column_at(row: &RowLent<'_>, places: &[BlockPlace], at: usize) -> RowColu
     requires entry { at < length row.now.entries.now }
     requires column { length row.now.entries.now ≤ length row.now.columns.now }
     requires place { at < length places.now }
+    requires narrow { AreNarrow row.now.columns.now }
     ensures { let all = row_columns row.now.keys.now 0 row.now.columns.now row.now.entries.now
         places.now in
         drop at all ≡ result ∷ drop (suc at) all }
 {
+    let column = row.columns[at];
+    let entry = row.entries[at];
     RowColumn {
-        column: row.columns[at],
+        column,
         key: key_at(row.keys, at),
-        entry: row.entries[at],
+        entry,
         place: places[at],
+        end: end_at(row, at, column, entry.kind),
+    }
+}
+
+/// The column of the page where a field of this kind ends in a column, if it is a rule over it,
+/// else 0.
+#[inline]
+fn end_at(row: &RowLent<'_>, at: usize, column: Column, kind: EntryKind) -> usize
+    requires entry { at < length row.now.entries.now }
+    requires column { length row.now.entries.now ≤ length row.now.columns.now }
+    requires narrow { IsNarrow column }
+    ensures { result ≡ end_by kind column (drop (suc at) row.now.columns.now)
+        (drop (suc at) row.now.entries.now) }
+{
+    match kind {
+        EntryKind::Ruled(sign) => rule_end(row, at, column, sign),
+        _ => 0,
+    }
+}
+
+/// Where a rule over a column ends: one that is drawn alike goes on with it.
+fn rule_end(row: &RowLent<'_>, at: usize, column: Column, sign: RuleSign) -> usize
+    requires entry { at < length row.now.entries.now }
+    requires column { length row.now.entries.now ≤ length row.now.columns.now }
+    requires narrow { IsNarrow column }
+    ensures { result ≡ rule_end_by sign column (drop (suc at) row.now.columns.now)
+        (drop (suc at) row.now.entries.now) }
+{
+    let next = at + 1;
+    if next < row.entries.len() {
+        rule_end_before(sign, column, row.columns[next], row.entries[next].kind)
+    } else {
+        column.start + column.width
+    }
+}
+
+/// Where it ends in front of another column with a field.
+fn rule_end_before(sign: RuleSign, column: Column, next: Column, kind: EntryKind) -> usize
+    requires { IsNarrow column }
+    ensures { result
+        ≡ (if is_ruled_by sign kind then next.start else column.start + column.width) }
+{
+    if is_ruled(sign, kind) {
+        next.start
+    } else {
+        column.start + column.width
+    }
+}
+
+/// Whether a field is a rule over its column that is drawn with this sign.
+fn is_ruled(sign: RuleSign, kind: EntryKind) -> bool
+    ensures { result ≡ is_ruled_by sign kind }
+{
+    match kind {
+        EntryKind::Ruled(other) => is_same_sign(sign, other),
+        _ => false,
     }
 }
 
 /// The lines of a block.
 pub fn block_bytes(bytes: &[u8], entry: Entry) -> &[u8]
-    requires { EntryLies bytes.now entry }
+    requires { Lies bytes.now entry }
     ensures value { result.now ≡ block_text bytes.now entry }
     ensures small { length result.now < 2 ^ 32 }
 {
@@ -76,19 +142,47 @@ pub fn block_bytes(bytes: &[u8], entry: Entry) -> &[u8]
     }
 }
 
+/// Whether two rules are drawn alike.
+fn is_same_sign(sign: RuleSign, other: RuleSign) -> bool
+    ensures { result ≡ is_same_sign sign other }
+{
+    match sign {
+        RuleSign::Single => match other {
+            RuleSign::Single => true,
+            RuleSign::Double => false,
+        },
+        RuleSign::Double => match other {
+            RuleSign::Single => false,
+            RuleSign::Double => true,
+        },
+    }
+}
+
 impl RowColumn {
+    /// How many columns of the page the rule over the column has.
+    pub fn rule_width(self) -> usize
+        ensures { result ≡ self.end - self.column.start }
+    {
+        self.end.saturating_sub(self.column.start)
+    }
+
     /// The column of the page at which its field stands.
     pub fn begins_at(self) -> usize
         requires { IsNarrow self.column }
         ensures value { result ≡ begins_at self }
         ensures most { result < 2 ^ 40 }
     {
-        self.column.start + self.column.place_of(self.key, self.entry.stands(self.key))
+        match self.entry.kind {
+            EntryKind::Ruled(_) => self.column.start,
+            EntryKind::Short => self.column.start + self.column.place_of_rule(self.key),
+            EntryKind::Repeated(_) => self.column.start,
+            _ => self.column.start + self.column.place_of(self.key, self.entry.stands(self.key)),
+        }
     }
 
     /// Whether it has a glyph on a line of its row, where its block goes on at its place.
     pub fn has_glyph(self, escapes: &mut OpenEscapes, bytes: &[u8], line: u32) -> bool
-        requires lies { EntryLies bytes.now self.entry }
+        requires lies { Lies bytes.now self.entry }
         requires within { IsWithin (block_text bytes.now self.entry) self.place }
         ensures yes { result ≡ true → HasGlyph (first_of (cell_left bytes.now line self)) }
         ensures no { result ≡ false
@@ -104,15 +198,32 @@ impl RowColumn {
             EntryKind::Block(_) => {
                 begins_with_word(escapes, block_bytes(bytes, entry), self.place)
             }
+            EntryKind::Ruled(sign) => {
+                has_repeated_glyph(line, sign_byte(sign), self.rule_width())
+            }
+            EntryKind::Short => {
+                let count = self.column.needs.widest_entry();
+                has_repeated_glyph(line, sign_byte(RuleSign::Single), count)
+            }
+            EntryKind::Repeated(byte) => has_repeated_glyph(line, byte, self.column.width),
         }
     }
 }
 
+/// Whether a byte that is repeated so often has a glyph on a line of its row.
+fn has_repeated_glyph(line: u32, byte: u8, count: usize) -> bool
+    ensures yes { result ≡ true → HasGlyph (get_or (repeated_lines line byte count) 0 []) }
+    ensures no { result ≡ false
+        → up_to_last_glyph (get_or (repeated_lines line byte count) 0 []) ≡ [] }
+{
+    line == 0 && count > 0 && byte != b' '
+}
+
 /// Whether a number that is split has a glyph.
 fn has_split_glyph(entry: Entry, split: SplitEntry) -> bool
-    ensures yes { (bytes : List ℕ) → EntryLies bytes entry → result ≡ true
+    ensures yes { (bytes : List ℕ) → Lies bytes entry → result ≡ true
         → HasGlyph (split_run bytes entry split ∷ []) }
-    ensures no { (bytes : List ℕ) → EntryLies bytes entry → result ≡ false
+    ensures no { (bytes : List ℕ) → Lies bytes entry → result ≡ false
         → up_to_last_glyph (split_run bytes entry split ∷ []) ≡ [] }
 {
     let glyphs = split.glyphs.min(entry.to);
@@ -145,7 +256,7 @@ pub fn count_to_glyph(
 ) -> usize
     requires columns { length row.now.entries.now ≤ length row.now.columns.now }
     requires narrow { AreNarrow row.now.columns.now }
-    requires lie { AllByRecursion (EntryLies row.now.bytes.now) row.now.entries.now }
+    requires lie { AllByRecursion (Lies row.now.bytes.now) row.now.entries.now }
     requires places { PlacesLie row.now.bytes.now row.now.entries.now places.now }
     ensures few { result ≤ length row.now.entries.now }
     ensures last { LastHasGlyph result (map (cell_left row.now.bytes.now line)

@@ -13,6 +13,7 @@ ghost use Rattle.tbl_picture.specs.Walks.{first_place};
 use crate::picture::Piece;
 use crate::piece_queue::PieceQueue;
 use crate::row_columns::RowLent;
+use lines::give_rule;
 use roff_escape::OpenEscapes;
 use std::alloc::{AllocError, Global};
 use std::marker::Model;
@@ -59,6 +60,8 @@ pub struct Walk {
     places: Vec<BlockPlace>,
     /// Where it goes on behind this line, for the columns of which this line was given.
     behind: Vec<BlockPlace>,
+    /// How wide the picture is.
+    picture_width: usize,
     room: usize,
 }
 
@@ -91,16 +94,17 @@ impl Walk {
             next: Next::AtElement,
             places: Vec::with_capacity(alloc, columns)?,
             behind: Vec::with_capacity(alloc, columns)?,
+            picture_width: 0,
             room: columns,
         })
     }
 
-    /// Nothing of the picture is given.
-    pub fn start(&mut self)
-        ensures value { self.new ≡ started self.old }
+    /// Nothing of the picture is given, which is so wide.
+    pub fn start(&mut self, width: usize)
+        ensures value { self.new ≡ started width self.old }
         ensures lines { (bytes : List ℕ) (formats : List FormatRow) (rows : KeptRows)
             → still_to_come bytes formats rows self.new
-            ≡ picture_lines rows.columns (elements_of bytes formats rows.elements) }
+            ≡ picture_lines width rows.columns (elements_of bytes formats rows.elements) }
         ensures can { (bytes : List ℕ) (formats : List FormatRow) (rows : KeptRows)
             → RowsLaid bytes formats rows → AreNarrow rows.columns
             → length rows.columns ≤ self.old.room → CanWalk bytes formats rows self.new }
@@ -108,6 +112,7 @@ impl Walk {
         self.element = 0;
         self.line = 0;
         self.next = Next::AtElement;
+        self.picture_width = width;
     }
 
     /// Adds the next pieces. Answers whether there were some to come.
@@ -133,6 +138,11 @@ impl Walk {
             Lent::Command(from, to) => {
                 pieces.add(Piece::Block(from, to));
                 pieces.add(Piece::LineEnd);
+                self.element += 1;
+                true
+            }
+            Lent::Rule(sign) => {
+                give_rule(pieces, self.picture_width, sign);
                 self.element += 1;
                 true
             }

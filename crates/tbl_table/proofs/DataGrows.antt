@@ -15,12 +15,12 @@ use Rattle.tbl_format.specs.Notes.{NotesWithin, told_of_all}
 use Rattle.tbl_format.specs.RowsServed.{all_rows, row_at}
 use Rattle.tbl_format.specs.declared.message.Told.{Told}
 use Rattle.tbl_format.specs.declared.options.Options.{Options}
-use Rattle.tbl_kept.specs.Rows.{AreKept, Command, ElementKept, KeptElement, Row, RowBegunKept, elements_of}
+use Rattle.tbl_kept.specs.Rows.{AreKept, Command, ElementKept, KeptElement, Row, RowBegunKept, Rule, elements_of}
 use Rattle.tbl_layout.specs.Entries.{Content, Element, is_number, key_at}
 use Rattle.tbl_layout.specs.KeptEntries.{IsKeptBy, IsText, content_of, text_entry}
 use Rattle.tbl_layout.specs.declared.entry.Entry.{Entry}
 use Rattle.tbl_layout.specs.declared.entry.EntryKind.{EntryKind}
-use Rattle.tbl_layout.specs.declared.entry.EntryKind.TheVariants.{Block as BlockKind, Split as SplitKind, Text as TextKind}
+use Rattle.tbl_layout.specs.declared.entry.EntryKind.TheVariants.{Block as BlockKind, Repeated as RepeatedKind, Ruled as RuledKind, Short as ShortKind, Split as SplitKind, Text as TextKind}
 use Rattle.tbl_kept.proofs.KeptFields.{contents-more, part-more}
 use Rattle.tbl_kept.proofs.RowsKeeping.{RowBegunKept-more}
 use Rattle.tbl_table.proofs.DataLies.{body-more, lies-kept}
@@ -134,6 +134,9 @@ module _ (bytes more : List ℕ) (d : TableData) (ends : EndsBy (length bytes) d
   kept-less (TextKind glyphs width) key e within kept = text-less (is_number key) e within kept
   kept-less (SplitKind s) key e within kept = text-less (is_number key) e within kept
   kept-less (BlockKind b) key e within kept = record { lies = record { order = kept.lies.order; within = within }; is = kept.is }
+  kept-less (RuledKind sign) key e within kept = record { order = kept.order; within = within }
+  kept-less ShortKind key e within kept = record { order = kept.order; within = within }
+  kept-less (RepeatedKind b) key e within kept = record { order = kept.order; within = within }
 
   fields-less : (format : FormatRow) (column : ℕ) (entries : List Entry) → AllByRecursion (EntryEnds (length bytes)) entries
       → AreKept (bytes ++ more) format column entries → AreKept bytes format column entries
@@ -145,6 +148,7 @@ module _ (bytes more : List ℕ) (d : TableData) (ends : EndsBy (length bytes) d
       → ElementKept bytes formats columns e
   element-less formats columns (Row keys height entries) within kept =
       record { serves = kept.serves; short = kept.short; kept = fields-less (row_at formats keys) 0 entries within kept.kept; low = kept.low }
+  element-less formats columns (Rule sign) within kept = tt
   element-less formats columns (Command from to) within kept = record { order = kept.order; within = within }
 
   elements-less : (formats : List FormatRow) (columns : ℕ) (es : List KeptElement) → AllByRecursion (ElementEnds (length bytes)) es

@@ -4,14 +4,14 @@ use Rattle.std.specs.List.{AllByRecursion}
 use Rattle.tbl_data.specs.TableData.{ElementEnds, EntryEnds, EndsBy}
 use Rattle.tbl_format.specs.Format.{FormatRow}
 use Rattle.tbl_format.specs.RowsServed.{row_at}
-use Rattle.tbl_kept.specs.Rows.{AreKept, AreLaid, Command, ElementKept, ElementLaid, KeptElement, KeptRows, Row, RowsKept, RowsLaid, element_of, elements_of}
+use Rattle.tbl_kept.specs.Rows.{AreKept, AreLaid, Command, ElementKept, ElementLaid, KeptElement, KeptRows, Row, RowsKept, RowsLaid, Rule, element_of, elements_of}
 use Rattle.tbl_layout.specs.Columns.{measure_of}
 use Rattle.tbl_layout.specs.Entries.{Block, Command as OneCommand, Content, Element, Row as OneRow, Text, key_at}
 use Rattle.tbl_layout.specs.KeptEntries.{IsKeptBy, IsLaidBy, block_lines, content_by, content_of}
 use Rattle.tbl_layout.specs.declared.columns.Column.{Column}
 use Rattle.tbl_layout.specs.declared.entry.Entry.{Entry}
 use Rattle.tbl_layout.specs.declared.entry.EntryKind.{EntryKind}
-use Rattle.tbl_layout.specs.declared.entry.EntryKind.TheVariants.{Block as BlockKind, Split as SplitKind, Text as TextKind}
+use Rattle.tbl_layout.specs.declared.entry.EntryKind.TheVariants.{Block as BlockKind, Repeated as RepeatedKind, Ruled as RuledKind, Short as ShortKind, Split as SplitKind, Text as TextKind}
 use Rattle.tbl_format.specs.declared.format.Key.{Key}
 use Rattle.tbl_text.specs.BlockWords.{lines_in}
 use Rattle.tbl_kept.proofs.KeptFields.{part-more}
@@ -21,11 +21,17 @@ kept-lies : (kind : EntryKind) (bytes : List ℕ) (key : Key) (e : Entry) → Is
 kept-lies (TextKind glyphs width) bytes key e kept = kept.within
 kept-lies (SplitKind s) bytes key e kept = kept.within
 kept-lies (BlockKind b) bytes key e kept = kept.lies.within
+kept-lies (RuledKind sign) bytes key e kept = kept.within
+kept-lies ShortKind bytes key e kept = kept.within
+kept-lies (RepeatedKind b) bytes key e kept = kept.within
 
 laid-lies : (kind : EntryKind) (bytes : List ℕ) (measure : ℕ) (key : Key) (e : Entry) → IsLaidBy kind bytes measure key e → EntryEnds (length bytes) e
 laid-lies (TextKind glyphs width) bytes measure key e laid = laid.within
 laid-lies (SplitKind s) bytes measure key e laid = laid.within
 laid-lies (BlockKind b) bytes measure key e laid = laid.lies.within
+laid-lies (RuledKind sign) bytes measure key e laid = laid.within
+laid-lies ShortKind bytes measure key e laid = laid.within
+laid-lies (RepeatedKind b) bytes measure key e laid = laid.within
 
 pub fields-kept : (bytes : List ℕ) (format : FormatRow) (column : ℕ) (entries : List Entry) → AreKept bytes format column entries → AllByRecursion (EntryEnds (length bytes)) entries
 fields-kept bytes format column [] kept = tt
@@ -40,10 +46,12 @@ fields-laid bytes columns format column (e ∷ entries) laid =
 
 element-kept : (bytes : List ℕ) (formats : List FormatRow) (columns : ℕ) (e : KeptElement) → ElementKept bytes formats columns e → ElementEnds (length bytes) e
 element-kept bytes formats columns (Row keys height entries) kept = fields-kept bytes (row_at formats keys) 0 entries kept.kept
+element-kept bytes formats columns (Rule sign) kept = tt
 element-kept bytes formats columns (Command from to) kept = kept.within
 
 element-laid : (bytes : List ℕ) (formats : List FormatRow) (columns : List Column) (e : KeptElement) → ElementLaid bytes formats columns e → ElementEnds (length bytes) e
 element-laid bytes formats columns (Row keys height entries) laid = fields-laid bytes columns (row_at formats keys) 0 entries laid.laid
+element-laid bytes formats columns (Rule sign) laid = tt
 element-laid bytes formats columns (Command from to) laid = laid.within
 
 elements-kept : (bytes : List ℕ) (formats : List FormatRow) (columns : ℕ) (es : List KeptElement) → AllByRecursion (ElementKept bytes formats columns) es
@@ -70,6 +78,7 @@ fields-longer a b (e ∷ entries) less lies = (omega (arith, less, lies.0), fiel
 
 element-longer : (a b : ℕ) (e : KeptElement) → a ≤ b → ElementEnds a e → ElementEnds b e
 element-longer a b (Row keys height entries) less lies = fields-longer a b entries less lies
+element-longer a b (Rule sign) less lies = tt
 element-longer a b (Command from to) less lies = omega (arith, less, lies)
 
 pub lies-longer : (a b : ℕ) (es : List KeptElement) → a ≤ b → AllByRecursion (ElementEnds a) es → AllByRecursion (ElementEnds b) es
@@ -83,6 +92,9 @@ module _ (bytes more : List ℕ) where
   content-by (SplitKind s) from to within = ap Text (part-more bytes more from to within)
   content-by (BlockKind b) from to within =
       ap (λ (part : List ℕ). Block (if from == to then [] else lines_in part)) (part-more bytes more (from + 1) to within)
+  content-by (RuledKind sign) from to within = refl
+  content-by ShortKind from to within = refl
+  content-by (RepeatedKind b) from to within = refl
 
   contents-same : (entries : List Entry) → AllByRecursion (EntryEnds (length bytes)) entries → map (content_of (bytes ++ more)) entries ≡ map (content_of bytes) entries
   contents-same [] lies = refl
@@ -92,6 +104,7 @@ module _ (bytes more : List ℕ) where
 
   element-same : (formats : List FormatRow) (e : KeptElement) → ElementEnds (length bytes) e → element_of (bytes ++ more) formats e ≡ element_of bytes formats e
   element-same formats (Row keys height entries) lies = ap (λ (fields : List Content). OneRow (row_at formats keys) fields) (contents-same entries lies)
+  element-same formats (Rule sign) lies = refl
   element-same formats (Command from to) lies = ap OneCommand (part-more bytes more from to lies)
 
   pub body-more : (formats : List FormatRow) (es : List KeptElement) → AllByRecursion (ElementEnds (length bytes)) es

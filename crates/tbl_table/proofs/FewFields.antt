@@ -8,13 +8,15 @@ use Rattle.tbl_format.specs.declared.message.Message.TheVariants.{BadFormat, Not
 use Rattle.tbl_format.specs.declared.message.Told.{Told}
 use Rattle.tbl_kept.specs.Joined.{line_at}
 use Rattle.tbl_layout.specs.Data.{fields, in_first}
-use Rattle.tbl_layout.specs.DataLines.{block_line_kind, ends_in_block, is_laid_out, len_of_fields, line_kind, opens_block, without_opening}
-use Rattle.tbl_layout.specs.Entries.{Content, Text as OneText}
+use Rattle.tbl_layout.specs.DataLines.{block_line_kind, ends_in_block, field_kind, is_laid_out, len_of_fields, line_kind, opens_block, without_opening}
+use Rattle.tbl_layout.specs.Entries.{Content, content_read}
 use Rattle.tbl_layout.specs.declared.data_lines.BlockLineKind.{BlockLineKind}
 use Rattle.tbl_layout.specs.declared.data_lines.BlockLineKind.TheVariants.{End, Request, Text}
+use Rattle.tbl_layout.specs.declared.data_lines.FieldKind.{FieldKind}
+use Rattle.tbl_layout.specs.declared.data_lines.FieldKind.TheVariants.{Above, Repeated, Ruled, Short, Text as TextField}
 use Rattle.tbl_layout.specs.declared.data_lines.LineKind.{LineKind}
 use Rattle.tbl_layout.specs.declared.data_lines.LineKind.TheVariants.{Command, Formats, Row, Rule}
-use Rattle.tbl_data.specs.DataRead.{behind_block, fields_with_block, item_notes, surplus_notes, text_notes, whole_line, with_block_line, with_fields, with_line, with_open_row, with_whole}
+use Rattle.tbl_data.specs.DataRead.{behind_block, field_notes, fields_with_block, item_notes, notes_by_kind, notes_of_field, surplus_notes, whole_line, with_block_line, with_fields, with_line, with_open_row, with_whole}
 use Rattle.tbl_data.specs.TableRead.{RowBegun, TableRead, bad, columns, with_notes}
 use Rattle.tbl_text.specs.Items.{Item, first_item, first_items, items, note}
 
@@ -38,13 +40,21 @@ first_items-most (suc most) (b ∷ text) = omega (arith, first_items-most most (
 pub notes-of-text : (ends : List (ℕ × ℕ)) (n place : ℕ) (text : List ℕ) → length (item_notes ends n place (items text)) ≤ length text
 notes-of-text ends n place text = omega (arith, item_notes-most ends n place (items text), first_items-most (length text) text)
 
--- texts with a separator behind each have that many bytes more
-pub text_notes_most : (ends : List (ℕ × ℕ)) (n place : ℕ) (texts : List (List ℕ)) → length (text_notes ends n place texts) + length texts ≤ len_of_fields texts
-text_notes_most ends n place [] = omega arith
-text_notes_most ends n place (text ∷ texts) =
-    let here = item_notes ends n place (items text) in
-    let further = text_notes ends n (place + length text + 1) texts in
-    omega (arith, notes-of-text ends n place text, text_notes_most ends n (place + length text + 1) texts, length-append here further)
+-- of a rule there is none
+notes-by_kind : (kind : FieldKind) (ends : List (ℕ × ℕ)) (n place : ℕ) (field : List ℕ) → length (notes_by_kind kind ends n place field) ≤ length field
+notes-by_kind TextField ends n place field = notes-of-text ends n place field
+notes-by_kind (Ruled sign) ends n place field = omega arith
+notes-by_kind Short ends n place field = omega arith
+notes-by_kind (Repeated b) ends n place field = omega arith
+notes-by_kind Above ends n place field = omega arith
+
+-- fields with a separator behind each have that many bytes more
+pub field_notes-most : (ends : List (ℕ × ℕ)) (n place : ℕ) (fs : List (List ℕ)) → length (field_notes ends n place fs) + length fs ≤ len_of_fields fs
+field_notes-most ends n place [] = omega arith
+field_notes-most ends n place (field ∷ fs) =
+    let here = notes_of_field ends n place field in
+    let further = field_notes ends n (place + length field + 1) fs in
+    omega (arith, notes-by_kind (field_kind field) ends n place field, field_notes-most ends n (place + length field + 1) fs, length-append here further)
 
 -- some of these fields are fewer, and shorter by one at least for each that is left out
 pub record IsPart (some all : List (List ℕ)) : Type 0 where
@@ -126,16 +136,16 @@ fields_most ends n place all in_front had_surplus t =
     let texts = take room (without_opening all) in
     let built = take_while is_laid_out texts in
     let has_surplus = nat_lt room (length all) in
-    let told = text_notes ends n place built in
+    let told = field_notes ends n place built in
     let unbuilt = nat_lt (length built) (length texts) in
-    let notes = text_notes_most ends n place built in
+    let notes = field_notes-most ends n place built in
     let laid = part-while texts in
     let kept = part-behind texts (without_opening all) all (part-take room (without_opening all)) (part-opening all) in
     let part = part-behind built texts all laid kept in
     let few = length-append t.notes told in
     let room_few : length texts ≤ room = take-few room (without_opening all) in
     told-few unbuilt (ends_in_block all) (line_at ends (place + len_of_fields built) n)
-    (record { fields = in_front ++ map OneText texts; block = if has_surplus || had_surplus then None else Some [] })
+    (record { fields = in_front ++ map content_read texts; block = if has_surplus || had_surplus then None else Some [] })
     (surplus_notes (has_surplus && not had_surplus) (line_at ends (place + len_of_fields texts - 1) n)) (with_notes told t) (length t.notes + len_of_fields all)
     (λ is. omega (arith, few, notes, laid.shorter, kept.shorter, kept.fewer, less (length built) (length texts) is))
     (surplus-few has_surplus had_surplus (line_at ends (place + len_of_fields texts - 1) n) (length t.notes + len_of_fields all) (length (t.notes ++ told))
@@ -160,8 +170,8 @@ fields_pending ends n place all in_front had_surplus t none =
     let built = take_while is_laid_out texts in
     let has_surplus = nat_lt room (length all) in
     told-pending (nat_lt (length built) (length texts)) (ends_in_block all) (line_at ends (place + len_of_fields built) n)
-    (record { fields = in_front ++ map OneText texts; block = if has_surplus || had_surplus then None else Some [] })
-    (surplus_notes (has_surplus && not had_surplus) (line_at ends (place + len_of_fields texts - 1) n)) (with_notes (text_notes ends n place built) t) none
+    (record { fields = in_front ++ map content_read texts; block = if has_surplus || had_surplus then None else Some [] })
+    (surplus_notes (has_surplus && not had_surplus) (line_at ends (place + len_of_fields texts - 1) n)) (with_notes (field_notes ends n place built) t) none
 
 -- the fields of a line are as long as it, with a separator behind each
 in_first-len : (b : ℕ) (fs : List (List ℕ)) (n : ℕ) → len_of_fields fs ≡ suc n → len_of_fields (in_first b fs) ≡ suc (suc n)
@@ -179,7 +189,7 @@ len-fields separator (b ∷ line) = fields-by (b == separator) b (fields separat
 -- a whole line of the data has one for each byte at the most, and one more
 line-few : (kind : LineKind) (ends : List (ℕ × ℕ)) (n : ℕ) (line : List ℕ) (t : TableRead)
     → length (with_line kind ends n line t).notes ≤ length t.notes + length line + 1
-line-few Rule ends n line t = omega (arith, length-append t.notes (told_at (line_at ends 0 n) BadFormat ∷ []))
+line-few (Rule sign) ends n line t = omega arith
 line-few Formats ends n line t = omega arith
 line-few Command ends n line t = omega arith
 line-few Row ends n line t = omega (arith, fields_most ends n 0 (fields t.options.separator line) [] false t, len-fields t.options.separator line)
@@ -191,8 +201,8 @@ behind-few ends n (first ∷ []) row t = omega arith
 behind-few ends n (first ∷ field ∷ more) row t =
     omega (arith, fields_most ends n (length first + 3) (field ∷ more) (fields_with_block row) (is_none row.block) t)
 
-kept-few : (kept : Bool) (ends : List (ℕ × ℕ)) (n : ℕ) (line : List ℕ) → length (if kept then text_notes ends n 0 (line ∷ []) else []) ≤ length line
-kept-few true ends n line = omega (arith, text_notes_most ends n 0 (line ∷ []))
+pub kept-few : (kept : Bool) (ends : List (ℕ × ℕ)) (n : ℕ) (line : List ℕ) → length (if kept then item_notes ends n 0 (items line) else []) ≤ length line
+kept-few true ends n line = notes-of-text ends n 0 line
 kept-few false ends n line = omega arith
 
 block-few : (kind : BlockLineKind) (ends : List (ℕ × ℕ)) (n : ℕ) (line : List ℕ) (row : RowBegun) (t : TableRead)
@@ -201,7 +211,7 @@ block-few End ends n line row t =
     omega (arith, behind-few ends n (fields t.options.separator (drop 2 line)) row t, len-fields t.options.separator (drop 2 line), length-drop 2 line)
 block-few Request ends n line row t = omega (arith, length-append t.notes (told_at (line_at ends 0 n) RequestInTextBlock ∷ []))
 block-few Text ends n line row t =
-    let told = if is_some row.block then text_notes ends n 0 (line ∷ []) else [] in
+    let told = if is_some row.block then item_notes ends n 0 (items line) else [] in
     omega (arith, kept-few (is_some row.block) ends n line, length-append t.notes told)
 
 with-few : (begun : Option RowBegun) (ends : List (ℕ × ℕ)) (n : ℕ) (line : List ℕ) (t : TableRead)
@@ -215,7 +225,7 @@ whole_most ends n line t = with-few t.begun ends n line (record t { pending = No
 
 -- and goes on no more
 line-pending : (kind : LineKind) (ends : List (ℕ × ℕ)) (n : ℕ) (line : List ℕ) (t : TableRead) → t.pending ≡ None → (with_line kind ends n line t).pending ≡ None
-line-pending Rule ends n line t none = refl
+line-pending (Rule sign) ends n line t none = none
 line-pending Formats ends n line t none = none
 line-pending Command ends n line t none = none
 line-pending Row ends n line t none = fields_pending ends n 0 (fields t.options.separator line) [] false t none

@@ -1,21 +1,22 @@
 -- A whole line of the data has one message for each of its bytes at the most, where there is a column.
 use Rattle.std.proofs.Common.{◌≡◌, ℕ, suc, ◌+◌, ◌-◌, ◌≤◌, Bool, true, false, not, ◌&&◌, ◌||◌, List, [], ◌∷◌, ◌++◌, length, map, take, drop, Option, Some, None, refl, arith, length-append, length-drop, nat_lt, if◌then◌else◌}
 use Rattle.std.specs.Prelude.{take_while, is_none, is_some}
-use Rattle.tbl_data.specs.DataRead.{behind_block, fields_with_block, surplus_notes, text_notes, whole_line, with_block_line, with_fields, with_line, with_whole}
+use Rattle.tbl_data.specs.DataRead.{behind_block, field_notes, fields_with_block, item_notes, surplus_notes, whole_line, with_block_line, with_fields, with_line, with_whole}
 use Rattle.tbl_data.specs.TableRead.{RowBegun, TableRead, columns, with_notes}
 use Rattle.tbl_format.specs.Notes.{told_at}
-use Rattle.tbl_format.specs.declared.message.Message.TheVariants.{BadFormat, RequestInTextBlock}
+use Rattle.tbl_format.specs.declared.message.Message.TheVariants.{RequestInTextBlock}
 use Rattle.tbl_format.specs.declared.message.Told.{Told}
 use Rattle.tbl_kept.specs.Joined.{line_at}
 use Rattle.tbl_layout.specs.Data.{fields}
 use Rattle.tbl_layout.specs.DataLines.{block_line_kind, ends_in_block, is_laid_out, len_of_fields, line_kind, without_opening}
-use Rattle.tbl_layout.specs.Entries.{Content, Text as OneText}
+use Rattle.tbl_layout.specs.Entries.{Content, content_read}
 use Rattle.tbl_layout.specs.declared.data_lines.BlockLineKind.{BlockLineKind}
 use Rattle.tbl_layout.specs.declared.data_lines.BlockLineKind.TheVariants.{End, Request, Text}
 use Rattle.tbl_layout.specs.declared.data_lines.LineKind.{LineKind}
 use Rattle.tbl_layout.specs.declared.data_lines.LineKind.TheVariants.{Command, Formats, Row, Rule}
-use Rattle.tbl_table.proofs.FewFields.{fields_most, len-fields, less, part-behind, part-opening, part-take, part-while, surplus-few, take-few, text_notes_most, told-few}
-use Rattle.tbl_table.proofs.LastPlaces.{request-some, rule-some, unlaid-within}
+use Rattle.tbl_text.specs.Items.{items}
+use Rattle.tbl_table.proofs.FewFields.{field_notes-most, fields_most, kept-few, len-fields, less, part-behind, part-opening, part-take, part-while, surplus-few, take-few, told-few}
+use Rattle.tbl_table.proofs.LastPlaces.{request-some, unlaid-within}
 
 fields-fewer : (ends : List (ℕ × ℕ)) (n place : ℕ) (all : List (List ℕ)) (in_front : List Content) (had : Bool) (t : TableRead) → 1 ≤ length all → 1 ≤ columns t - length in_front
     → 1 ≤ len_of_fields all → length (with_fields ends n place all in_front had t).notes + 1 ≤ length t.notes + len_of_fields all
@@ -24,9 +25,9 @@ fields-fewer ends n place all in_front had t one some least =
     let texts = take room (without_opening all) in
     let built = take_while is_laid_out texts in
     let has = nat_lt room (length all) in
-    let told = text_notes ends n place built in
+    let told = field_notes ends n place built in
     let unbuilt = nat_lt (length built) (length texts) in
-    let notes = text_notes_most ends n place built in
+    let notes = field_notes-most ends n place built in
     let laid = part-while texts in
     let kept = part-behind texts (without_opening all) all (part-take room (without_opening all)) (part-opening all) in
     let part = part-behind built texts all laid kept in
@@ -34,7 +35,7 @@ fields-fewer ends n place all in_front had t one some least =
     let room_few : length texts ≤ room = take-few room (without_opening all) in
     let most = length t.notes + (len_of_fields all - 1) in
     let within = told-few unbuilt (ends_in_block all) (line_at ends (place + len_of_fields built) n)
-    (record { fields = in_front ++ map OneText texts; block = if has || had then None else Some [] })
+    (record { fields = in_front ++ map content_read texts; block = if has || had then None else Some [] })
     (surplus_notes (has && not had) (line_at ends (place + len_of_fields texts - 1) n)) (with_notes told t) most
     (λ is. omega (arith, few, notes, unlaid-within texts (less (length built) (length texts) is), kept.shorter, kept.fewer))
     (surplus-few has had (line_at ends (place + len_of_fields texts - 1) n) most (length (t.notes ++ told))
@@ -48,7 +49,7 @@ fields-some (field ∷ all) n is = omega arith
 
 line-fewer : (kind : LineKind) (ends : List (ℕ × ℕ)) (n : ℕ) (line : List ℕ) (t : TableRead) → line_kind line ≡ kind → 1 ≤ columns t
     → length (with_line kind ends n line t).notes ≤ length t.notes + length line
-line-fewer Rule ends n line t is some = omega (arith, rule-some line is, length-append t.notes (told_at (line_at ends 0 n) BadFormat ∷ []))
+line-fewer (Rule sign) ends n line t is some = omega arith
 line-fewer Formats ends n line t is some = omega arith
 line-fewer Command ends n line t is some = omega arith
 line-fewer Row ends n line t is some =
@@ -63,10 +64,6 @@ behind-fewer ends n line (first ∷ []) row t is = omega arith
 behind-fewer ends n line (first ∷ field ∷ more) row t is =
     omega (arith, fields_most ends n (length first + 3) (field ∷ more) (fields_with_block row) (is_none row.block) t, is, length-drop 2 line)
 
-kept-fewer : (kept : Bool) (ends : List (ℕ × ℕ)) (n : ℕ) (line : List ℕ) → length (if kept then text_notes ends n 0 (line ∷ []) else []) ≤ length line
-kept-fewer true ends n line = omega (arith, text_notes_most ends n 0 (line ∷ []))
-kept-fewer false ends n line = omega arith
-
 block-fewer : (kind : BlockLineKind) (ends : List (ℕ × ℕ)) (n : ℕ) (line : List ℕ) (row : RowBegun) (t : TableRead) → block_line_kind line ≡ kind
     → length (with_block_line kind ends n line row t).notes ≤ length t.notes + length line
 block-fewer End ends n line row t is =
@@ -74,8 +71,8 @@ block-fewer End ends n line row t is =
 block-fewer Request ends n line row t is =
     omega (arith, request-some line is, length-append t.notes (told_at (line_at ends 0 n) RequestInTextBlock ∷ []))
 block-fewer Text ends n line row t is =
-    let told : List Told = if is_some row.block then text_notes ends n 0 (line ∷ []) else [] in
-    omega (arith, kept-fewer (is_some row.block) ends n line, length-append t.notes told)
+    let told : List Told = if is_some row.block then item_notes ends n 0 (items line) else [] in
+    omega (arith, kept-few (is_some row.block) ends n line, length-append t.notes told)
 
 whole-by : (begun : Option RowBegun) (ends : List (ℕ × ℕ)) (n : ℕ) (line : List ℕ) (t : TableRead) → 1 ≤ columns t
     → length (with_whole begun ends n line t).notes ≤ length t.notes + length line

@@ -187,12 +187,12 @@ module _ (l : TblLimits) (phase : Phase) (begun : Begun) (text : KeptText) (d : 
       small = omega (arith, fits.bytes.most, fits.bytes.block, fits.rooms.small, behind-len text.pending text.line, length-append text.settled (behind_joined text.pending text.line), length-append text.settled (behind_joined text.pending []));
     }
 
-    pub lines-are : (more : ℕ) → more ≡ lacking_by options.expanded line_length text.settled d → RowsLaid text.settled (all_rows d.format.format) (places more)
-        → lines_laid text (places more) d.format
-        ≡ picture_lines (laid_out line_length (table_of phase options text d)).columns (table_of phase options text d).body
-    lines-are more more_is rows =
+    pub lines-are : (width more : ℕ) → more ≡ lacking_by options.expanded line_length text.settled d → RowsLaid text.settled (all_rows d.format.format) (places more)
+        → lines_laid width text (places more) d.format
+        ≡ picture_lines width (laid_out line_length (table_of phase options text d)).columns (table_of phase options text d).body
+    lines-are width more more_is rows =
         let asked = d.format.format.asked in
-        ap (λ (es : List Element). picture_lines (placed_with more asked new.rows.columns) es)
+        ap (λ (es : List Element). picture_lines width (placed_with more asked new.rows.columns) es)
         (elements_of-laid-more text.settled (behind_joined text.pending text.line) (all_rows d.format.format) (places more) rows ∙ laid.body)
-        ∙ ap (λ (cs : List Column). picture_lines (placed_with more asked cs) (body_of text.settled d)) laid.columns
-        ∙ ap (λ (n : ℕ). picture_lines (placed_with n asked (columns_by line_length text.settled d)) (body_of text.settled d)) more_is
+        ∙ ap (λ (cs : List Column). picture_lines width (placed_with more asked cs) (body_of text.settled d)) laid.columns
+        ∙ ap (λ (n : ℕ). picture_lines width (placed_with n asked (columns_by line_length text.settled d)) (body_of text.settled d)) more_is

@@ -3,17 +3,19 @@ use Rattle.std.proofs.Common.{◌≡◌, ℕ, zero, suc, ◌+◌, ◌-◌, ◌�
 use Rattle.std.specs.Prelude.{take_while, is_none, is_some, option_map, option_to_list}
 use Rattle.std.proofs.lemmas.Bool.Decides.{nat_tests}
 use Rattle.std.proofs.lemmas.List.Sums.{take_while-cons}
-use Rattle.tbl_data.specs.DataRead.{behind_block, fields_with_block, item_notes, surplus_notes, text_notes, whole_line, with_block_line, with_fields, with_line, with_open_row, with_text, with_whole}
+use Rattle.tbl_data.specs.DataRead.{behind_block, field_notes, fields_with_block, item_notes, notes_by_kind, notes_of_field, surplus_notes, whole_line, with_block_line, with_fields, with_line, with_open_row, with_text, with_whole}
 use Rattle.tbl_data.specs.TableRead.{RowBegun, TableRead, bad, columns, with_note, with_notes}
 use Rattle.tbl_format.specs.Notes.{told_at}
 use Rattle.tbl_format.specs.declared.message.Message.TheVariants.{NotMeasured, RequestInTextBlock}
 use Rattle.tbl_format.specs.declared.message.Told.{Told}
 use Rattle.tbl_kept.specs.Joined.{line_at}
 use Rattle.tbl_layout.specs.Data.{fields}
-use Rattle.tbl_layout.specs.DataLines.{block_line_kind, ends_in_block, is_laid_out, len_of_fields, line_kind, without_opening}
-use Rattle.tbl_layout.specs.Entries.{Content, Text as OneText}
+use Rattle.tbl_layout.specs.DataLines.{block_line_kind, ends_in_block, field_kind, is_laid_out, len_of_fields, line_kind, without_opening}
+use Rattle.tbl_layout.specs.Entries.{Content, content_read}
 use Rattle.tbl_layout.specs.declared.data_lines.BlockLineKind.{BlockLineKind}
 use Rattle.tbl_layout.specs.declared.data_lines.BlockLineKind.TheVariants.{End, Request, Text}
+use Rattle.tbl_layout.specs.declared.data_lines.FieldKind.{FieldKind}
+use Rattle.tbl_layout.specs.declared.data_lines.FieldKind.TheVariants.{Above, Repeated, Ruled, Short, Text as TextField}
 use Rattle.tbl_layout.specs.declared.data_lines.LineKind.{LineKind}
 use Rattle.tbl_layout.specs.declared.data_lines.LineKind.TheVariants.{Command, Formats, Row, Rule}
 use Rattle.tbl_text.specs.Items.{first_item, first_items, items, note}
@@ -72,10 +74,6 @@ one-of : (has had : Bool) → (has && not had) ≡ true → has ≡ true
 one-of true had is = refl
 one-of false had is = absurd (cc)
 
-pub rule-some : (line : List ℕ) → line_kind line ≡ Rule → 1 ≤ length line
-rule-some [] is = absurd (cc)
-rule-some (b ∷ line) is = omega arith
-
 pub request-some : (line : List ℕ) → block_line_kind line ≡ Request → 1 ≤ length line
 request-some [] is = absurd (cc)
 request-some (b ∷ line) is = omega arith
@@ -97,12 +95,20 @@ module _ (others : List (ℕ × ℕ)) (m : ℕ) (ends : List (ℕ × ℕ)) (n le
       ∙ ap (λ (ts : List Told). here (line_at ends place n) ++ ts)
       (items-same most (place + size) left (λ some. omega (arith, some, whole, length-drop size (b ∷ text))))
 
-  texts-same : (place : ℕ) (texts : List (List ℕ)) → place + len_of_fields texts ≤ len + 1 → text_notes others m place texts ≡ text_notes ends n place texts
-  texts-same place [] within = refl
-  texts-same place (text ∷ texts) within =
-      ap (λ (ts : List Told). ts ++ text_notes others m (place + length text + 1) texts)
-      (items-same (length text) place text (λ some. omega (arith, within)))
-      ∙ ap (λ (ts : List Told). item_notes ends n place (items text) ++ ts) (texts-same (place + length text + 1) texts (omega (arith, within)))
+  kind-same : (kind : FieldKind) (place : ℕ) (field : List ℕ) → (1 ≤ length field → place + length field ≤ len)
+      → notes_by_kind kind others m place field ≡ notes_by_kind kind ends n place field
+  kind-same TextField place field within = items-same (length field) place field within
+  kind-same (Ruled sign) place field within = refl
+  kind-same Short place field within = refl
+  kind-same (Repeated b) place field within = refl
+  kind-same Above place field within = refl
+
+  notes-same : (place : ℕ) (fs : List (List ℕ)) → place + len_of_fields fs ≤ len + 1 → field_notes others m place fs ≡ field_notes ends n place fs
+  notes-same place [] within = refl
+  notes-same place (field ∷ fs) within =
+      ap (λ (ts : List Told). ts ++ field_notes others m (place + length field + 1) fs)
+      (kind-same (field_kind field) place field (λ some. omega (arith, within)))
+      ∙ ap (λ (ts : List Told). notes_of_field ends n place field ++ ts) (notes-same (place + length field + 1) fs (omega (arith, within)))
 
   fields-same : (place : ℕ) (all : List (List ℕ)) (in_front : List Content) (had : Bool) (t : TableRead) → place + len_of_fields all ≤ len + 1
       → 1 ≤ place + (columns t - length in_front) → with_fields others m place all in_front had t ≡ with_fields ends n place all in_front had t
@@ -112,14 +118,14 @@ module _ (others : List (ℕ × ℕ)) (m : ℕ) (ends : List (ℕ × ℕ)) (n le
       let built = take_while is_laid_out texts in
       let has = nat_lt room (length all) in
       let unbuilt = nat_lt (length built) (length texts) in
-      let row : RowBegun = record { fields = in_front ++ map OneText texts; block = if has || had then None else Some [] } in
+      let row : RowBegun = record { fields = in_front ++ map content_read texts; block = if has || had then None else Some [] } in
       let laid = part-while texts in
       let kept = part-behind texts (without_opening all) all (part-take room (without_opening all)) (part-opening all) in
       let few : length texts ≤ room = take-few room (without_opening all) in
       let behind = λ (ts : List Told). if unbuilt then bad (line_at others (place + len_of_fields built) m) (with_notes ts t) else with_open_row (ends_in_block all) row (with_notes (surplus_notes (has && not had) (line_at others (place + len_of_fields texts - 1) m)) (with_notes ts t)) in
-      ap behind (texts-same place built (omega (arith, within, laid.shorter, laid.fewer, kept.shorter, kept.fewer)))
+      ap behind (notes-same place built (omega (arith, within, laid.shorter, laid.fewer, kept.shorter, kept.fewer)))
       ∙ outcome-same unbuilt (has && not had) (ends_in_block all) (line_at others (place + len_of_fields built) m) (line_at ends (place + len_of_fields built) n)
-      (line_at others (place + len_of_fields texts - 1) m) (line_at ends (place + len_of_fields texts - 1) n) row (with_notes (text_notes ends n place built) t)
+      (line_at others (place + len_of_fields texts - 1) m) (line_at ends (place + len_of_fields texts - 1) n) row (with_notes (field_notes ends n place built) t)
       (λ is. same (place + len_of_fields built) (omega (arith, within, kept.shorter, kept.fewer, unlaid-within texts (less (length built) (length texts) is))))
       (λ is.
       let fewer = less room (length all) (one-of has had is) in
@@ -127,7 +133,7 @@ module _ (others : List (ℕ × ℕ)) (m : ℕ) (ends : List (ℕ × ℕ)) (n le
 
   line-same : (kind : LineKind) (line : List ℕ) (t : TableRead) → line_kind line ≡ kind → length line ≡ len → 1 ≤ columns t
       → with_line kind others m line t ≡ with_line kind ends n line t
-  line-same Rule line t is whole some = ap (λ (k : ℕ). bad k t) (same 0 (omega (arith, rule-some line is, whole)))
+  line-same (Rule sign) line t is whole some = refl
   line-same Formats line t is whole some = refl
   line-same Command line t is whole some = refl
   line-same Row line t is whole some =
@@ -147,7 +153,7 @@ module _ (others : List (ℕ × ℕ)) (m : ℕ) (ends : List (ℕ × ℕ)) (n le
       ap (λ (k : ℕ). with_note k RequestInTextBlock (record t { begun = Some (with_text line row) })) (same 0 (omega (arith, request-some line is, whole)))
   block-same Text line row t is whole =
       ap (λ (ts : List Told). with_notes (if is_some row.block then ts else []) (record t { begun = Some (with_text line row) }))
-      (texts-same 0 (line ∷ []) (omega (arith, whole)))
+      (items-same (length line) 0 line (λ some. omega (arith, whole)))
 
   pub whole-same : (begun : Option RowBegun) (line : List ℕ) (t : TableRead) → length line ≡ len → 1 ≤ columns t
       → with_whole begun others m line t ≡ with_whole begun ends n line t

@@ -10,12 +10,12 @@ use Rattle.tbl_format.specs.declared.message.Told.{Told}
 use Rattle.tbl_kept.specs.Joined.{Joined, behind_joined, ends_joined, goes_on, line_at}
 use Rattle.tbl_layout.specs.Data.{fields}
 use Rattle.tbl_layout.specs.DataLines.{block_line_kind, ends_in_block, is_laid_out, len_of_fields, line_kind, without_opening}
-use Rattle.tbl_layout.specs.Entries.{Content, Text as OneText}
+use Rattle.tbl_layout.specs.Entries.{Content, content_read}
 use Rattle.tbl_layout.specs.declared.data_lines.BlockLineKind.{BlockLineKind}
 use Rattle.tbl_layout.specs.declared.data_lines.BlockLineKind.TheVariants.{End, Request, Text}
 use Rattle.tbl_layout.specs.declared.data_lines.LineKind.{LineKind}
 use Rattle.tbl_layout.specs.declared.data_lines.LineKind.TheVariants.{Command, Formats, Row, Rule}
-use Rattle.tbl_data.specs.DataRead.{closed_block, behind_block, fields_with_block, surplus_notes, text_notes, whole_line, with_block_line, with_fields, with_line, with_open_row, with_pending, with_whole}
+use Rattle.tbl_data.specs.DataRead.{closed_block, behind_block, field_notes, fields_with_block, surplus_notes, whole_line, with_block_line, with_fields, with_line, with_open_row, with_pending, with_whole}
 use Rattle.tbl_table.specs.NotesStay.{Begins, NotesStay}
 use Rattle.tbl_table.specs.Table.{behind_format, closed, closed_line, ended, ended_in, format_line, head_line, left_out_notes, line_in, line_read, notes, told_at_cut, with_options}
 use Rattle.tbl_data.specs.TableRead.{RowBegun, TableRead, bad, columns, with_notes}
@@ -81,15 +81,15 @@ fields_stay ends n place all in_front had_surplus t =
     let texts = take room (without_opening all) in
     let built = take_while is_laid_out texts in
     let has_surplus = nat_lt room (length all) in
-    let told = text_notes ends n place built in
+    let told = field_notes ends n place built in
     begins_behind t.notes (t.notes ++ told) (with_fields ends n place all in_front had_surplus t).notes (begins_longer t.notes told)
     (fields_by (nat_lt (length built) (length texts)) (ends_in_block all) (line_at ends (place + len_of_fields built) n)
-    (record { fields = in_front ++ map OneText texts; block = if has_surplus || had_surplus then None else Some [] })
+    (record { fields = in_front ++ map content_read texts; block = if has_surplus || had_surplus then None else Some [] })
     (surplus_notes (has_surplus && not had_surplus) (line_at ends (place + len_of_fields texts - 1) n)) (with_notes told t))
 
 -- a whole line of the data
 line_kind_stays : (kind : LineKind) (ends : List (ℕ × ℕ)) (n : ℕ) (line : List ℕ) (t : TableRead) → Begins t.notes (with_line kind ends n line t).notes
-line_kind_stays Rule ends n line t = begins_longer t.notes _
+line_kind_stays (Rule sign) ends n line t = begins_same t.notes
 line_kind_stays Formats ends n line t = begins_same t.notes
 line_kind_stays Command ends n line t = begins_same t.notes
 line_kind_stays Row ends n line t = fields_stay ends n 0 (fields t.options.separator line) [] false t

@@ -10,12 +10,12 @@ use Rattle.tbl_format.specs.declared.message.Told.{Told}
 use Rattle.tbl_kept.specs.Joined.{behind_joined, ends_joined, goes_on, line_at}
 use Rattle.tbl_layout.specs.Data.{fields}
 use Rattle.tbl_layout.specs.DataLines.{behind_first, block_kind_ends_row, block_line_kind, ends_in_block, ends_row, is_laid_out, kind_ends_row, len_of_fields, line_kind, without_opening}
-use Rattle.tbl_layout.specs.Entries.{Command as OneCommand, Content, Row as OneRow, Text as OneText}
+use Rattle.tbl_layout.specs.Entries.{Command as OneCommand, Content, Row as OneRow, Rule as OneRule, content_read}
 use Rattle.tbl_layout.specs.declared.data_lines.BlockLineKind.{BlockLineKind}
 use Rattle.tbl_layout.specs.declared.data_lines.BlockLineKind.TheVariants.{End, Request, Text}
 use Rattle.tbl_layout.specs.declared.data_lines.LineKind.{LineKind}
 use Rattle.tbl_layout.specs.declared.data_lines.LineKind.TheVariants.{Command, Formats, Row, Rule}
-use Rattle.tbl_data.specs.DataRead.{behind_block, fields_with_block, serving, surplus_notes, text_notes, whole_line, with_block_line, with_fields, with_line, with_open_row, with_pending, with_whole}
+use Rattle.tbl_data.specs.DataRead.{behind_block, field_notes, fields_with_block, serving, surplus_notes, whole_line, with_block_line, with_fields, with_line, with_open_row, with_pending, with_whole}
 use Rattle.tbl_table.specs.Table.{behind_format, columns_at, columns_in, ends_in, format_line, head_line, left_out_notes, line_in, line_read, rows, rows_behind, with_options}
 use Rattle.tbl_data.specs.TableRead.{RowBegun, TableRead, bad, columns, with_notes}
 use Rattle.tbl_data.specs.declared.phase.Phase.{Phase}
@@ -67,12 +67,12 @@ fields-rows ends n place all in_front had_surplus t =
     let built = take_while is_laid_out texts in
     let has_surplus = nat_lt room (length all) in
     noted-rows (nat_lt (length built) (length texts)) (ends_in_block all) (line_at ends (place + len_of_fields built) n)
-    (record { fields = in_front ++ map OneText texts; block = if has_surplus || had_surplus then None else Some [] })
-    (surplus_notes (has_surplus && not had_surplus) (line_at ends (place + len_of_fields texts - 1) n)) (with_notes (text_notes ends n place built) t)
+    (record { fields = in_front ++ map content_read texts; block = if has_surplus || had_surplus then None else Some [] })
+    (surplus_notes (has_surplus && not had_surplus) (line_at ends (place + len_of_fields texts - 1) n)) (with_notes (field_notes ends n place built) t)
 
 kind-rows : (kind : LineKind) (ends : List (ℕ × ℕ)) (n : ℕ) (line : List ℕ) (t : TableRead)
     → length (with_line kind ends n line t).body ≤ length t.body + one-if (kind_ends_row kind t.options.separator line)
-kind-rows Rule ends n line t = omega arith
+kind-rows (Rule sign) ends n line t = omega (arith, length-append t.body (OneRule sign ∷ []))
 kind-rows Formats ends n line t = omega arith
 kind-rows Command ends n line t = omega (arith, length-append t.body (OneCommand line ∷ []))
 kind-rows Row ends n line t = fields-rows ends n 0 (fields t.options.separator line) [] false t

@@ -6,12 +6,12 @@ use Rattle.tbl_format.specs.declared.message.Told.{Told}
 use Rattle.tbl_kept.specs.Joined.{line_at}
 use Rattle.tbl_layout.specs.Data.{fields}
 use Rattle.tbl_layout.specs.DataLines.{block_line_kind, ends_in_block, is_laid_out, len_of_fields, line_kind, without_opening}
-use Rattle.tbl_layout.specs.Entries.{Command as OneCommand, Content, Row as OneRow, Text as OneText}
+use Rattle.tbl_layout.specs.Entries.{Command as OneCommand, Content, Row as OneRow, Rule as OneRule, content_read}
 use Rattle.tbl_layout.specs.declared.data_lines.BlockLineKind.{BlockLineKind}
 use Rattle.tbl_layout.specs.declared.data_lines.BlockLineKind.TheVariants.{End, Request, Text}
 use Rattle.tbl_layout.specs.declared.data_lines.LineKind.{LineKind}
 use Rattle.tbl_layout.specs.declared.data_lines.LineKind.TheVariants.{Command, Formats, Row, Rule}
-use Rattle.tbl_data.specs.DataRead.{behind_block, fields_with_block, serving, surplus_notes, text_notes, whole_line, with_block_line, with_fields, with_line, with_open_row, with_whole}
+use Rattle.tbl_data.specs.DataRead.{behind_block, field_notes, fields_with_block, serving, surplus_notes, whole_line, with_block_line, with_fields, with_line, with_open_row, with_whole}
 use Rattle.tbl_data.specs.TableRead.{RowBegun, TableRead, bad, columns, with_notes}
 
 -- a row that is begun
@@ -43,13 +43,13 @@ makes-fields ends n place all in_front had_surplus t =
     let texts = take room (without_opening all) in
     let built = take_while is_laid_out texts in
     let has_surplus = nat_lt room (length all) in
-    makes-noted t (with_fields ends n place all in_front had_surplus t) (text_notes ends n place built)
+    makes-noted t (with_fields ends n place all in_front had_surplus t) (field_notes ends n place built)
     (makes-by (nat_lt (length built) (length texts)) (ends_in_block all) (line_at ends (place + len_of_fields built) n)
-    (record { fields = in_front ++ map OneText texts; block = if has_surplus || had_surplus then None else Some [] })
-    (surplus_notes (has_surplus && not had_surplus) (line_at ends (place + len_of_fields texts - 1) n)) (with_notes (text_notes ends n place built) t))
+    (record { fields = in_front ++ map content_read texts; block = if has_surplus || had_surplus then None else Some [] })
+    (surplus_notes (has_surplus && not had_surplus) (line_at ends (place + len_of_fields texts - 1) n)) (with_notes (field_notes ends n place built) t))
 
 makes-line : (kind : LineKind) (ends : List (ℕ × ℕ)) (n : ℕ) (line : List ℕ) (t : TableRead) → one_begun t.begun ≡ 0 → Makes t (with_line kind ends n line t)
-makes-line Rule ends n line t none = record { few = omega arith; format = inl refl }
+makes-line (Rule sign) ends n line t none = record { few = omega (arith, none, length-append t.body (OneRule sign ∷ [])); format = inl refl }
 makes-line Formats ends n line t none = record { few = omega (arith, none); format = inr refl }
 makes-line Command ends n line t none = record { few = omega (arith, none, length-append t.body (OneCommand line ∷ [])); format = inl refl }
 makes-line Row ends n line t none = makes-fields ends n 0 (fields t.options.separator line) [] false t

@@ -170,7 +170,7 @@ width line_length t = width_in t.phase line_length t
 abbrev pub picture_of : ℕ → TableRead → List ℕ
 picture_of line_length t =
     let table = laid_out line_length t in
-    picture (indent t.options.centered line_length table.width) (picture_lines table.columns t.body)
+    picture (indent t.options.centered line_length table.width) (picture_lines table.width table.columns t.body)
 
 abbrev pub output_in : Phase → ℕ → TableRead → Option (List ℕ)
 output_in AtHead line_length t = None
@@ -196,7 +196,9 @@ picture_after line_length lines = output line_length (ended_after line_length li
 
 abbrev pub lines_after : ℕ → List (List ℕ) → List ℕ
 lines_after line_length lines =
-    let t = ended_after line_length lines in picture_lines (laid_out line_length t).columns t.body
+    let t = ended_after line_length lines in
+    let table = laid_out line_length t in
+    picture_lines table.width table.columns t.body
 
 abbrev pub notes_after : List (List ℕ) → List Told
 notes_after lines = notes (ended_after 65 lines)

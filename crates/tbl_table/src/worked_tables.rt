@@ -31,6 +31,9 @@ pub fn pictures()
         ≡ codes "\\&a        b\n" }
     ensures measure { lines_after 65 (codes "lw3." ∷ codes "T{" ∷ codes "one two" ∷ codes "T}" ∷ [])
         ≡ codes "\\&one\n\\&two\n" }
+    ensures rules { lines_after 65 (codes "l r." ∷ codes "a\tbb" ∷ codes "=" ∷ codes "longer\tc"
+        ∷ codes "_\t\\_" ∷ codes "\\Rx\t=" ∷ codes "_\t_" ∷ codes "_" ∷ [])
+        ≡ codes "\\&a        bb\n\\&===========\n\\&longer    c\n\\&------   --\n\\&xxxxxx   ==\n\\&-----------\n\\&-----------\n" }
     ensures nearly_rules { lines_after 65 (codes "l l." ∷ codes "_ \t__" ∷ [])
         ≡ codes "\\&_    __\n" }
     ensures joined { lines_after 65 (codes "l l." ∷ codes "a\\" ∷ codes "b\t c " ∷ codes "\\" ∷ [])
@@ -57,8 +60,8 @@ pub fn reports()
         ≡ told_at 3 TooManyFields ∷ told_at 5 RequestInTextBlock ∷ [] }
     ensures unbuilt { notes_after (codes "l l." ∷ codes "\\c\t\\^" ∷ codes "x\ty\tz" ∷ [])
         ≡ told_at 2 (NotMeasured 99) ∷ told_at 2 BadFormat ∷ [] }
-    ensures rule { notes_after (codes "l." ∷ codes "a" ∷ codes "_" ∷ [])
-        ≡ told_at 3 BadFormat ∷ [] }
+    ensures rules { notes_after (codes "l l." ∷ codes "_" ∷ codes "\\_\t\\Rx" ∷ codes "=\t\\c" ∷ [])
+        ≡ told_at 4 (NotMeasured 99) ∷ [] }
     ensures surplus_rule { notes_after (codes "l." ∷ codes "a\t_" ∷ [])
         ≡ told_at 2 TooManyFields ∷ [] }
     ensures box_option { picture_after 65 (codes "box;" ∷ codes "l." ∷ []) ≡ None }
@@ -67,7 +70,7 @@ pub fn reports()
         ≡ told_at 2 BadFormat ∷ [] }
     ensures joined_surplus { notes_after (codes "l." ∷ codes "a\\" ∷ codes "\tb" ∷ [])
         ≡ told_at 3 TooManyFields ∷ [] }
-    ensures joined_rule { notes_after (codes "l l." ∷ codes "a\t\\" ∷ codes "=" ∷ [])
+    ensures joined_unbuilt { notes_after (codes "l l." ∷ codes "_\t\\" ∷ codes "\\^" ∷ [])
         ≡ told_at 3 BadFormat ∷ [] }
     ensures no_dot { notes_after (codes "l" ∷ []) ≡ told_at 2 BadFormat ∷ [] }
     ensures not_ended { notes_after (codes "l." ∷ codes "a" ∷ codes ".T&" ∷ codes "l" ∷ [])
@@ -80,5 +83,6 @@ pub fn counts()
     ensures lines { rows_after (codes "l." ∷ codes "T{" ∷ codes "a" ∷ codes "T}" ∷ codes ".sp"
         ∷ codes ".T&" ∷ codes "l." ∷ codes "b" ∷ []) ≡ 3 }
     ensures at_end { rows_after (codes "l l." ∷ codes "a\tT{" ∷ codes "b\\" ∷ []) ≡ 1 }
-    ensures unbuilt { rows_after (codes "l." ∷ codes "a" ∷ codes "_\\" ∷ []) ≡ 1 }
+    ensures rule { rows_after (codes "l." ∷ codes "a" ∷ codes "_\\" ∷ []) ≡ 2 }
+    ensures unbuilt { rows_after (codes "l." ∷ codes "a" ∷ codes "\\^" ∷ []) ≡ 1 }
 {}

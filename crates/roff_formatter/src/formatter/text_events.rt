@@ -3,14 +3,14 @@
 ghost use Rattle.std.specs.Prelude.{[], ◌∷◌, ◌++◌, option_map};
 ghost use Rattle.roff_run.specs.Reading.TextLines.{blank_line, leading_glyph};
 ghost use Rattle.roff_formatter.specs.Clauses.{finished_of, Gap, Print, WordEnd, LineEnd, Break};
-ghost use Rattle.roff_layout.specs.declared.event.Event.TheVariants.{Count, FieldEnd};
+ghost use Rattle.roff_layout.specs.declared.event.Event.TheVariants.{Count};
 ghost use Rattle.roff_layout.specs.Happenings.{Places};
 ghost use Rattle.roff_layout.specs.declared.layout_event.LayoutEvent.TheVariants.{Space};
 ghost use Rattle.roff_formatter.specs.Clauses.{EndsOpenWord, EndsWordFirst};
 ghost use Rattle.roff_formatter.specs.Clauses.{PerformsEvents, PerformsOne, PerformsStanding};
 ghost use Rattle.roff_formatter.specs.Clauses.{PerformsUnfielded};
 ghost use Rattle.roff_formatter.specs.Clauses.{PutsFinished, PutsOnPage, line_due};
-ghost use Rattle.roff_formatter.specs.Clauses.{Page, Text, Sunk, Tab};
+ghost use Rattle.roff_formatter.specs.Clauses.{Page, Text, Sunk};
 
 use super::Formatter;
 use super::diverting::divert_line;
@@ -44,26 +44,8 @@ impl Formatter {
         }
     }
 
-    /// Moves to the next tab stop behind so many leading blanks.
-    pub(super) fn tab_behind<O: ByteSink>(
-        &mut self,
-        leading: u32,
-        out: &mut O,
-    ) -> Result<Option<Sprung>, Halt>
-        ensures { PerformsEvents (leading_glyph leading ++ Text Tab ∷ []) self.old self.new
-            (O.sunk out.old) (O.sunk out.new) result }
-    {
-        if leading == 0 {
-            return self.tab(out);
-        }
-        match self.glyph(Glyph::Blanks(leading)) {
-            Ok(None) => further(self.tab(out), 1),
-            Ok(Some(sprung)) => Ok(Some(sprung)),
-            Err(halt) => Err(halt),
-        }
-    }
-
     /// Ends the open word, and breaks.
+    #[inline(always)]
     pub(super) fn break_behind_word<O: ByteSink>(
         &mut self,
         out: &mut O,
@@ -141,33 +123,6 @@ impl Formatter {
                 Ok(()) => Ok(None),
                 Err(limit) => Err(Halt::Limit(limit)),
             },
-        }
-    }
-
-    /// Moves to the next tab stop, and places the line that this finishes.
-    pub(super) fn tab<O: ByteSink>(&mut self, out: &mut O) -> Result<Option<Sprung>, Halt>
-        ensures { PerformsEvents (Text Tab ∷ []) self.old self.new
-            (O.sunk out.old) (O.sunk out.new) result }
-    {
-        match self.begin_first() {
-            Some(name) => self.stopped_by(name),
-            None => match self.composer.environments.in_force.lines.tab() {
-                Ok(line) => {
-                    put_finished(&mut self.composer.pages, &mut self.composer.due, line, out)
-                }
-                Err(limit) => Err(Halt::Limit(limit)),
-            },
-        }
-    }
-
-    /// Ends the open field, if one is open.
-    pub(super) fn end_field(&mut self) -> Result<Option<Sprung>, Halt>
-        ensures { (told : Sunk) →
-            PerformsEvents (Text FieldEnd ∷ []) self.old self.new told told result }
-    {
-        match self.composer.environments.in_force.lines.end_field() {
-            Ok(()) => Ok(None),
-            Err(limit) => Err(Halt::Limit(limit)),
         }
     }
 
@@ -362,7 +317,7 @@ impl Formatter {
 
 /// Places the line that an event finished, if it finished one.
 #[inline(always)]
-fn put_finished<O: ByteSink>(
+pub(super) fn put_finished<O: ByteSink>(
     pages: &mut Pages,
     due: &mut Due,
     line: Option<Line<'_>>,

@@ -204,6 +204,24 @@ with_glyphs bytes k = record k {
   place = moved (text_width bytes) k.place;
 }
 
+-- how many bytes of glyphs the limit on the pending line lets through in the open field
+abbrev pub field_room : Kept → ℕ
+field_room k = k.cap - (kept_length k + k.blanks)
+
+-- behind the glyphs of these bytes in a field: a gap in front of them is of the same word
+abbrev pub with_glyphs_in : List ℕ → KeptField → Kept → Kept
+with_glyphs_in bytes f k = record k {
+  field = Some (record f { text = f.text ++ (replicate k.blanks glyph_blank ++ bytes) });
+  blanks = 0;
+  has_glyph = true;
+  ends_sentence = ends_sentence_behind bytes (k.blanks == 0 && k.ends_sentence);
+  place = moved (text_width bytes) k.place;
+}
+
+-- behind those glyphs, in the open field, if one is open
+abbrev pub with_glyphs_told : List ℕ → Kept → Kept
+with_glyphs_told bytes k = elim k.field [ None ↦ with_glyphs bytes k | Some f ↦ with_glyphs_in bytes f k ]
+
 -- behind words that go into the pending line, with a blank between two of them and one behind the last
 abbrev pub with_words : List ℕ → Kept → Kept
 with_words text k = record k {

@@ -1,5 +1,5 @@
 -- Ways to tab stops, as they are told.
-use Rattle.std.specs.Prelude.{Option, Some, None}
+use Rattle.std.specs.Prelude.{Option, Some, None, if◌then◌else◌, ◌==◌}
 use Rattle.roff_layout.specs.TabStops as tab_stops
 use Rattle.roff_lines.specs.declared.stops.Way.{Way}
 
@@ -7,3 +7,7 @@ use Rattle.roff_lines.specs.declared.stops.Way.{Way}
 abbrev pub way_told : Option Way → Option tab_stops.Way
 way_told None = None
 way_told (Some way) = Some (record { columns = way.columns; kind = way.kind })
+
+-- a way as it is told; none of no columns
+abbrev pub way_of : Way → Option tab_stops.Way
+way_of way = if way.columns == 0 then None else Some (record { columns = way.columns; kind = way.kind })

@@ -5,14 +5,16 @@ ghost use Rattle.std.specs.Prelude.{◌≡◌, ℕ, ◌+◌, ◌<◌, ◌≤◌,
 ghost use Rattle.std.specs.Prelude.{drop, length, take};
 ghost use Rattle.std.specs.Prelude.{IfOk, IfSome, OnOk, OnErr, IsErr, IsOkUnless, option_map};
 ghost use Rattle.std.specs.Borrow.{sem};
+ghost use Rattle.std.specs.List.{AllByRecursion};
 ghost use Rattle.roff_lines.specs.Clauses.{Blanks, FieldEnd, Tab, History, finished_of};
 ghost use Rattle.roff_lines.specs.Clauses.{is_in_field};
-ghost use Rattle.roff_lines.specs.Clauses.{length_reached, pending_length, shaped};
+ghost use Rattle.roff_lines.specs.Clauses.{length_reached, pending_length, shaped, text_width};
 
 use super::Env;
 use super::words::{fits, moved};
-use crate::glyph::{ends_sentence_behind_glyph, kept_byte};
+use crate::glyph::{ends_sentence_behind, ends_sentence_behind_glyph, kept_byte};
 use crate::shape::Shape;
+use crate::words::measured_glyphs;
 use roff_layout::{Glyph, Line, StopKind, UNPADDABLE};
 use roff_num::Limit;
 
@@ -21,6 +23,7 @@ impl Env {
     ghost use Rattle.roff_lines.specs.Env.Kept.{length_ended, length_told, length_with, with_glyph};
     ghost use Rattle.roff_lines.specs.Env.Kept.{with_field_ended, with_field_left};
     ghost use Rattle.roff_lines.specs.Env.Kept.{with_field_opened, with_glyph_told};
+    ghost use Rattle.roff_lines.specs.Env.Kept.{field_room, with_glyphs_told};
     ghost use Rattle.roff_lines.specs.Env.Stands.{Finishes, Stands, StandsBehind, StandsBehindTab};
     ghost use Rattle.roff_lines.specs.Env.Stands.{StandsPlain, length_at_tab};
     ghost use Rattle.roff_lines.specs.Env.Rests.{Rests};
@@ -98,6 +101,24 @@ impl Env {
             Ok(shape) => Ok(self.lent(shape)),
             Err(limit) => Err(limit),
         }
+    }
+
+    /// Moves to the next tab stop where no field is open, as [`tab`](Env::tab) does. That finishes
+    /// no line.
+    ///
+    /// # Errors
+    ///
+    /// [`Limit::Line`] if the pending line would pass its limit; the environment is then as it was.
+    #[inline(always)]
+    pub fn tab_outside(&mut self) -> Result<(), Limit>
+        requires { self.old.field ≡ None }
+        ensures stands { OnOk result (StandsBehind self.old Tab self.new) }
+        ensures line { Finishes self.old Tab None }
+        ensures limit { (line_cap : ℕ) (h : History) → Stands line_cap h self.old
+            → (IsErr result ↔ (line_cap < length_reached Tab h)) }
+        ensures error { IsOkUnless result Limit.Line }
+    {
+        self.move_to_stop()
     }
 
     /// The same: how the line is laid out that this finishes.
@@ -244,7 +265,8 @@ impl Env {
     }
 
     /// Puts the open field's text into its word, as it stands.
-    #[inline(always)]
+    #[cold]
+    #[inline(never)]
     pub(super) fn leave_field(&mut self)
         requires { is_some self.old.field ≡ true }
         ensures { self.new ≡ with_field_left self.old }
@@ -283,17 +305,47 @@ impl Env {
     pub(super) fn field_front(&mut self, bytes: &[u8], count: usize) -> usize
         requires open { is_some self.old.field ≡ true }
         requires text { count ≤ length bytes.now }
+        requires above { AllByRecursion (λ b. 31 < b) (take count bytes.now) }
         ensures within { result ≤ count }
         ensures told { Tells (take result bytes.now) self.old self.new }
         ensures ends { EndsInField (drop result (take count bytes.now)) self.new }
     {
-        let mut told = 0;
-        while told < count && bytes[told] != b' ' {
-            if self.glyph(Glyph::Printed(bytes[told])).is_err() {
-                break;
-            }
-            told += 1;
+        let (told, width) = measured_glyphs(bytes, self.field_room().min(count));
+        if told == 0 {
+            return 0;
         }
+        self.glyphs_in_field(bytes, told, width);
         told
+    }
+
+    /// How many bytes of glyphs the limit on the pending line lets through in the open field.
+    fn field_room(&self) -> usize
+        requires { is_some self.now.field ≡ true }
+        ensures { result ≡ field_room self.now }
+    {
+        let bytes = self.length_in_field() + self.blanks;
+        (self.cap as u64).saturating_sub(bytes) as usize
+    }
+
+    /// Adds glyphs of so many bytes in front, so many columns wide, to the open field, behind the
+    /// blanks of a gap there.
+    fn glyphs_in_field(&mut self, bytes: &[u8], count: usize, width: u64)
+        requires text { count ≤ length bytes.now }
+        requires some { 0 < count }
+        requires open { is_some self.old.field ≡ true }
+        requires room { count ≤ field_room self.old }
+        requires above { AllByRecursion (λ b. 32 < b) (take count bytes.now) }
+        requires width { text_width (take count bytes.now) ≡ width }
+        ensures { self.new ≡ with_glyphs_told (take count bytes.now) self.old }
+    {
+        let gap = self.blanks as usize;
+        let before = gap == 0 && self.ends_sentence;
+        self.field.push_times(UNPADDABLE, gap);
+        self.blanks = 0;
+        self.field.extend(bytes, count, width);
+        self.has_glyph = true;
+        let (front, _) = bytes.split_at(count);
+        self.ends_sentence = ends_sentence_behind(front, before);
+        self.place = moved(self.place, width);
     }
 }

@@ -138,6 +138,7 @@ impl Env {
     }
 
     /// Puts the open word into the pending line, or into a line of its own behind it.
+    #[inline(always)]
     pub(super) fn place_word(&mut self) -> Option<Shape>
         ensures kept { self.new ≡ with_word_ended self.old }
         ensures line { option_map (λ s. shaped s self.new.finished) result

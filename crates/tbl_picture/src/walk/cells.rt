@@ -6,13 +6,14 @@ ghost use Rattle.tbl_layout.specs.declared.entry.EntryKind.TheVariants.{Split, T
 ghost use Rattle.tbl_picture.specs.Pieces.{bytes_of, piece_len};
 ghost use Rattle.tbl_picture.specs.PieceQueue.{Adds};
 ghost use Rattle.tbl_picture.specs.RowsLeft.{end_given, if_given};
-ghost use Rattle.tbl_picture.specs.RowsWalked.{IsBlock};
+ghost use Rattle.tbl_picture.specs.RowsWalked.{IsBlock, Repeats};
 
 use super::{Next, Walk};
 use crate::picture::Piece;
 use crate::piece_queue::PieceQueue;
 use crate::row_columns::{RowColumn, RowLent, block_bytes, column_at, count_to_glyph};
 use roff_escape::OpenEscapes;
+use tbl_layout::data_lines::{RuleSign, sign_byte};
 use tbl_layout::entry::{EntryKind, SplitEntry};
 use tbl_text::block_parts::{BlockPart, BlockPlace, next_part};
 
@@ -125,6 +126,16 @@ impl Walk {
                 }
             }
             EntryKind::Block(_) => self.begin_block_line(pieces, escapes, row, held),
+            EntryKind::Ruled(sign) => {
+                self.give_repeated(pieces, row, held, sign_byte(sign), held.rule_width());
+            }
+            EntryKind::Short => {
+                let count = held.column.needs.widest_entry();
+                self.give_repeated(pieces, row, held, sign_byte(RuleSign::Single), count);
+            }
+            EntryKind::Repeated(byte) => {
+                self.give_repeated(pieces, row, held, byte, held.column.width);
+            }
         }
     }
 
@@ -187,6 +198,31 @@ impl Walk {
             Piece::Block(split.behind as usize, to as usize),
         );
         self.pass(held.place, at, split.width as usize);
+    }
+
+    /// A byte that is repeated so often, on the first line of its row.
+    fn give_repeated(
+        &mut self,
+        pieces: &mut PieceQueue,
+        row: &RowLent<'_>,
+        held: RowColumn,
+        byte: u8,
+        count: usize,
+    )
+        requires next { self.old.next ≡ Next.AtCell }
+        requires at { AtColumn (lent_row row.now) self.old held }
+        requires repeats { Repeats byte count held }
+        requires room { pieces.old.taken + 4 ≤ pieces.old.room }
+        ensures { (frame : List ℕ)
+            → RowSteps frame (lent_row row.now) self.old self.new pieces.old pieces.new }
+    {
+        if self.line != 0 {
+            return self.pass(held.place, self.place, self.width);
+        }
+        let at = held.begins_at();
+        give(pieces, self.count, Piece::Blanks(self.gap_to(at)));
+        give(pieces, self.count, Piece::Repeated(byte, count));
+        self.pass(held.place, at, count);
     }
 
     /// The line of a block begins, or the block has none there.

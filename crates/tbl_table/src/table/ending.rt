@@ -208,6 +208,7 @@ impl Table {
         set_places(&mut self.kept, laid.more);
         self.giving.give_picture(
             indent(self.options.centered, line_length, laid.width),
+            laid.width,
             has_newline,
         );
         None

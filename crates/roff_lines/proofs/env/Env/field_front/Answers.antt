@@ -1,22 +1,87 @@
-use Rattle.std.proofs.Common.{◌≡◌, ℕ, false, List, [], ◌∷◌, slice_index_or, take, ne_eqb, sym, subst, arith, ◌∙◌}
-use Rattle.std.specs.Prelude.{is_err}
-use Rattle.std.proofs.lemmas.List.{take_more}
-use Rattle.roff_layout.specs.declared.glyph.Glyph.TheVariants.{Printed}
-use Rattle.roff_lines.specs.Env.Tells.{Tells}
-use Rattle.roff_lines.proofs.TextTold.{Tells-both, Tells-glyph_told, field-glyph_told}
+use Rattle.std.proofs.Common.{◌≡◌, ◌<◌, ◌≤◌, ℕ, List, length, take, drop, sym, ap, subst, ◌∙◌, arith}
+use Rattle.std.specs.List.{AllByRecursion}
+use Rattle.std.proofs.lemmas.List.{length-take, take-take}
+use Rattle.roff_lines.specs.Env.Kept.{Kept}
+use Rattle.roff_lines.specs.Env.Tells.{EndsInField, Tells}
+use Rattle.roff_lines.specs.Env.Kept.{with_glyphs_told}
+use Rattle.roff_lines.specs.GlyphsInFront.{glyphs_in_front}
+use Rattle.roff_lines.proofs.TextFront.{few-counted, taken-counted}
+use Rattle.roff_lines.proofs.GlyphsInField.{EndsInField-counted, EndsInField-none, Tells-counted, above-in, room-in}
 use Rattle.roff_lines.proofs.env.Env.field_front.Goals as goal
 
-pub loop-told-preserved : goal.loop-told-preserved
-loop-told-preserved c =
-    let l = c.loop-told in
+pub returns-then-told-eq0-clause-ends : goal.returns-then-told-eq0-clause-ends
+returns-then-told-eq0-clause-ends c =
     let bytes : List ℕ = c.args.bytes.now in
-    let b : ℕ = slice_index_or bytes l.told 0 in
-    let glyph = c.glyph.ensures in
-    let more = sym (take_more bytes l.told 0 (omega (arith, c.loop-told-test.true, c.requires.text))) in
-    let done : is_err c.glyph.result ≡ false = sym c.is_err.ensures.value ∙ c.if-is_err.false in
-    let one : Tells (b ∷ []) l.self c.glyph.new.self = Tells-glyph_told c.glyph.result b l.self c.glyph.new.self (ne_eqb b 32 c.if-bytes-told-ne32.true) done glyph.stands glyph.room in
-    record {
-      few = omega (arith, c.loop-told-test.true);
-      told = subst (λ (xs : List ℕ). Tells xs c.args.self.now c.glyph.new.self) more (Tells-both (take l.told bytes) (b ∷ []) c.args.self.now l.self c.glyph.new.self l.invariant.told one);
-      in_field = field-glyph_told c.glyph.result (Printed b) l.self c.glyph.new.self done glyph.kept l.invariant.in_field;
-    }
+    let old : Kept = c.args.self.now in
+    let counted = c.measured_glyphs-told in
+    let told : ℕ = counted.result.0 in
+    let room : ℕ = c.field_room.result in
+    let text : List ℕ = take c.args.count bytes in
+    let cap = counted.ensures.glyphs ∙ ap (λ n. take n (glyphs_in_front bytes)) c.min.ensures in
+    let few = few-counted bytes c.args.count room told counted.ensures.text cap in
+    let within : told ≤ length text = omega (arith, few, length-take c.args.count bytes, c.requires.text) in
+    let taken = taken-counted bytes c.args.count room told counted.ensures.text cap in
+    let same : take told text ≡ take told bytes = take-take told c.args.count bytes few in
+    EndsInField-none text old told room within c.requires.above taken c.field_room.ensures c.requires.«open» (omega (arith, c.if-told-eq0.true))
+
+pub glyphs_in_field-requires-clause-room : goal.glyphs_in_field-requires-clause-room
+glyphs_in_field-requires-clause-room c =
+    let bytes : List ℕ = c.args.bytes.now in
+    let old : Kept = c.args.self.now in
+    let counted = c.measured_glyphs-told in
+    let told : ℕ = counted.result.0 in
+    let room : ℕ = c.field_room.result in
+    let text : List ℕ = take c.args.count bytes in
+    let cap = counted.ensures.glyphs ∙ ap (λ n. take n (glyphs_in_front bytes)) c.min.ensures in
+    let few = few-counted bytes c.args.count room told counted.ensures.text cap in
+    let within : told ≤ length text = omega (arith, few, length-take c.args.count bytes, c.requires.text) in
+    let taken = taken-counted bytes c.args.count room told counted.ensures.text cap in
+    let same : take told text ≡ take told bytes = take-take told c.args.count bytes few in
+    room-in text old told room within c.requires.above taken c.field_room.ensures c.requires.«open»
+
+pub glyphs_in_field-requires-clause-above : goal.glyphs_in_field-requires-clause-above
+glyphs_in_field-requires-clause-above c =
+    let bytes : List ℕ = c.args.bytes.now in
+    let old : Kept = c.args.self.now in
+    let counted = c.measured_glyphs-told in
+    let told : ℕ = counted.result.0 in
+    let room : ℕ = c.field_room.result in
+    let text : List ℕ = take c.args.count bytes in
+    let cap = counted.ensures.glyphs ∙ ap (λ n. take n (glyphs_in_front bytes)) c.min.ensures in
+    let few = few-counted bytes c.args.count room told counted.ensures.text cap in
+    let within : told ≤ length text = omega (arith, few, length-take c.args.count bytes, c.requires.text) in
+    let taken = taken-counted bytes c.args.count room told counted.ensures.text cap in
+    let same : take told text ≡ take told bytes = take-take told c.args.count bytes few in
+    subst (AllByRecursion (λ b. 32 < b)) same (above-in text old told room within c.requires.above taken c.field_room.ensures c.requires.«open»)
+
+pub returns-clause-told : goal.returns-clause-told
+returns-clause-told c =
+    let bytes : List ℕ = c.args.bytes.now in
+    let old : Kept = c.args.self.now in
+    let counted = c.measured_glyphs-told in
+    let told : ℕ = counted.result.0 in
+    let room : ℕ = c.field_room.result in
+    let text : List ℕ = take c.args.count bytes in
+    let cap = counted.ensures.glyphs ∙ ap (λ n. take n (glyphs_in_front bytes)) c.min.ensures in
+    let few = few-counted bytes c.args.count room told counted.ensures.text cap in
+    let within : told ≤ length text = omega (arith, few, length-take c.args.count bytes, c.requires.text) in
+    let taken = taken-counted bytes c.args.count room told counted.ensures.text cap in
+    let same : take told text ≡ take told bytes = take-take told c.args.count bytes few in
+    subst (Tells (take told bytes) old) (sym c.glyphs_in_field.ensures)
+    (subst (λ (xs : List ℕ). Tells xs old (with_glyphs_told xs old)) same (Tells-counted text old told room within c.requires.above taken c.field_room.ensures c.requires.«open» (omega arith)))
+
+pub returns-clause-ends : goal.returns-clause-ends
+returns-clause-ends c =
+    let bytes : List ℕ = c.args.bytes.now in
+    let old : Kept = c.args.self.now in
+    let counted = c.measured_glyphs-told in
+    let told : ℕ = counted.result.0 in
+    let room : ℕ = c.field_room.result in
+    let text : List ℕ = take c.args.count bytes in
+    let cap = counted.ensures.glyphs ∙ ap (λ n. take n (glyphs_in_front bytes)) c.min.ensures in
+    let few = few-counted bytes c.args.count room told counted.ensures.text cap in
+    let within : told ≤ length text = omega (arith, few, length-take c.args.count bytes, c.requires.text) in
+    let taken = taken-counted bytes c.args.count room told counted.ensures.text cap in
+    let same : take told text ≡ take told bytes = take-take told c.args.count bytes few in
+    subst (EndsInField (drop told text)) (sym c.glyphs_in_field.ensures)
+    (subst (λ (xs : List ℕ). EndsInField (drop told text) (with_glyphs_told xs old)) same (EndsInField-counted text old told room within c.requires.above taken c.field_room.ensures c.requires.«open»))

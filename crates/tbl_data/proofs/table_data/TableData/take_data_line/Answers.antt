@@ -1,6 +1,6 @@
 use Rattle.std.proofs.Common.{◌≡◌, ◌+◌, ◌-◌, ℕ, List, sym, ap, arith, ◌∙◌}
 use Rattle.std.specs.List.{slice_range}
-use Rattle.tbl_data.proofs.LineSteps.{kind-line, none-kept, row-line, rule-line}
+use Rattle.tbl_data.proofs.LineSteps.{kind-line, none-kept, row-line}
 use Rattle.tbl_kept.specs.TableText.{block_of}
 use Rattle.tbl_layout.specs.DataLines.{line_kind}
 use Rattle.tbl_layout.specs.declared.data_lines.LineKind.TheVariants.{Command, Formats, Row, Rule}
@@ -10,9 +10,11 @@ pub returns-in-Rule-clause-made : goal.returns-in-Rule-clause-made
 returns-in-Rule-clause-made c =
     let k = c.args.text.now in
     let line = c.args.line in
-    let is : line_kind (slice_range (block_of k) line.from line.to) ≡ Rule =
+    let sign = c.in-Rule.sign in
+    let is : line_kind (slice_range (block_of k) line.from line.to) ≡ Rule sign =
     ap (λ (b : List ℕ). line_kind (slice_range b line.from line.to)) (sym c.block.ensures) ∙ sym c.line_kind.ensures ∙ c.in-Rule.is in
-    rule-line k line _ (line.to - line.from + 1) c.refuse.result c.args.self.now c.refuse.new.self is (omega arith) c.refuse.ensures.made
+    kind-line k line _ (Rule sign) (line.to - line.from + 1) c.take_rule.result c.args.self.now c.take_rule.new.self is
+    (c.take_rule.ensures.made k line c.requires.fits c.requires.closed)
 
 pub returns-in-Formats-clause-made : goal.returns-in-Formats-clause-made
 returns-in-Formats-clause-made c =

@@ -1,54 +1,64 @@
-use Rattle.std.proofs.Common.{◌≡◌, ◌-◌, ◌≤◌, ℕ, List, Bool, length, sym, ap, ◌∙◌, arith}
+use Rattle.std.proofs.Common.{◌≡◌, ℕ, List, refl, subst, sym, ap, ◌∙◌}
 use Rattle.std.specs.List.{slice_range}
-use Rattle.tbl_data.specs.LineTaken.{more_notes, notes_kept}
-use Rattle.tbl_data.proofs.TextsKept.{field_entry, more-none, nothing-told, number-by, takes-field}
-use Rattle.tbl_format.specs.RowsServed.{all_rows, row_at}
-use Rattle.tbl_kept.specs.Joined.{ends_joined}
-use Rattle.tbl_kept.specs.Rows.{KeptRows, with_entry}
+use Rattle.tbl_data.specs.LineTaken.{KeepsRule}
 use Rattle.tbl_kept.specs.TableText.{block_of}
-use Rattle.tbl_layout.specs.Entries.{is_number, key_at}
-use Rattle.tbl_layout.specs.KeptEntries.{entry_by}
-use Rattle.tbl_layout.specs.declared.entry.Entry.{Entry}
-use Rattle.tbl_text.specs.Measuring.{measured}
-use Rattle.tbl_text.specs.declared.measure.Note.{Note}
+use Rattle.tbl_layout.specs.DataLines.{field_kind, is_kind_laid_out}
+use Rattle.tbl_layout.specs.declared.data_lines.FieldKind.{FieldKind}
+use Rattle.tbl_layout.specs.declared.data_lines.FieldKind.TheVariants.{Above, Repeated, Ruled, Short, Text}
+use Rattle.tbl_layout.specs.declared.entry.EntryKind.TheVariants.{Repeated as RepeatedKind, Ruled as RuledKind, Short as ShortKind}
 use Rattle.tbl_data.proofs.table_data.TableData.take_field.Goals as goal
 
-pub returns-then-measured-clause-taken : goal.returns-then-measured-clause-taken
-returns-then-measured-clause-taken c =
-    let d = c.args.self.now in
-    let k = c.args.text.now in
-    let at = c.args.at in
-    let end = c.args.end in
-    let within : end ≤ length (block_of k) = omega (arith, c.requires.end, c.requires.lies.within) in
-    let num = number-by (row_at (all_rows d.format.format) d.keys) (length d.rows.row) c.row_of_all-keys.result.now c.row_len.result c.key_at.result c.is_number-is_number.result
-    c.row_of_all-keys.ensures c.row_len.ensures c.key_at.ensures c.is_number-is_number.ensures in
-    let key = key_at (row_at (all_rows d.format.format) d.keys) (length d.rows.row) in
-    let m : c.measure-measured.result ≡ measured (is_number key) (slice_range (block_of k) at end) =
-    c.measure-measured.ensures.value ∙ ap (λ (b : Bool). measured b (slice_range c.block.result.now at end)) num ∙ ap (λ (bytes : List ℕ). measured (is_number key) (slice_range bytes at end)) c.block.ensures in
-    let rows : c.keep.new.self ≡ with_entry (field_entry k c.args.line at end c.requires.order within d) d.rows =
-    c.keep.ensures ∙ ap (λ (e : Entry). with_entry e d.rows) (c.of_text.ensures ∙ ap (entry_by at (end - at)) m) in
-    let made = ap (λ (r : KeptRows). record d { rows = r; notes = c.tell_items.new.notes; escapes = c.tell_items.new.escapes }) rows in
-    takes-field k c.args.line at end c.requires.order within d c.tell_items.new.notes c.tell_items.ensures.notes c.tell_items.ensures.few
-    (record d { rows = c.keep.new.self; notes = c.tell_items.new.notes; escapes = c.tell_items.new.escapes }) made
-    (c.tell_items.ensures.room ∙ c.measure-measured.ensures.room) c.requires.closed (omega (arith, c.requires.column, c.requires.fits.columns)) c.requires.fits c.requires.end
+pub take_text_field-requires-clause-kind : goal.take_text_field-requires-clause-kind
+take_text_field-requires-clause-kind c =
+    ap (λ (b : List ℕ). field_kind (slice_range b c.args.at c.args.end)) (sym c.block.ensures) ∙ sym c.field_kind.ensures ∙ c.in-Text.is
 
-pub returns-else-measured-clause-taken : goal.returns-else-measured-clause-taken
-returns-else-measured-clause-taken c =
-    let d = c.args.self.now in
-    let k = c.args.text.now in
-    let at = c.args.at in
-    let end = c.args.end in
-    let within : end ≤ length (block_of k) = omega (arith, c.requires.end, c.requires.lies.within) in
-    let num = number-by (row_at (all_rows d.format.format) d.keys) (length d.rows.row) c.row_of_all-keys.result.now c.row_len.result c.key_at.result c.is_number-is_number.result
-    c.row_of_all-keys.ensures c.row_len.ensures c.key_at.ensures c.is_number-is_number.ensures in
-    let key = key_at (row_at (all_rows d.format.format) d.keys) (length d.rows.row) in
-    let m : c.measure-measured.result ≡ measured (is_number key) (slice_range (block_of k) at end) =
-    c.measure-measured.ensures.value ∙ ap (λ (b : Bool). measured b (slice_range c.block.result.now at end)) num ∙ ap (λ (bytes : List ℕ). measured (is_number key) (slice_range bytes at end)) c.block.ensures in
-    let rows : c.keep.new.self ≡ with_entry (field_entry k c.args.line at end c.requires.order within d) d.rows =
-    c.keep.ensures ∙ ap (λ (e : Entry). with_entry e d.rows) (c.of_text.ensures ∙ ap (entry_by at (end - at)) m) in
-    let none = nothing-told (is_number key) (slice_range (block_of k) at end) c.measure-measured.result m c.if-measured.false in
-    let told = more-none d.notes ∙ ap (λ (ns : List Note). more_notes (notes_kept (ends_joined k.pending) c.args.line.number (at - c.args.line.from) ns) d.notes) (sym none) in
-    let made = ap (λ (r : KeptRows). record d { rows = r; escapes = c.measure-measured.new.escapes }) rows in
-    takes-field k c.args.line at end c.requires.order within d d.notes told (omega arith)
-    (record d { rows = c.keep.new.self; escapes = c.measure-measured.new.escapes }) made
-    c.measure-measured.ensures.room c.requires.closed (omega (arith, c.requires.column, c.requires.fits.columns)) c.requires.fits c.requires.end
+pub returns-in-Text-clause-laid : goal.returns-in-Text-clause-laid
+returns-in-Text-clause-laid c =
+    let is : field_kind (slice_range (block_of c.args.text.now) c.args.at c.args.end) ≡ Text =
+    ap (λ (b : List ℕ). field_kind (slice_range b c.args.at c.args.end)) (sym c.block.ensures) ∙ sym c.field_kind.ensures ∙ c.in-Text.is in
+    sym (ap is_kind_laid_out is)
+
+pub returns-in-Ruled-clause-laid : goal.returns-in-Ruled-clause-laid
+returns-in-Ruled-clause-laid c =
+    let is : field_kind (slice_range (block_of c.args.text.now) c.args.at c.args.end) ≡ Ruled c.in-Ruled.sign =
+    ap (λ (b : List ℕ). field_kind (slice_range b c.args.at c.args.end)) (sym c.block.ensures) ∙ sym c.field_kind.ensures ∙ c.in-Ruled.is in
+    sym (ap is_kind_laid_out is)
+
+pub returns-in-Ruled-clause-taken : goal.returns-in-Ruled-clause-taken
+returns-in-Ruled-clause-taken c true_is =
+    let is : field_kind (slice_range (block_of c.args.text.now) c.args.at c.args.end) ≡ Ruled c.in-Ruled.sign =
+    ap (λ (b : List ℕ). field_kind (slice_range b c.args.at c.args.end)) (sym c.block.ensures) ∙ sym c.field_kind.ensures ∙ c.in-Ruled.is in
+    let keeps = subst (λ (kind : FieldKind). KeepsRule kind (RuledKind c.in-Ruled.sign)) (sym is) refl in
+    c.take_rule_field.ensures.taken c.args.text.now c.args.line c.requires.lies c.requires.end keeps c.requires.fits c.requires.closed c.requires.column
+
+pub returns-in-Short-clause-laid : goal.returns-in-Short-clause-laid
+returns-in-Short-clause-laid c =
+    let is : field_kind (slice_range (block_of c.args.text.now) c.args.at c.args.end) ≡ Short =
+    ap (λ (b : List ℕ). field_kind (slice_range b c.args.at c.args.end)) (sym c.block.ensures) ∙ sym c.field_kind.ensures ∙ c.in-Short.is in
+    sym (ap is_kind_laid_out is)
+
+pub returns-in-Short-clause-taken : goal.returns-in-Short-clause-taken
+returns-in-Short-clause-taken c true_is =
+    let is : field_kind (slice_range (block_of c.args.text.now) c.args.at c.args.end) ≡ Short =
+    ap (λ (b : List ℕ). field_kind (slice_range b c.args.at c.args.end)) (sym c.block.ensures) ∙ sym c.field_kind.ensures ∙ c.in-Short.is in
+    let keeps = subst (λ (kind : FieldKind). KeepsRule kind ShortKind) (sym is) refl in
+    c.take_rule_field-in-Short.ensures.taken c.args.text.now c.args.line c.requires.lies c.requires.end keeps c.requires.fits c.requires.closed c.requires.column
+
+pub returns-in-Repeated-clause-laid : goal.returns-in-Repeated-clause-laid
+returns-in-Repeated-clause-laid c =
+    let is : field_kind (slice_range (block_of c.args.text.now) c.args.at c.args.end) ≡ Repeated c.in-Repeated.byte =
+    ap (λ (b : List ℕ). field_kind (slice_range b c.args.at c.args.end)) (sym c.block.ensures) ∙ sym c.field_kind.ensures ∙ c.in-Repeated.is in
+    sym (ap is_kind_laid_out is)
+
+pub returns-in-Repeated-clause-taken : goal.returns-in-Repeated-clause-taken
+returns-in-Repeated-clause-taken c true_is =
+    let is : field_kind (slice_range (block_of c.args.text.now) c.args.at c.args.end) ≡ Repeated c.in-Repeated.byte =
+    ap (λ (b : List ℕ). field_kind (slice_range b c.args.at c.args.end)) (sym c.block.ensures) ∙ sym c.field_kind.ensures ∙ c.in-Repeated.is in
+    let keeps = subst (λ (kind : FieldKind). KeepsRule kind (RepeatedKind c.in-Repeated.byte)) (sym is) refl in
+    c.take_rule_field-in-Repeated.ensures.taken c.args.text.now c.args.line c.requires.lies c.requires.end keeps c.requires.fits c.requires.closed c.requires.column
+
+pub returns-in-Above-clause-laid : goal.returns-in-Above-clause-laid
+returns-in-Above-clause-laid c =
+    let is : field_kind (slice_range (block_of c.args.text.now) c.args.at c.args.end) ≡ Above =
+    ap (λ (b : List ℕ). field_kind (slice_range b c.args.at c.args.end)) (sym c.block.ensures) ∙ sym c.field_kind.ensures ∙ c.in-Above.is in
+    sym (ap is_kind_laid_out is)

@@ -38,3 +38,11 @@ returns-in-Command c =
     let more : c.args.at < length a.elements.items = omega (arith, inside, length-kept a.entries.items a.elements.items) in
     rw (← c.self.view_is)
     (drop-kept a.entries.items a.elements.items c.args.at c.index.result.now _ more (sym c.index.ensures ∙ c.in-Command.is))
+
+pub returns-in-Rule : goal.returns-in-Rule
+returns-in-Rule c =
+    let a = c.self.inside in
+    let inside = rw (← c.self.view_is) at c.requires in
+    let more : c.args.at < length a.elements.items = omega (arith, inside, length-kept a.entries.items a.elements.items) in
+    rw (← c.self.view_is)
+    (drop-kept a.entries.items a.elements.items c.args.at c.index.result.now _ more (sym c.index.ensures ∙ c.in-Rule.is))

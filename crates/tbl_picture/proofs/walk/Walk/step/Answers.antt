@@ -6,7 +6,7 @@ use Rattle.tbl_format.specs.declared.format.FormatKey.{FormatKey}
 use Rattle.tbl_kept.specs.Rows.{Row}
 use Rattle.tbl_layout.specs.declared.columns.Column.{Column}
 use Rattle.tbl_picture.proofs.Adding.{adds-fewer, adds-more}
-use Rattle.tbl_picture.proofs.PictureSteps.{command-lies, command-steps, does-element, row-by}
+use Rattle.tbl_picture.proofs.PictureSteps.{command-lies, command-steps, does-element, row-by, rule-steps}
 use Rattle.tbl_picture.specs.Walks.{CanWalk, KeptWalk, RowDoes, Steps, WalkedRow, kept_by}
 use Rattle.tbl_picture.proofs.walk.Walk.step.Goals as goal
 use Rattle.tbl_text.proofs.BlockSlices.{length-slice_range}
@@ -26,12 +26,26 @@ returns-in-Command-clause-step c = λ frame within.
     let after = c.add-in-Command.new.self in
     let elements = drop (suc w.element) rows.elements in
     let at = c.in-Command.ensures in
-    let lies = command-lies bytes formats rows w can frame before after within from to elements at in
+    let lies = command-lies bytes formats rows w can frame before after within elements from to at in
     let text = slice_range bytes from to in
     let adds = adds-fewer bytes frame (1 + 1) 4 before after (text ++ newline ∷ []) (omega arith)
     (adds-more bytes frame 1 1 before between after text (newline ∷ [])
     (c.add.ensures.adds bytes frame (length-slice_range bytes from to lies.within)) (c.add-in-Command.ensures.adds bytes frame refl)) in
-    let steps = command-steps bytes formats rows w can frame before after within from to elements at adds in
+    let steps = command-steps bytes formats rows w can frame before after within elements from to at adds in
+    subst (λ (k : KeptWalk). Steps bytes frame formats rows k (record w { element = w.element + 1 }) before after) view steps
+
+pub returns-in-Rule-clause-step : goal.returns-in-Rule-clause-step
+returns-in-Rule-clause-step c = λ frame within.
+    let bytes = c.args.bytes.now in
+    let formats = all_rows c.args.format.now.format in
+    let rows = c.args.rows.now in
+    let w = kept_by c.self.inside in
+    let view = c.self.view_is in
+    let can = subst (λ (k : KeptWalk). CanWalk bytes formats rows k) (sym view) c.requires.can in
+    let before = c.args.pieces.now in
+    let after = c.give_rule.new.pieces in
+    let steps = rule-steps bytes formats rows w can frame before after within (drop (suc w.element) rows.elements) c.in-Rule.sign c.in-Rule.ensures
+    (c.give_rule.ensures bytes frame) in
     subst (λ (k : KeptWalk). Steps bytes frame formats rows k (record w { element = w.element + 1 }) before after) view steps
 
 pub returns-in-Row-clause-step : goal.returns-in-Row-clause-step

@@ -170,6 +170,7 @@ returns-clause-to_come c =
     let indent_is : c.indent.result ≡ indent a.options.centered line_length wide = c.indent.ensures ∙ ap (λ (n : ℕ). indent a.options.centered line_length n) wide_is in
     rw (← c.self.view_is, kept_is)
     (c.give_picture.ensures.coming a.text rows a.kept.format can
-    ∙ ap (λ (n : ℕ). with_newline c.args.has_newline (picture n (lines_laid a.text rows a.kept.format) ++ a.text.line)) indent_is
+    ∙ ap (λ (n : ℕ). with_newline c.args.has_newline (picture n (lines_laid c.lay_out-laid.result.width a.text rows a.kept.format) ++ a.text.line)) indent_is
+    ∙ ap (λ (n : ℕ). with_newline c.args.has_newline (picture (indent a.options.centered line_length wide) (lines_laid n a.text rows a.kept.format) ++ a.text.line)) wide_is
     ∙ ap (λ (lines : List ℕ). with_newline c.args.has_newline (picture (indent a.options.centered line_length wide) lines ++ a.text.line))
-    (lines-are a.limits a.phase a.begun a.text a.kept fits is none closed line_length a.options new laid more more_is rows_laid))
+    (lines-are a.limits a.phase a.begun a.text a.kept fits is none closed line_length a.options new laid wide more more_is rows_laid))

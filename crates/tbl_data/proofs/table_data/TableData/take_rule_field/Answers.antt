@@ -1,0 +1,17 @@
+use Rattle.std.proofs.Common.{◌-◌, sym, subst, ap, ◌∙◌}
+use Rattle.tbl_data.specs.LineTaken.{TakesField}
+use Rattle.tbl_data.proofs.RulesKept.{takes-rule}
+use Rattle.tbl_kept.specs.Rows.{KeptRows, with_entry}
+use Rattle.tbl_layout.specs.declared.entry.Entry.{Entry}
+use Rattle.tbl_data.proofs.table_data.TableData.take_rule_field.Goals as goal
+
+pub returns : goal.returns
+returns c = record {
+  taken = λ k line lies on-line keeps fits closed column.
+      let d = c.args.self.now in
+      let at = c.args.at in
+      let end = c.args.end in
+      let rows = c.keep.ensures ∙ ap (λ (e : Entry). with_entry e d.rows) c.of_rule.ensures in
+      subst (λ (r : KeptRows). TakesField k line at end d (record d { rows = r })) (sym rows)
+      (takes-rule k line at end d c.args.kind c.requires.order lies on-line keeps fits closed column);
+}

@@ -1,0 +1,14 @@
+use Rattle.std.proofs.Common.{arith}
+use Rattle.tbl_kept.proofs.RowPlaces.{LieBetween-rule}
+use Rattle.tbl_kept.proofs.rows.TableRows.keep_rule.Goals as goal
+
+pub invariant_of-self : goal.invariant_of-self
+invariant_of-self c =
+    let a = c.self.inside in
+    record {
+      entries_reserved = c.self.invariant.entries_reserved;
+      elements_reserved = omega (arith, c.self.invariant.elements_reserved, c.push_reserved.ensures.capacity);
+      columns_reserved = c.self.invariant.columns_reserved;
+      start = c.self.invariant.start;
+      rows = rw c.push_reserved.ensures.items (LieBetween-rule 0 a.row_start c.args.sign a.elements.items c.self.invariant.rows);
+    }
