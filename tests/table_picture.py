@@ -80,14 +80,19 @@ class Picture:
 
     def __init__(self, table, length):
         self.table, self.length, self.count = table, length, table.keys
-        self.apart = [table.apart.get(column, APART) for column in range(self.count - 1)]
+        least = APART if table.has_all_bars else 0
+        self.apart = [max(least, table.apart.get(column, APART)) for column in range(self.count - 1)]
+        self.edge = 2 if table.is_boxed else 0
         self.rows = [self.entries(row) if isinstance(row, Row) else row for row in table.elements]
         self.widths = [self.width_of(column) for column in range(self.count)]
         widest = max((self.widths[column] for column in table.equal), default=0)
         self.widths = [widest if column in table.equal else width for column, width in enumerate(self.widths)]
         if table.is_expanded:
             self.expand()
-        self.width = sum(self.widths) + sum(self.apart)
+        self.width = self.edge + sum(self.widths) + sum(self.apart) + self.edge
+        # The places of bars between columns.
+        starts = [self.edge + sum(self.widths[:number + 1]) + sum(self.apart[:number]) for number in range(self.count - 1)]
+        self.places = [start + (apart - 1) // 2 for start, apart in zip(starts, self.apart)]
 
     def entries(self, row):
         """For each column the key of a row and its entry, or none."""
@@ -121,7 +126,7 @@ class Picture:
         return max((entry.left for entry in split), default=0), max((entry.columns - entry.left for entry in split), default=0)
 
     def expand(self):
-        missing, whole = max(0, self.length - sum(self.widths) - sum(self.apart)), sum(self.apart)
+        missing, whole = max(0, self.length - sum(self.widths) - sum(self.apart) - 2 * self.edge), sum(self.apart)
         if whole:
             fronts = [sum(self.apart[:number]) for number in range(len(self.apart) + 1)]
             self.apart = [apart + missing * fronts[number + 1] // whole - missing * fronts[number] // whole
@@ -138,39 +143,63 @@ class Picture:
             return (self.widths[column] - left - right) // 2 + left - entry.left
         return {b"l": 0, b"r": spare, b"c": spare // 2, b"n": spare // 2}[key]
 
+    def bars(self, row, number):
+        """The places where a line of a row shows bars, and those where its rules cross them."""
+        if not self.table.is_boxed:
+            return set(), set()
+        crossed = {self.places[column] for column, (_, entry) in enumerate(row)
+                   if number == 0 and isinstance(entry, Drawn) and entry.goes_on(row, column) and self.table.has_all_bars}
+        inner = set(self.places) if self.table.has_all_bars else set()
+        return {0, self.width - 1} | inner - crossed, crossed
+
     def lines(self):
-        """The lines of a row after each other, and commands."""
+        """The lines of a row after each other, rules and commands."""
+        found = []
         for row in self.rows:
-            if isinstance(row, bytes):
-                yield row
-            elif isinstance(row, Rule):
-                yield b"\\&" + row.sign * self.width
+            if not isinstance(row, list):
+                found.append(row)
+                continue
+            # Under `allbox` a rule stands between two rows.
+            before = [line for line in found if not isinstance(line, bytes)][-1:]
+            if self.table.has_all_bars and before and isinstance(before[0], tuple):
+                found.append(Rule(b"-"))
+            found += [(row, number) for number in range(max([1] + [len(entry.lines) for _, entry in row if entry]))]
+        if self.table.is_boxed:
+            found = [Rule(b"-"), *found, Rule(b"-")]
+        for at, line in enumerate(found):
+            if isinstance(line, bytes):
+                yield line
+            elif isinstance(line, Rule):
+                beside = [[line for line in part if not isinstance(line, bytes)][:1] for part in (found[:at][::-1], found[at + 1:])]
+                shown = set().union(*(self.bars(*line)[0] for part in beside for line in part if isinstance(line, tuple)))
+                yield b"\\&" + b"".join(b"+" if place in shown else line.sign for place in range(self.width))
             else:
-                for number in range(max([1] + [len(entry.lines) for _, entry in row if entry])):
-                    yield b"\\&" + self.line(row, number)
+                yield b"\\&" + self.line(*line)
 
     def drawn(self, row, column):
-        """How far from its column's first place a field is drawn, and the run of its byte."""
+        """How far from its column's first place a field is drawn, and over how many."""
         key, entry = row[column]
-        count, place = self.widths[column], 0
         if entry.source == b"\\_":
             count = max((other.columns for _, other in self.of_column(column)), default=0)
-            place = {b"r": self.widths[column] - count, b"c": (self.widths[column] - count) // 2}.get(key, 0)
-        elif entry.goes_on(row, column):
-            count += self.apart[column]
-        is_glyph = count and entry.sign != BLANK
-        return place, Item(entry.sign * count, "glyph" if is_glyph else "blank", columns=count)
+            return {b"r": self.widths[column] - count, b"c": (self.widths[column] - count) // 2}.get(key, 0), count
+        return 0, self.widths[column] + (self.apart[column] if entry.goes_on(row, column) else 0)
 
     def line(self, row, number):
         """A line of a row, up to its last glyph."""
-        line, start = [], 0
+        parts, start = [], self.edge
+        bars, crossed = self.bars(row, number)
         for column, (key, entry) in enumerate(row):
             if isinstance(entry, Drawn) and number == 0:
-                place, run = self.drawn(row, column)
-                line += blanks(start + place - columns_of(line)) + [run]
+                place, count = self.drawn(row, column)
+                for place in range(start + place, start + place + count):
+                    sign = b"+" if place in crossed else entry.sign
+                    parts.append((place, [Item(sign, "blank" if sign == BLANK else "glyph", sign, 1)]))
             elif entry and number < len(entry.lines) and entry.lines[number]:
-                line += blanks(start + self.place(column, key, entry) - columns_of(line)) + entry.lines[number]
+                parts.append((start + self.place(column, key, entry), entry.lines[number]))
             start += self.widths[column] + (self.apart + [0])[column]
+        line = []
+        for place, part in sorted(parts + [(place, [Item(b"|", "glyph", b"|", 1)]) for place in bars], key=lambda placed: placed[0]):
+            line += blanks(place - columns_of(line)) + part
         while line and line[-1].what != "glyph":
             line.pop()
         return b"".join(item.source for item in line)

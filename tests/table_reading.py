@@ -11,7 +11,7 @@ KEYS = b"lrcnas^_-="
 
 # What isn't laid out yet: it is `bad format` where it stands. What comes to be laid out loses its line, or its place in one.
 NOT_YET = {
-    "options": (b"box", b"frame", b"allbox", b"doublebox", b"doubleframe"),
+    "options": (b"doublebox", b"doubleframe"),
     "keys": b"s^_-=",
     "bars and letters": b"|z",
     "lines": (),
@@ -155,6 +155,7 @@ class Table:
     def __init__(self, lines):
         self.told, self.elements, self.count = [], [], 0
         self.separator, self.is_centred, self.is_expanded, self.is_bad = TAB, False, False, False
+        self.is_boxed, self.has_all_bars = False, False
         self.in_data, self.is_closing = False, False
         # The rows of keys of the format in force, which of them comes next, and the row of keys that is open.
         self.formats, self.next, self.begun, self.keys = [], 0, None, 0
@@ -213,6 +214,10 @@ class Table:
             raise Bad(number)
         elif small == b"expand":
             self.is_expanded = True
+        elif small in (b"box", b"frame"):
+            self.is_boxed = True
+        elif small == b"allbox":
+            self.is_boxed = self.has_all_bars = True
         elif not self.is_option(option):
             self.tell(number, b"option ignored: " + option[:32])
         elif small.startswith(b"tab"):

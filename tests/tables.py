@@ -43,7 +43,7 @@ OPTIONS = [b"center", b"Centre", b"expand", b"EXPAND", b"tab(:)", b"TAB(:)", b"t
            b"tab(\x01)", b"tab (:)", b"tab\t(;)", b"linesize(12)", b"linesize (9)", b"delim($$)", b"delim ($$)", b"delim($)", b"tab", b"tab (xx)",
            b"left", b"box (1)", b"box", b"allbox", b"frame", b"doublebox", b"DoubleFrame", b"tab()", b"nokeep",
            b"an-option-of-more-than-thirty-two-bytes", b"(;)", b"tab(:)x", b"delim tab (:)", b"center(1)", b"linesize", b"linesize ()"]
-PLAIN_OPTIONS = OPTIONS[:17]
+PLAIN_OPTIONS = OPTIONS[:17] + 3 * [b"allbox", b"box"]
 KEYS = [b"l", b"r", b"c", b"n", b"a", b"n", b"L", b"R", b"N", b"A"]
 LETTERS = [b"3", b"0", b"12", b"1 7", b"e", b"E", b"w(9)", b"w5", b"W(3n)", b"w(0)", b"w0", b"w(1i/2)", b"w(2+3)", b"w((2)*3)", b"w(.5i)", b"w(0-1)",
            b"w12 ", b"t", b"d", b"b", b"i", b"u", b"p8", b"p+2", b"v-1", b"v9", b"fB", b"f(CW)", b"fCW", b"f.", b"f,", b"fB,", b"x", b"X", b"m(ab)",

@@ -6,7 +6,7 @@ use Rattle.tbl_format.specs.declared.format.Key.TheVariants.{Above, DoubleRule, 
 use Rattle.tbl_format.specs.declared.format_step.Does.{Does}
 use Rattle.tbl_format.specs.declared.format_step.Does.TheVariants.{AddBar, AddKey, DropWidth}
 use Rattle.tbl_format.specs.declared.options.TableOption.{TableOption}
-use Rattle.tbl_format.specs.declared.options.TableOption.TheVariants.{AllBox, Box, DoubleBox}
+use Rattle.tbl_format.specs.declared.options.TableOption.TheVariants.{DoubleBox}
 
 abbrev pub is_key_laid_out : Key → Bool
 is_key_laid_out Spanned = false
@@ -22,7 +22,5 @@ is_laid_out DropWidth = false
 is_laid_out does = true
 
 abbrev pub is_option_laid_out : TableOption → Bool
-is_option_laid_out Box = false
-is_option_laid_out AllBox = false
 is_option_laid_out DoubleBox = false
 is_option_laid_out option = true

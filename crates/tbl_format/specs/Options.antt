@@ -2,6 +2,8 @@
 use Rattle.std.specs.Prelude.{ℕ, suc, ◌+◌, ◌-◌, Bool, true, false, not, ◌&&◌, ◌||◌, List, [], ◌∷◌, ◌++◌, length, map, fold, take, slice_index, slice_range, nat_le, nat_lt, Option, None, Some, is_some, bytes_eq, codes, if◌then◌else◌, ◌==◌}
 use Rattle.roff_source.specs.Bytes.{tab, blank}
 use Rattle.tbl_format.specs.LaidOut.{is_option_laid_out}
+use Rattle.tbl_format.specs.declared.options.Boxing.{Boxing}
+use Rattle.tbl_format.specs.declared.options.Boxing.TheVariants.{Around, EachField, Nothing as NotBoxed}
 use Rattle.tbl_format.specs.declared.options.Options.{Options}
 use Rattle.tbl_format.specs.declared.options.Settings.{Settings}
 use Rattle.tbl_format.specs.declared.options.TableOption.{TableOption}
@@ -94,7 +96,7 @@ option_words text = words_behind false [] text
 
 -- the options of a table that gives none
 abbrev pub no_options : Options
-no_options = record { separator = tab; centered = false; expanded = false }
+no_options = record { separator = tab; centered = false; expanded = false; boxing = NotBoxed }
 
 abbrev pub nothing_set : Settings
 nothing_set = record { options = no_options; are_built = true }
@@ -131,11 +133,19 @@ options_of (word ∷ next ∷ words) =
     if is_unknown (option_of_two word next) then record { word = word; option = option_of word } ∷ options_of (next ∷ words)
     else record { word = word; option = option_of_two word next } ∷ options_of words
 
+-- with a box around the table, at least
+abbrev pub boxed : Boxing → Boxing
+boxed NotBoxed = Around
+boxed Around = Around
+boxed EachField = EachField
+
 -- what an option sets
 abbrev pub with_set : TableOption → Options → Options
 with_set (Separator b) o = record o { separator = b }
 with_set Center o = record o { centered = true }
 with_set Expand o = record o { expanded = true }
+with_set Box o = record o { boxing = boxed o.boxing }
+with_set AllBox o = record o { boxing = EachField }
 with_set option o = o
 
 abbrev pub with_option : Settings → TableOption → Settings

@@ -48,8 +48,8 @@ pub fn is_option_laid_out(option: TableOption) -> bool
     ensures { result ≡ is_option_laid_out option }
 {
     match option {
-        TableOption::Box => false,
-        TableOption::AllBox => false,
+        TableOption::Box => true,
+        TableOption::AllBox => true,
         TableOption::DoubleBox => false,
         TableOption::Center => true,
         TableOption::Expand => true,

@@ -3,7 +3,8 @@
 ghost use Rattle.std.specs.Prelude.{◌≡◌, ◌+◌, ◌-◌, ◌<◌, ◌≤◌, ◌^◌, ◌++◌, length, map, slice_range};
 ghost use Rattle.std.specs.Prelude.{not, ◌&&◌, ◌||◌, vec_capacity, vec_len};
 ghost use Rattle.tbl_format.specs.Notes.{NotesWithin, ignored_message, told_at, told_of_all};
-ghost use Rattle.tbl_format.specs.Options.{bracketed, ignored_options, is_unknown, options_end};
+ghost use Rattle.tbl_format.specs.Options.{boxed, bracketed, ignored_options, is_unknown};
+ghost use Rattle.tbl_format.specs.Options.{options_end};
 ghost use Rattle.tbl_format.specs.Options.{options_read, separates_options, with_counted, with_option};
 ghost use Rattle.tbl_format.specs.Options.{with_set};
 ghost use Rattle.tbl_format.specs.OptionWords.{behind_two, behind_word, held_word, ignored_by};
@@ -14,6 +15,17 @@ use crate::laid_out::is_option_laid_out;
 use crate::notes::{Cause, KeptNote};
 use crate::option_words::{option_of, option_of_two};
 
+/// How a picture is boxed.
+#[derive(Clone, Copy)]
+pub enum Boxing {
+    /// Not at all.
+    Nothing,
+    /// `box`, `frame`: around the table.
+    Around,
+    /// `allbox`: each field.
+    EachField,
+}
+
 /// What of a table's options is laid out.
 #[derive(Clone, Copy)]
 pub struct Options {
@@ -23,6 +35,8 @@ pub struct Options {
     pub centered: bool,
     /// Whether the picture is as wide as the line.
     pub expanded: bool,
+    /// How the picture is boxed.
+    pub boxing: Boxing,
 }
 
 /// What an option says.
@@ -60,6 +74,7 @@ pub const NO_OPTIONS: Options = Options {
     separator: b'\t',
     centered: false,
     expanded: false,
+    boxing: Boxing::Nothing,
 };
 
 /// What a text says, all of which is options.
@@ -326,6 +341,18 @@ impl Settings {
 }
 
 impl Options {
+    /// The same, boxed so.
+    fn with_boxing(self, boxing: Boxing) -> Options
+        ensures { result ≡ record self { boxing = boxing } }
+    {
+        Options {
+            separator: self.separator,
+            centered: self.centered,
+            expanded: self.expanded,
+            boxing,
+        }
+    }
+
     /// What an option sets is set.
     fn with_set(self, option: TableOption) -> Options
         ensures { result ≡ with_set option self }
@@ -335,22 +362,38 @@ impl Options {
                 separator,
                 centered: self.centered,
                 expanded: self.expanded,
+                boxing: self.boxing,
             },
             TableOption::Center => Options {
                 separator: self.separator,
                 centered: true,
                 expanded: self.expanded,
+                boxing: self.boxing,
             },
             TableOption::Expand => Options {
                 separator: self.separator,
                 centered: self.centered,
                 expanded: true,
+                boxing: self.boxing,
             },
-            TableOption::Box => self,
-            TableOption::AllBox => self,
+            TableOption::Box => self.with_boxing(self.boxing.boxed()),
+            TableOption::AllBox => self.with_boxing(Boxing::EachField),
             TableOption::DoubleBox => self,
             TableOption::WithoutEffect => self,
             TableOption::Unknown => self,
+        }
+    }
+}
+
+impl Boxing {
+    /// The same with a box around the table, at least.
+    fn boxed(self) -> Boxing
+        ensures { result ≡ boxed self }
+    {
+        match self {
+            Boxing::Nothing => Boxing::Around,
+            Boxing::Around => Boxing::Around,
+            Boxing::EachField => Boxing::EachField,
         }
     }
 }

@@ -5,7 +5,7 @@ ghost use Rattle.std.specs.Prelude.{IfOk};
 ghost use Rattle.std.specs.List.{AllByRecursion};
 ghost use Rattle.tbl_format.specs.Format.{FormatRow};
 ghost use Rattle.tbl_format.specs.RowsServed.{all_rows};
-ghost use Rattle.tbl_layout.specs.Columns.{columns_laid, equalled, gaps, placed_with};
+ghost use Rattle.tbl_layout.specs.Columns.{columns_laid, equalled, placed_with};
 ghost use Rattle.tbl_layout.specs.Columns.{width_of_all, with_widths};
 ghost use Rattle.tbl_kept.specs.Rows.{ElementKept};
 ghost use Rattle.tbl_kept.specs.RowsLaying.{AreNarrow, AreOpened, all_laid, element_at, laid_at};
@@ -18,6 +18,7 @@ use std::alloc::{AllocError, Global};
 use std::marker::Model;
 use tbl_format::format::{Asked, FormatKey};
 use tbl_format::format_rows::FormatRows;
+use tbl_format::options::Boxing;
 use tbl_layout::columns::{Column, set_starts, set_widths};
 use tbl_layout::data_lines::RuleSign;
 use tbl_layout::entry::Entry;
@@ -253,14 +254,14 @@ impl TableRows {
     }
 
     /// Each column has its place: so many columns of the page more are spread over the gaps.
-    pub fn set_starts(&mut self, asked: &[Asked], more: usize)
-        requires { width_of_all self.old.columns (gaps asked.now) + more < 2 ^ 32 }
-        ensures value { self.new
-            ≡ record self.old { columns = placed_with more asked.now self.old.columns } }
+    pub fn set_starts(&mut self, boxing: Boxing, asked: &[Asked], more: usize)
+        requires { width_of_all boxing self.old.columns asked.now + more < 2 ^ 32 }
+        ensures value { self.new ≡ record self.old
+            { columns = placed_with boxing more asked.now self.old.columns } }
         ensures laid { (bytes : List ℕ) (formats : List FormatRow) → RowsLaid bytes formats self.old
             → RowsLaid bytes formats self.new }
     {
-        self.place(asked, more);
+        self.place(boxing, asked, more);
     }
 
     /// Each column has the measure of its blocks.
@@ -286,12 +287,12 @@ impl TableRows {
     }
 
     /// Each column has its place.
-    fn place(&mut self, asked: &[Asked], more: usize)
-        requires { width_of_all self.old.columns (gaps asked.now) + more < 2 ^ 32 }
-        ensures { self.new
-            ≡ record self.old { columns = placed_with more asked.now self.old.columns } }
+    fn place(&mut self, boxing: Boxing, asked: &[Asked], more: usize)
+        requires { width_of_all boxing self.old.columns asked.now + more < 2 ^ 32 }
+        ensures { self.new ≡ record self.old
+            { columns = placed_with boxing more asked.now self.old.columns } }
     {
-        set_starts(self.columns.as_mut_slice(), asked, more);
+        set_starts(self.columns.as_mut_slice(), boxing, asked, more);
     }
 
     /// The blocks of all rows are filled.

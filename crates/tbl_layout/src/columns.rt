@@ -2,15 +2,17 @@
 //! Formatting).
 
 ghost use Rattle.std.specs.Prelude.{◌≡◌, ◌+◌, ◌-◌, ◌<◌, ◌^◌, min};
-ghost use Rattle.tbl_layout.specs.Columns.{equal_width, equal_widths, equalled, gaps, greatest};
+ghost use Rattle.tbl_layout.specs.Columns.{bar_place, equal_width, equal_widths, equalled, gaps};
+ghost use Rattle.tbl_layout.specs.Columns.{greatest};
 ghost use Rattle.tbl_layout.specs.Columns.{in_strip};
 ghost use Rattle.tbl_layout.specs.Columns.{lacking, made_equal, measure_of, needing, place_in};
 ghost use Rattle.tbl_layout.specs.Columns.{place_of_rule, placed_with, share, shift, shift_of_rule};
 ghost use Rattle.tbl_layout.specs.Columns.{total, unsplit, widest_entry, width_by};
 ghost use Rattle.tbl_layout.specs.Columns.{width_of_all, with_equal, with_widths};
 
-use crate::widths::separation;
+use crate::widths::{edge, separation};
 use tbl_format::format::{Asked, Key};
+use tbl_format::options::Boxing;
 
 /// How an entry stands in its column. The numbers are columns of the page.
 #[derive(Clone, Copy)]
@@ -177,27 +179,29 @@ fn set_equal(columns: &mut [Column], asked: &[Asked], width: usize)
 }
 
 /// The gaps between columns, or 2^64 - 1 if they are more.
-pub fn all_gaps(asked: &[Asked]) -> usize
-    ensures { result ≡ min (total (gaps asked.now)) (2 ^ 64 - 1) }
+pub fn all_gaps(boxing: Boxing, asked: &[Asked]) -> usize
+    ensures { result ≡ min (total (gaps boxing asked.now)) (2 ^ 64 - 1) }
 {
     let mut all: usize = 0;
     let mut gap = 0;
     for at in 0..asked.len() {
         all = all.saturating_add(gap);
-        gap = separation(asked[at].separation);
+        gap = separation(boxing, asked[at].separation);
     }
     all
 }
 
-/// The width of columns with the gaps between them, or 2^64 - 1 if it is greater.
-pub fn width_of_all(columns: &[Column], asked: &[Asked]) -> usize
-    ensures { result ≡ min (width_of_all columns.now (gaps asked.now)) (2 ^ 64 - 1) }
+/// The width of columns with the gaps between them and the edges, or 2^64 - 1 if it is greater.
+pub fn width_of_all(boxing: Boxing, columns: &[Column], asked: &[Asked]) -> usize
+    ensures { result ≡ min (width_of_all boxing columns.now asked.now) (2 ^ 64 - 1) }
 {
     let mut width: usize = 0;
     for column in columns {
         width = width.saturating_add(column.width);
     }
-    width.saturating_add(all_gaps(asked))
+    width
+        .saturating_add(all_gaps(boxing, asked))
+        .saturating_add(edge(boxing) * 2)
 }
 
 /// How many columns of the page are spread over gaps, so that a picture of a width is as wide as
@@ -213,13 +217,14 @@ pub fn lacking(is_expanded: bool, line_length: u32, width: usize, gaps: usize) -
     }
 }
 
-/// Gives each column its place. So many columns of the page more are spread over the gaps.
-pub fn set_starts(columns: &mut [Column], asked: &[Asked], more: usize)
-    requires { width_of_all columns.old (gaps asked.now) + more < 2 ^ 32 }
-    ensures { columns.new ≡ placed_with more asked.now columns.old }
+/// Gives each column its place, the first one behind the edge. So many columns of the page more are
+/// spread over the gaps.
+pub fn set_starts(columns: &mut [Column], boxing: Boxing, asked: &[Asked], more: usize)
+    requires { width_of_all boxing columns.old asked.now + more < 2 ^ 32 }
+    ensures { columns.new ≡ placed_with boxing more asked.now columns.old }
 {
-    let all = all_gaps(asked);
-    let mut place = 0;
+    let all = all_gaps(boxing, asked);
+    let mut place = edge(boxing);
     let mut front = 0;
     let mut gap = 0;
     for at in 0..columns.len().min(asked.len()) {
@@ -229,7 +234,7 @@ pub fn set_starts(columns: &mut [Column], asked: &[Asked], more: usize)
         column.start = place + (gap + (share(more, front, all).saturating_sub(before)));
         columns[at] = column;
         place = column.start + column.width;
-        gap = separation(asked[at].separation);
+        gap = separation(boxing, asked[at].separation);
     }
 }
 
@@ -299,6 +304,15 @@ impl Column {
     {
         shift_of_rule(key, self.width.saturating_sub(self.needs.widest_entry()))
     }
+}
+
+/// Where a bar stands between two columns.
+pub fn bar_place(column: Column, next: Column) -> usize
+    requires { column.start + column.width < 2 ^ 63 }
+    ensures { result ≡ bar_place column next }
+{
+    let end = column.start + column.width;
+    end + next.start.saturating_sub(end).saturating_sub(1) / 2
 }
 
 /// How far a rule is moved that is as wide as its column's widest entry, by the key and the columns

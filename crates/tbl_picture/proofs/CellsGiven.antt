@@ -85,7 +85,7 @@ module _ (bytes : List ℕ) (r : RowColumn) where
   pub text-moved : (line glyphs width : ℕ) → r.entry.kind ≡ Text glyphs width
       → cell_left bytes (suc line) (record r { place = r.place }) ≡ behind_first (cell_left bytes line r)
   text-moved line glyphs width kind =
-      let cell : List (List Run) → Cell = λ lines. record { at = begins_at r; lines = lines } in
+      let cell : List (List Run) → Cell = λ lines. record { at = begins_at r; lines = lines; below = [] } in
       ap (λ (k : EntryKind). cell (lines_left_by k bytes (suc line) r.column r.end r.entry r.place)) kind
       ∙ ap cell (drop-line line (text_lines (r.entry.from == r.entry.to) (text_run bytes r.entry glyphs width)))
       ∙ ap (λ (k : EntryKind). cell (drop 1 (lines_left_by k bytes line r.column r.end r.entry r.place))) (sym kind)
@@ -93,7 +93,7 @@ module _ (bytes : List ℕ) (r : RowColumn) where
   pub split-moved : (line : ℕ) (s : SplitEntry) → r.entry.kind ≡ Split s
       → cell_left bytes (suc line) (record r { place = r.place }) ≡ behind_first (cell_left bytes line r)
   split-moved line s kind =
-      let cell : List (List Run) → Cell = λ lines. record { at = begins_at r; lines = lines } in
+      let cell : List (List Run) → Cell = λ lines. record { at = begins_at r; lines = lines; below = [] } in
       ap (λ (k : EntryKind). cell (lines_left_by k bytes (suc line) r.column r.end r.entry r.place)) kind
       ∙ ap cell (drop-line line ((split_run bytes r.entry s ∷ []) ∷ []))
       ∙ ap (λ (k : EntryKind). cell (drop 1 (lines_left_by k bytes line r.column r.end r.entry r.place))) (sym kind)
@@ -137,7 +137,7 @@ module _ (bytes : List ℕ) (r : RowColumn) where
 
     pub repeated-moved : (line : ℕ) → cell_left bytes (suc line) (record r { place = r.place }) ≡ behind_first (cell_left bytes line r)
     repeated-moved line =
-        let cell : List (List Run) → Cell = λ lines. record { at = begins_at r; lines = lines } in
+        let cell : List (List Run) → Cell = λ lines. record { at = begins_at r; lines = lines; below = [] } in
         ap cell (is.lines bytes (suc line))
         ∙ ap cell (drop-line line ((repeated b n ∷ []) ∷ []))
         ∙ ap (λ (lines : List (List Run)). cell (drop 1 lines)) (sym (is.lines bytes line))

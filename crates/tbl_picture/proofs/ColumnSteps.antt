@@ -2,14 +2,17 @@
 use Rattle.std.proofs.Common.{◌≡◌, ℕ, suc, ◌+◌, ◌-◌, ◌<◌, ◌≤◌, List, [], ◌∷◌, ◌++◌, length, take, drop, map, refl, sym, ap, subst, ◌∙◌, arith, append_assoc, length-append, length-drop}
 use Rattle.std.proofs.lemmas.List.{drop-map, map-append}
 use Rattle.tbl_layout.specs.declared.entry.Entry.{Entry}
-use Rattle.tbl_picture.specs.PictureLines.{Cell}
+use Rattle.tbl_format.specs.declared.options.Boxing.{Boxing}
+use Rattle.tbl_format.specs.declared.options.Boxing.TheVariants.{Around, EachField, Nothing as NotBoxed}
+use Rattle.tbl_picture.specs.PictureLines.{Cell, with_fronts}
 use Rattle.tbl_picture.specs.PieceQueue.{Adds, KeptPieces}
-use Rattle.tbl_picture.specs.RowsLeft.{behind_first, block_text, cell_left, given, one_less, row_columns}
-use Rattle.tbl_picture.specs.RowsWalked.{LastHasGlyph, PlacesLie, StandsInFirst, StandsNext, most_steps, steps_of_columns}
-use Rattle.tbl_picture.specs.Walks.{AtColumn, InLine, KeptWalk, RowSteps, WalkedRow, at_word, cells_now, columns_left, columns_walked, further_lines, passed, row_left, row_steps, steps_of_rest}
+use Rattle.tbl_picture.specs.RowsLeft.{behind_first, block_text, cell_left, from_line, fronts_by, given, one_less, row_columns, then_fronts}
+use Rattle.tbl_picture.specs.RowsWalked.{LastHasGlyph, PlacesLie, StandsInFirst, StandsNext, front_count, most_steps, steps_of_cells, steps_of_columns}
+use Rattle.tbl_picture.specs.Walks.{AtColumn, InLine, IsOn, IsUnderWay, KeptWalk, OnLine, RowSteps, WalkedRow, at_word, cells_in_front, cells_left, columns_left, columns_walked, fields_left, fields_now, fronts_of, further_lines, next_column, passed, row_left, row_steps, steps_of_rest}
 use Rattle.tbl_picture.specs.declared.row_columns.RowColumn.{RowColumn}
 use Rattle.tbl_picture.specs.declared.walk.Next.{Next}
-use Rattle.tbl_picture.specs.declared.walk.Next.TheVariants.{AtCell, AtWord}
+use Rattle.tbl_picture.specs.declared.walk.Next.TheVariants.{AtCell, AtFront, AtWord}
+use Rattle.tbl_picture.proofs.FrontCells.{many-fronts}
 use Rattle.tbl_picture.proofs.RowColumns.{column-lies, places-push, row_columns-push, take-next}
 use Rattle.tbl_picture.proofs.RunsGiven.{last-behind}
 use Rattle.tbl_text.specs.BlockPlaces.{IsWithin}
@@ -23,8 +26,9 @@ length-push xs x = omega (arith, length-append xs (x ∷ []))
 pub at-column : (row : WalkedRow) (w : KeptWalk) (r : RowColumn) → InLine row w → length w.behind < length row.entries
     → columns_left row w ≡ r ∷ drop (suc (length w.behind)) (columns_walked row w) → AtColumn row w r
 at-column row w r line few first =
-    let stands = column-lies row.bytes row.keys 0 (length w.behind) row.columns row.entries w.places r
-    (drop (suc (length w.behind)) (columns_walked row w)) first line.before.lie line.before.narrow line.before.places in
+    let before = line.on.before in
+    let stands = column-lies row.bytes row.boxing row.keys 0 (length w.behind) row.columns row.entries w.places r
+    (drop (suc (length w.behind)) (columns_walked row w)) first before.lie before.narrow before.places in
     record {
       line = line;
       first = first;
@@ -32,16 +36,38 @@ at-column row w r line few first =
       lies = stands.lies;
       within = stands.within;
       narrow = stands.narrow;
-      free = omega (arith, few, line.before.room);
+      free = omega (arith, few, before.room);
     }
+
+-- cells of which none has anything in front of it
+pub then-none : (cells : List Cell) → then_fronts [] cells ≡ cells
+then-none [] = refl
+then-none (c ∷ cells) = refl
+
+-- what comes next takes no more steps than what stands in front of it with it
+pub steps-cells : (most fronts : ℕ) (entries : List Entry) → steps_of_cells most fronts entries ≤ fronts + steps_of_columns most entries
+steps-cells most fronts [] = omega arith
+steps-cells most fronts (e ∷ entries) = omega arith
 
 module _ (row : WalkedRow) (w : KeptWalk) (r : RowColumn) (at : AtColumn row w r) where
   -- the columns behind it, and their cells
   abbrev pub columns_behind : List RowColumn
   columns_behind = drop (suc (length w.behind)) (columns_walked row w)
 
+  abbrev pub fields_behind : List Cell
+  fields_behind = map (cell_left row.bytes w.line) columns_behind
+
+  abbrev pub fronts_behind : List Cell
+  fronts_behind = drop (suc (length w.behind)) (fronts_of row w.line)
+
   abbrev pub cells_behind : List Cell
-  cells_behind = map (cell_left row.bytes w.line) columns_behind
+  cells_behind = with_fronts fronts_behind fields_behind
+
+  -- the steps of them
+  abbrev pub steps_behind : ℕ
+  steps_behind =
+      front_count row.columns - suc (length w.behind)
+      + (steps_of_columns (most_steps row.bytes) (drop (suc (length w.behind)) row.entries) + steps_of_rest row (row.height - suc w.line))
 
   -- the columns that are left once it is passed
   left-passed : (p : BlockPlace) → drop (length (w.behind ++ p ∷ [])) (columns_walked row w) ≡ columns_behind
@@ -51,105 +77,170 @@ module _ (row : WalkedRow) (w : KeptWalk) (r : RowColumn) (at : AtColumn row w r
   entries-passed p = ap (λ (n : ℕ). drop n row.entries) (length-push w.behind p)
 
   -- this column's cell is the first that is left
-  pub cells-first : map (cell_left row.bytes w.line) (columns_left row w) ≡ cell_left row.bytes w.line r ∷ cells_behind
-  cells-first = ap (map (cell_left row.bytes w.line)) at.first
+  fields-first : fields_left row w ≡ cell_left row.bytes w.line r ∷ fields_behind
+  fields-first = ap (map (cell_left row.bytes w.line)) at.first
+
+  pub cells-first : cells_left row w ≡ cell_left row.bytes w.line r ∷ cells_behind
+  cells-first = ap (then_fronts fronts_behind) fields-first
 
   few-behind : suc (length w.behind) ≤ length row.entries
   few-behind = omega (arith, ap length at.entries, length-drop (length w.behind) row.entries)
 
   -- the cells of the next line
-  moved-behind : drop (length w.behind) (map behind_first (cells_now row w))
-      ≡ behind_first (cell_left row.bytes w.line r) ∷ map behind_first cells_behind
+  moved-behind : drop (length w.behind) (map behind_first (fields_now row w))
+      ≡ behind_first (cell_left row.bytes w.line r) ∷ map behind_first fields_behind
   moved-behind =
-      drop-map behind_first (length w.behind) (cells_now row w)
-      ∙ ap (map behind_first) (drop-map (cell_left row.bytes w.line) (length w.behind) (columns_walked row w) ∙ cells-first)
+      drop-map behind_first (length w.behind) (fields_now row w)
+      ∙ ap (map behind_first) (drop-map (cell_left row.bytes w.line) (length w.behind) (columns_walked row w) ∙ fields-first)
 
   moved-passed : (p : BlockPlace) → cell_left row.bytes (suc w.line) (record r { place = p }) ≡ behind_first (cell_left row.bytes w.line r)
-      → map (cell_left row.bytes (suc w.line)) (row_columns row.keys 0 row.columns row.entries (w.behind ++ p ∷ []))
-      ≡ take (length (w.behind ++ p ∷ [])) (map behind_first (cells_now row w))
+      → map (cell_left row.bytes (suc w.line)) (row_columns row.boxing row.keys 0 row.columns row.entries (w.behind ++ p ∷ []))
+      ≡ take (length (w.behind ++ p ∷ [])) (map behind_first (fields_now row w))
   moved-passed p moved =
       let f = cell_left row.bytes (suc w.line) in
-      let before = row_columns row.keys 0 row.columns row.entries w.behind in
-      let cells = map behind_first (cells_now row w) in
-      ap (map f) (row_columns-push row.keys 0 row.columns row.entries w.places w.behind p r columns_behind at.first)
+      let before = row_columns row.boxing row.keys 0 row.columns row.entries w.behind in
+      let cells = map behind_first (fields_now row w) in
+      ap (map f) (row_columns-push row.boxing row.keys 0 row.columns row.entries w.places w.behind p r columns_behind at.first)
       ∙ map-append f before (record r { place = p } ∷ [])
-      ∙ ap (λ (front : List Cell). front ++ f (record r { place = p }) ∷ []) at.line.moved
+      ∙ ap (λ (front : List Cell). front ++ f (record r { place = p }) ∷ []) at.line.on.moved
       ∙ ap (λ (c : Cell). take (length w.behind) cells ++ c ∷ []) moved
-      ∙ sym (take-next (length w.behind) cells (behind_first (cell_left row.bytes w.line r)) (map behind_first cells_behind) moved-behind)
+      ∙ sym (take-next (length w.behind) cells (behind_first (cell_left row.bytes w.line r)) (map behind_first fields_behind) moved-behind)
       ∙ ap (λ (n : ℕ). take n cells) (sym (length-push w.behind p))
 
-  -- the walk is in this line behind it
-  line-passed : (p : BlockPlace) (reached : ℕ) → IsWithin (block_text row.bytes r.entry) p
+  -- the walk is on this line behind it
+  on-passed : (p : BlockPlace) (reached : ℕ) → IsWithin (block_text row.bytes r.entry) p
       → cell_left row.bytes (suc w.line) (record r { place = p }) ≡ behind_first (cell_left row.bytes w.line r)
-      → InLine row (passed p reached w)
-  line-passed p reached within moved =
-      let b = at.line.before in
-      let last = subst (LastHasGlyph w.count) cells-first at.line.last in
+      → OnLine row (passed row.boxing p reached w)
+  on-passed p reached within moved =
+      let b = at.line.on.before in
       record {
         before = record { line = b.line; short = b.short; room = b.room; narrow = b.narrow; lie = b.lie; places = b.places };
         column = omega (arith, few-behind, length-push w.behind p);
         places = subst (λ (n : ℕ). PlacesLie row.bytes (take n row.entries) (w.behind ++ p ∷ [])) (sym (length-push w.behind p))
-            (places-push row.bytes row.entries w.behind p r.entry (drop (suc (length w.behind)) row.entries) at.entries within at.line.places);
+            (places-push row.bytes row.entries w.behind p r.entry (drop (suc (length w.behind)) row.entries) at.entries within at.line.on.places);
         moved = moved-passed p moved;
-        last = subst (λ (columns : List RowColumn). LastHasGlyph (one_less w.count) (map (cell_left row.bytes w.line) columns)) (sym (left-passed p))
-            (last-behind w.count (cell_left row.bytes w.line r) cells_behind last);
       }
 
-  -- the rest of the row behind it
-  pub rest-passed : (p : BlockPlace) (reached : ℕ) → row_left AtCell row (passed p reached w)
-      ≡ given (one_less w.count) reached cells_behind ++ further_lines row w
-  rest-passed p reached =
-      ap (λ (columns : List RowColumn). given (one_less w.count) reached (map (cell_left row.bytes w.line) columns) ++ further_lines row w) (left-passed p)
+  -- what is left behind it: where nothing stands in front of columns, and where something does
+  cells-plain : (p : BlockPlace) (reached : ℕ) → row.boxing ≡ NotBoxed → cells_left row (passed row.boxing p reached w) ≡ cells_behind
+  cells-plain p reached is =
+      let none : fronts_of row w.line ≡ [] = ap (λ (b : Boxing). map (from_line w.line) (fronts_by b row.width row.columns row.entries)) is in
+      let fields = fields_left row (passed row.boxing p reached w) in
+      ap (λ (fronts : List Cell). then_fronts (drop (suc (length (w.behind ++ p ∷ []))) fronts) fields) none
+      ∙ then-none fields
+      ∙ ap (map (cell_left row.bytes w.line)) (left-passed p)
+      ∙ ap (λ (fronts : List Cell). with_fronts (drop (suc (length w.behind)) fronts) fields_behind) (sym none)
+
+  cells-boxed : (p : BlockPlace) (reached : ℕ)
+      → cells_in_front (length (w.behind ++ p ∷ [])) row (passed row.boxing p reached w) ≡ cells_behind
+  cells-boxed p reached =
+      ap (λ (n : ℕ). with_fronts (drop n (fronts_of row w.line)) (fields_left row (passed row.boxing p reached w))) (length-push w.behind p)
+      ∙ ap (λ (columns : List RowColumn). with_fronts fronts_behind (map (cell_left row.bytes w.line) columns)) (left-passed p)
+
+  -- the last cell that is given has a glyph
+  last-passed : LastHasGlyph (one_less w.count) cells_behind
+  last-passed = last-behind w.count (cell_left row.bytes w.line r) cells_behind (subst (LastHasGlyph w.count) cells-first at.line.last)
+
+  -- what is known behind it
+  record Passed (p : BlockPlace) (reached : ℕ) (next : Next) : Type 0 where
+    can : IsUnderWay next row (passed row.boxing p reached w)
+    on : IsOn next
+    left : row_left next row (passed row.boxing p reached w) ≡ given (one_less w.count) reached cells_behind ++ further_lines row w
+    few : row_steps next row (passed row.boxing p reached w) ≤ steps_behind
+
+  boxed-passed : (p : BlockPlace) (reached : ℕ) → OnLine row (passed row.boxing p reached w)
+      → suc (length w.behind) < length (fronts_by row.boxing row.width row.columns row.entries)
+      → Passed p reached (AtFront (length (w.behind ++ p ∷ [])))
+  boxed-passed p reached on many = record {
+    can = record {
+      on = on;
+      within = omega (arith, many, length-push w.behind p);
+      first = λ _. refl;
+      last = subst (LastHasGlyph (one_less w.count)) (sym (cells-boxed p reached)) last-passed;
+    };
+    on = tt;
+    left = ap (λ (cells : List Cell). given (one_less w.count) reached cells ++ further_lines row w) (cells-boxed p reached);
+    few = omega (arith, length-push w.behind p, ap (steps_of_columns (most_steps row.bytes)) (entries-passed p));
+  }
+
+  next-passed : (b : Boxing) (p : BlockPlace) (reached : ℕ) → row.boxing ≡ b → OnLine row (passed row.boxing p reached w)
+      → Passed p reached (next_column b (length (w.behind ++ p ∷ [])))
+  next-passed NotBoxed p reached is on =
+      let entries = drop (length (w.behind ++ p ∷ [])) row.entries in
+      record {
+        can = record { on = on; last = subst (LastHasGlyph (one_less w.count)) (sym (cells-plain p reached is)) last-passed };
+        on = tt;
+        left = ap (λ (cells : List Cell). given (one_less w.count) reached cells ++ further_lines row w) (cells-plain p reached is);
+        few = omega (
+          arith,
+          length-push w.behind p,
+          steps-cells (most_steps row.bytes) (front_count row.columns - suc (length (w.behind ++ p ∷ []))) entries,
+          ap (steps_of_columns (most_steps row.bytes)) (entries-passed p),
+        );
+      }
+  next-passed Around p reached is on =
+      boxed-passed p reached on (many-fronts Around row.boxing row.width row.columns row.entries (length w.behind) tt is few-behind at.line.on.before.short)
+  next-passed EachField p reached is on =
+      boxed-passed p reached on (many-fronts EachField row.boxing row.width row.columns row.entries (length w.behind) tt is few-behind at.line.on.before.short)
 
   -- a step that passes it
   pub steps-passed : (frame : List ℕ) (before after : KeptPieces) (p : BlockPlace) (reached : ℕ) (added : List ℕ)
       → Adds row.bytes frame 4 before after added → IsWithin (block_text row.bytes r.entry) p
       → cell_left row.bytes (suc w.line) (record r { place = p }) ≡ behind_first (cell_left row.bytes w.line r)
       → row_left w.next row w ≡ (added ++ given (one_less w.count) reached cells_behind) ++ further_lines row w
-      → (steps_of_columns (most_steps row.bytes) (drop (suc (length w.behind)) row.entries)
-      + steps_of_rest row.bytes (row.height - suc w.line) row.entries < row_steps w.next row.bytes row.height row.entries w)
-      → RowSteps frame row w (passed p reached w) before after
-  steps-passed frame before after p reached added adds within moved left less = record {
-    added = added;
-    adds = adds;
-    joins = left ∙ append_assoc added (given (one_less w.count) reached cells_behind) (further_lines row w)
-        ∙ ap (λ (rest : List ℕ). added ++ rest) (sym (rest-passed p reached));
-    on = tt;
-    can = line-passed p reached within moved;
-    less = omega (arith, less, ap (steps_of_columns (most_steps row.bytes)) (entries-passed p));
-    element = refl;
-    width = refl;
-    room = refl;
-  }
+      → steps_behind < row_steps w.next row w
+      → RowSteps frame row w (passed row.boxing p reached w) before after
+  steps-passed frame before after p reached added adds within moved left less =
+      let next = next-passed row.boxing p reached refl (on-passed p reached within moved) in
+      record {
+        added = added;
+        adds = adds;
+        joins = left ∙ append_assoc added (given (one_less w.count) reached cells_behind) (further_lines row w)
+            ∙ ap (λ (rest : List ℕ). added ++ rest) (sym next.left);
+        on = next.on;
+        can = next.can;
+        less = omega (arith, less, next.few);
+        element = refl;
+        above = refl;
+        boxing = refl;
+        width = refl;
+        room = refl;
+      }
+
+  -- the steps of its cell
+  pub steps-cell : w.next ≡ AtCell → row_steps w.next row w ≡ most_steps row.bytes + steps_behind
+  steps-cell next =
+      let most = most_steps row.bytes in
+      let fronts = front_count row.columns - suc (length w.behind) in
+      let rest = steps_of_rest row (row.height - suc w.line) in
+      let more = steps_of_columns most (drop (suc (length w.behind)) row.entries) in
+      let moved : most + (fronts + more) + rest ≡ most + steps_behind = omega arith in
+      ap (λ (n : Next). row_steps n row w) next
+      ∙ ap (λ (entries : List Entry). steps_of_cells most fronts entries + rest) at.entries
+      ∙ moved
 
   -- a step that passes it from the cell's beginning
   pub cell-passed : (frame : List ℕ) (before after : KeptPieces) (p : BlockPlace) (reached : ℕ) (added : List ℕ) → w.next ≡ AtCell
       → Adds row.bytes frame 4 before after added → IsWithin (block_text row.bytes r.entry) p
       → cell_left row.bytes (suc w.line) (record r { place = p }) ≡ behind_first (cell_left row.bytes w.line r)
       → given w.count w.place (cell_left row.bytes w.line r ∷ cells_behind) ≡ added ++ given (one_less w.count) reached cells_behind
-      → RowSteps frame row w (passed p reached w) before after
+      → RowSteps frame row w (passed row.boxing p reached w) before after
   cell-passed frame before after p reached added next adds within moved split =
-      let most = most_steps row.bytes in
-      let rest = steps_of_rest row.bytes (row.height - suc w.line) row.entries in
       let left : row_left w.next row w ≡ (added ++ given (one_less w.count) reached cells_behind) ++ further_lines row w =
       ap (λ (n : Next). row_left n row w) next
       ∙ ap (λ (cells : List Cell). given w.count w.place cells ++ further_lines row w) cells-first
       ∙ ap (λ (bytes : List ℕ). bytes ++ further_lines row w) split in
-      let steps : row_steps w.next row.bytes row.height row.entries w
-      ≡ most + steps_of_columns most (drop (suc (length w.behind)) row.entries) + rest =
-      ap (λ (n : Next). row_steps n row.bytes row.height row.entries w) next
-      ∙ ap (λ (entries : List Entry). steps_of_columns most entries + rest) at.entries in
-      steps-passed frame before after p reached added adds within moved left (omega (arith, steps))
+      steps-passed frame before after p reached added adds within moved left (omega (arith, steps-cell next))
 
   -- a step that comes to a word
   pub steps-word : (frame : List ℕ) (before after : KeptPieces) (word : BlockWord) (width : ℕ) (p : BlockPlace) (added : List ℕ)
       → Adds row.bytes frame 4 before after added → StandsNext row.bytes word width p r
       → row_left w.next row w ≡ added ++ row_left (AtWord word width p) row (at_word word width p w)
-      → (row_steps (AtWord word width p) row.bytes row.height row.entries w < row_steps w.next row.bytes row.height row.entries w)
+      → (row_steps (AtWord word width p) row w < row_steps w.next row w)
       → RowSteps frame row w (at_word word width p w) before after
   steps-word frame before after word width p added adds stands left less =
-      let b = at.line.before in
-      let l = at.line in
+      let l = at.line.on in
+      let b = l.before in
       record {
         added = added;
         adds = adds;
@@ -157,16 +248,20 @@ module _ (row : WalkedRow) (w : KeptWalk) (r : RowColumn) (at : AtColumn row w r
         on = tt;
         can = record {
           line = record {
-            before = record { line = b.line; short = b.short; room = b.room; narrow = b.narrow; lie = b.lie; places = b.places };
-            column = l.column;
-            places = l.places;
-            moved = l.moved;
-            last = l.last;
+            on = record {
+              before = record { line = b.line; short = b.short; room = b.room; narrow = b.narrow; lie = b.lie; places = b.places };
+              column = l.column;
+              places = l.places;
+              moved = l.moved;
+            };
+            last = at.line.last;
           };
           next = subst (StandsInFirst row.bytes word width p) (sym at.first) stands;
         };
         less = less;
         element = refl;
+        above = refl;
+        boxing = refl;
         width = refl;
         room = refl;
       }

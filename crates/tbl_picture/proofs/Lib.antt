@@ -2,8 +2,11 @@ pub mod Adding
 pub mod BlockColumns
 pub mod CellSteps
 pub mod CellsGiven
+pub mod FrontCells
+pub mod FrontSteps
 pub mod ColumnSteps
 pub mod LineSteps
+pub mod RowCells
 pub mod RowColumns
 pub mod RowLines
 pub mod RowsBegun
@@ -12,6 +15,10 @@ pub mod WordRuns
 pub mod WordSteps
 pub mod WordsGiven
 pub mod PieceBytes
+pub mod RuleLines
+pub mod BoxedElements
+pub mod RowsOn
+pub mod RuleSteps
 pub mod PictureSteps
 pub mod PiecesWithin
 pub mod PiecesLeft

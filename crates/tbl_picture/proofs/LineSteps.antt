@@ -6,39 +6,88 @@ use Rattle.std.proofs.lemmas.List.{drop_all, length-map, take_all}
 use Rattle.roff_source.specs.Bytes.{newline}
 use Rattle.tbl_layout.specs.Entries.{up_to_last_glyph}
 use Rattle.tbl_layout.specs.declared.entry.Entry.{Entry}
-use Rattle.tbl_picture.specs.PictureLines.{Cell, lines_from, written}
+use Rattle.tbl_format.specs.declared.options.Boxing.{Boxing}
+use Rattle.tbl_format.specs.declared.options.Boxing.TheVariants.{Around, EachField, Nothing as NotBoxed}
+use Rattle.tbl_picture.specs.PictureLines.{Cell, lines_from, with_fronts, written}
 use Rattle.tbl_picture.specs.PieceQueue.{Adds, KeptPieces}
-use Rattle.tbl_picture.specs.RowsLeft.{behind_first, cell_left, given, row_columns}
-use Rattle.tbl_picture.specs.RowsWalked.{AreGlyphless, LastHasGlyph, PlacesLie, most_steps, steps_of_columns}
-use Rattle.tbl_picture.specs.Walks.{BeforeLine, InLine, KeptWalk, RowEndsOrGoesOn, RowSteps, WalkedRow, cells_now, columns_left, columns_walked, further_lines, row_left, row_steps, steps_of_rest}
+use Rattle.tbl_picture.specs.RowsLeft.{behind_first, cell_left, from_line, fronts_by, given, row_columns, then_fronts}
+use Rattle.tbl_picture.specs.RowsWalked.{AreGlyphless, LastHasGlyph, PlacesLie, front_count, most_steps, steps_of_cells, steps_of_columns}
+use Rattle.tbl_picture.specs.Walks.{BeforeLine, InLine, IsOn, IsUnderWay, KeptWalk, OnLine, RowEndsOrGoesOn, RowSteps, WalkedRow, cells_left, cells_now, columns_left, columns_walked, fields_now, fronts_of, further_lines, line_cells, next_column, row_left, row_steps, steps_of_rest}
 use Rattle.tbl_picture.specs.declared.row_columns.RowColumn.{RowColumn}
 use Rattle.tbl_picture.specs.declared.walk.Next.{Next}
-use Rattle.tbl_picture.specs.declared.walk.Next.TheVariants.{AtCell, AtLine}
+use Rattle.tbl_picture.specs.declared.walk.Next.TheVariants.{AtCell, AtFront, AtLine}
+use Rattle.tbl_picture.proofs.ColumnSteps.{steps-cells, then-none}
+use Rattle.tbl_picture.proofs.FrontCells.{IsBoxed, front-count, fronts-next, map-fronts}
 use Rattle.tbl_picture.proofs.RowColumns.{length-row_columns, none-left}
 use Rattle.tbl_picture.proofs.RunsGiven.{line-given, lines-behind}
 
--- a line begins, of which so many columns are given
-abbrev pub line_begun : ℕ → KeptWalk → KeptWalk
-line_begun count w = record w { count = count; place = 0; next = AtCell; behind = [] }
+-- a line begins, of which so many cells are given
+abbrev pub line_begun : Boxing → ℕ → KeptWalk → KeptWalk
+line_begun boxing count w = record w { count = count; place = 0; next = next_column boxing 0; behind = [] }
+
+module _ (row : WalkedRow) (w : KeptWalk) (count : ℕ) (b : BeforeLine row w) (last : LastHasGlyph count (cells_now row w)) where
+  on-begun : OnLine row (line_begun row.boxing count w)
+  on-begun = record {
+    before = record { line = b.line; short = b.short; room = b.room; narrow = b.narrow; lie = b.lie; places = b.places };
+    column = omega arith;
+    places = tt;
+    moved = ap (map (cell_left row.bytes (suc w.line))) (none-left row.boxing row.keys 0 row.columns row.entries);
+  }
+
+  -- nothing stands in front of columns
+  cells-plain : row.boxing ≡ NotBoxed → cells_left row (line_begun row.boxing count w) ≡ cells_now row w
+  cells-plain is =
+      let none : fronts_of row w.line ≡ [] = ap (λ (x : Boxing). map (from_line w.line) (fronts_by x row.width row.columns row.entries)) is in
+      ap (λ (fronts : List Cell). then_fronts (drop 1 fronts) (fields_now row w)) none
+      ∙ then-none (fields_now row w)
+      ∙ ap (λ (fronts : List Cell). with_fronts fronts (fields_now row w)) (sym none)
+
+  -- what is known of the line
+  record Begun (next : Next) : Type 0 where
+    can : IsUnderWay next row (line_begun row.boxing count w)
+    on : IsOn next
+    left : row_left next row (line_begun row.boxing count w) ≡ given count 0 (cells_now row w) ++ further_lines row w
+    few : row_steps next row (line_begun row.boxing count w)
+        ≤ front_count row.columns + steps_of_columns (most_steps row.bytes) row.entries + steps_of_rest row (row.height - suc w.line)
+
+  boxed-begun : IsBoxed row.boxing → Begun (AtFront 0)
+  boxed-begun is = record {
+    can = record {
+      on = on-begun;
+      within = omega (arith, front-count row.boxing row.width row.columns row.entries is);
+      first = λ _. refl;
+      last = last;
+    };
+    on = tt;
+    left = refl;
+    few = omega arith;
+  }
+
+  next-begun : (x : Boxing) → row.boxing ≡ x → Begun (next_column x 0)
+  next-begun NotBoxed is = record {
+    can = record { on = on-begun; last = subst (LastHasGlyph count) (sym (cells-plain is)) last };
+    on = tt;
+    left = ap (λ (cells : List Cell). given count 0 cells ++ further_lines row w) (cells-plain is);
+    few = omega (arith, steps-cells (most_steps row.bytes) (front_count row.columns - 1) row.entries);
+  }
+  next-begun Around is = boxed-begun (subst IsBoxed (sym is) tt)
+  next-begun EachField is = boxed-begun (subst IsBoxed (sym is) tt)
 
 module _ (row : WalkedRow) (w : KeptWalk) (frame : List ℕ) (before after : KeptPieces) where
-  pub begun-line : (count : ℕ) → w.next ≡ AtLine → BeforeLine row w → count ≤ length row.entries
+  pub begun-line : (count : ℕ) → w.next ≡ AtLine → BeforeLine row w → count ≤ length (cells_now row w)
       → LastHasGlyph count (cells_now row w) → AreGlyphless (drop count (cells_now row w))
       → Adds row.bytes frame 4 before after (codes "\\&")
-      → RowSteps frame row w (line_begun count w) before after
-  begun-line count next b few last none adds =
+      → RowSteps frame row w (line_begun row.boxing count w) before after
+  begun-line count next b many last none adds =
       let cells = cells_now row w in
-      let f = cell_left row.bytes w.line in
       let n = row.height - suc w.line in
       let more : row.height - w.line ≡ suc n = omega (arith, b.line) in
-      let many : count ≤ length cells =
-      omega (arith, few, length-map (columns_walked row w) f, length-row_columns row.keys row.bytes 0 row.columns row.entries w.places b.short b.places) in
       let line = up_to_last_glyph (written 0 0 cells) in
       let rest = lines_from 0 n (map behind_first cells) in
-      let steps = steps_of_columns (most_steps row.bytes) row.entries in
-      let old_steps : row_steps w.next row.bytes row.height row.entries w ≡ suc steps + steps_of_rest row.bytes n row.entries =
-      ap (λ (x : Next). row_steps x row.bytes row.height row.entries w) next
-      ∙ ap (λ (k : ℕ). steps_of_rest row.bytes k row.entries) more in
+      let begun = next-begun row w count b last row.boxing refl in
+      let old_steps : row_steps w.next row w
+      ≡ suc (front_count row.columns + steps_of_columns (most_steps row.bytes) row.entries) + steps_of_rest row n =
+      ap (λ (x : Next). row_steps x row w) next ∙ ap (steps_of_rest row) more in
       record {
         added = codes "\\&";
         adds = adds;
@@ -47,17 +96,14 @@ module _ (row : WalkedRow) (w : KeptWalk) (frame : List ℕ) (before after : Kep
             ∙ ap (λ (k : ℕ). lines_from 0 k cells) more
             ∙ ap (λ (behind : List ℕ). (codes "\\&" ++ (line ++ newline ∷ [])) ++ behind) (lines-behind 0 n cells)
             ∙ ap (λ (bytes : List ℕ). codes "\\&" ++ bytes) (append_assoc line (newline ∷ []) rest)
-            ∙ ap (λ (bytes : List ℕ). codes "\\&" ++ (bytes ++ newline ∷ rest)) (sym (line-given count 0 cells many last none));
-        on = tt;
-        can = record {
-          before = record { line = b.line; short = b.short; room = b.room; narrow = b.narrow; lie = b.lie; places = b.places };
-          column = omega arith;
-          places = tt;
-          moved = ap (map (cell_left row.bytes (suc w.line))) (none-left row.keys 0 row.columns row.entries);
-          last = last;
-        };
-        less = omega (arith, old_steps);
+            ∙ ap (λ (bytes : List ℕ). codes "\\&" ++ (bytes ++ newline ∷ rest)) (sym (line-given count 0 cells many last none))
+            ∙ ap (λ (bytes : List ℕ). codes "\\&" ++ bytes) (sym begun.left);
+        on = begun.on;
+        can = begun.can;
+        less = omega (arith, old_steps, begun.few);
         element = refl;
+        above = refl;
+        boxing = refl;
         width = refl;
         room = refl;
       }
@@ -66,22 +112,32 @@ module _ (row : WalkedRow) (w : KeptWalk) (frame : List ℕ) (before after : Kep
   module _ (next : w.next ≡ AtCell) (l : InLine row w) (all : length w.behind ≡ length row.entries)
       (adds : Adds row.bytes frame 4 before after (newline ∷ [])) where
     many-columns : length (columns_walked row w) ≡ length row.entries
-    many-columns = length-row_columns row.keys row.bytes 0 row.columns row.entries w.places l.before.short l.before.places
+    many-columns = length-row_columns row.boxing row.keys row.bytes 0 row.columns row.entries w.places l.on.before.short l.on.before.places
 
     none-left-now : columns_left row w ≡ []
     none-left-now = drop_all (length w.behind) (columns_walked row w) (omega (arith, all, many-columns))
 
     left-now : row_left w.next row w ≡ further_lines row w
     left-now =
+        let fronts = drop (suc (length w.behind)) (fronts_of row w.line) in
         ap (λ (x : Next). row_left x row w) next
-        ∙ ap (λ (cs : List RowColumn). given w.count w.place (map (cell_left row.bytes w.line) cs) ++ further_lines row w) none-left-now
+        ∙ ap (λ (cs : List RowColumn). given w.count w.place (then_fronts fronts (map (cell_left row.bytes w.line) cs)) ++ further_lines row w) none-left-now
 
     entries-all : take (length w.behind) row.entries ≡ row.entries
     entries-all = take_all (length w.behind) row.entries (omega (arith, all))
 
-    moved-all : map (cell_left row.bytes (suc w.line)) (row_columns row.keys 0 row.columns row.entries w.behind) ≡ map behind_first (cells_now row w)
-    moved-all = l.moved ∙ take_all (length w.behind) (map behind_first (cells_now row w))
-        (omega (arith, all, many-columns, length-map (cells_now row w) behind_first, length-map (columns_walked row w) (cell_left row.bytes w.line)))
+    fields-all : map (cell_left row.bytes (suc w.line)) (row_columns row.boxing row.keys 0 row.columns row.entries w.behind)
+        ≡ map behind_first (fields_now row w)
+    fields-all = l.on.moved ∙ take_all (length w.behind) (map behind_first (fields_now row w))
+        (omega (arith, all, many-columns, length-map (fields_now row w) behind_first, length-map (columns_walked row w) (cell_left row.bytes w.line)))
+
+    -- the cells of the next line
+    moved-all : map behind_first (cells_now row w) ≡ line_cells row (suc w.line) w.behind
+    moved-all =
+        map-fronts behind_first (fronts_of row w.line) (fields_now row w)
+        ∙ ap (λ (fronts : List Cell). with_fronts fronts (map behind_first (fields_now row w)))
+        (fronts-next w.line (fronts_by row.boxing row.width row.columns row.entries))
+        ∙ ap (with_fronts (fronts_of row (suc w.line))) (sym fields-all)
 
     next-is : w.line + 1 ≡ suc w.line
     next-is = omega arith
@@ -95,25 +151,28 @@ module _ (row : WalkedRow) (w : KeptWalk) (frame : List ℕ) (before after : Kep
           adds = adds;
           all = left-now ∙ ap (λ (n : ℕ). newline ∷ lines_from 0 n (map behind_first (cells_now row w))) none;
           element = refl;
+          above = refl;
+          boxing = refl;
           width = refl;
           room = refl;
         }
     ended-by false is =
-        let b = l.before in
+        let b = l.on.before in
         let n = row.height - suc w.line in
         let other : w.line + 1 ≢ row.height = eqb-false (w.line + 1) row.height is in
         let most = most_steps row.bytes in
-        let old_steps : row_steps w.next row.bytes row.height row.entries w ≡ 1 + steps_of_rest row.bytes n row.entries =
-        ap (λ (x : Next). row_steps x row.bytes row.height row.entries w) next
-        ∙ ap (λ (entries : List Entry). steps_of_columns most entries + steps_of_rest row.bytes n row.entries)
+        let fronts = front_count row.columns - suc (length w.behind) in
+        let old_steps : row_steps w.next row w ≡ 1 + steps_of_rest row n =
+        ap (λ (x : Next). row_steps x row w) next
+        ∙ ap (λ (entries : List Entry). steps_of_cells most fronts entries + steps_of_rest row n)
         (drop_all (length w.behind) row.entries (omega (arith, all))) in
         record {
           added = newline ∷ [];
           adds = adds;
           joins =
               left-now
-              ∙ ap (λ (cells : List Cell). newline ∷ lines_from 0 n cells) (sym moved-all)
-              ∙ ap (λ (k : ℕ). newline ∷ lines_from 0 (row.height - k) (map (cell_left row.bytes k) (row_columns row.keys 0 row.columns row.entries w.behind))) (sym next-is);
+              ∙ ap (λ (cells : List Cell). newline ∷ lines_from 0 n cells) moved-all
+              ∙ ap (λ (k : ℕ). newline ∷ lines_from 0 (row.height - k) (line_cells row k w.behind)) (sym next-is);
           on = tt;
           can = record {
             line = omega (arith, b.line, other);
@@ -121,10 +180,12 @@ module _ (row : WalkedRow) (w : KeptWalk) (frame : List ℕ) (before after : Kep
             room = b.room;
             narrow = b.narrow;
             lie = b.lie;
-            places = subst (λ (entries : List Entry). PlacesLie row.bytes entries w.behind) entries-all l.places;
+            places = subst (λ (entries : List Entry). PlacesLie row.bytes entries w.behind) entries-all l.on.places;
           };
-          less = omega (arith, old_steps, ap (λ (k : ℕ). steps_of_rest row.bytes (row.height - k) row.entries) next-is);
+          less = omega (arith, old_steps, ap (λ (k : ℕ). steps_of_rest row (row.height - k)) next-is);
           element = refl;
+          above = refl;
+          boxing = refl;
           width = refl;
           room = refl;
         }

@@ -77,10 +77,10 @@ module _ (bytes : List ℕ) (e : Entry) where
 entry-lies : (k : EntryKind) (bytes : List ℕ) (measure : ℕ) (key : Key) (e : Entry) → IsLaidBy k bytes measure key e → Lies bytes e
 entry-lies (TextKind glyphs width) bytes measure key e laid = record { order = laid.order; within = laid.within }
 entry-lies (SplitKind s) bytes measure key e laid = record { order = laid.order; within = laid.within }
-entry-lies (BlockKind b) bytes measure key e laid = laid.lies
-entry-lies (RuledKind sign) bytes measure key e laid = laid
-entry-lies ShortKind bytes measure key e laid = laid
-entry-lies (RepeatedKind b) bytes measure key e laid = laid
+entry-lies (BlockKind b) bytes measure key e laid = record { order = laid.lies.order; within = laid.lies.within }
+entry-lies (RuledKind sign) bytes measure key e laid = record { order = laid.order; within = laid.within }
+entry-lies ShortKind bytes measure key e laid = record { order = laid.order; within = laid.within }
+entry-lies (RepeatedKind b) bytes measure key e laid = record { order = laid.order; within = laid.within }
 
 pub entries-lie : (bytes : List ℕ) (columns : List Column) (format : FormatRow) (column : ℕ) (entries : List Entry)
     → AreLaid bytes columns format column entries → AllByRecursion (Lies bytes) entries

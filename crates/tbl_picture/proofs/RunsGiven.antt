@@ -1,5 +1,5 @@
 -- What is given of the runs of a line is the line up to its last glyph.
-use Rattle.std.proofs.Common.{◌≡◌, ℕ, zero, suc, ◌+◌, ◌-◌, ◌<◌, ◌≤◌, ◌⊎◌, inl, inr, List, [], ◌∷◌, ◌++◌, length, drop, map, get_or, refl, sym, ap, subst, ◌∙◌, arith, append_assoc, length-append, codes}
+use Rattle.std.proofs.Common.{◌≡◌, ℕ, zero, suc, ◌-◌, ◌<◌, ◌≤◌, ◌⊎◌, inl, inr, List, [], ◌∷◌, ◌++◌, length, drop, map, get_or, refl, sym, ap, subst, ◌∙◌, arith, append_assoc, length-append, codes}
 use Rattle.std.specs.List.{flat_map}
 use Rattle.std.proofs.lemmas.List.{append-nil}
 use Rattle.std.proofs.lemmas.List.Concat.{flat_map-cons}
@@ -105,17 +105,17 @@ last-behind (suc zero) c (d ∷ cells) last = tt
 last-behind (suc (suc n)) c cells last = last
 
 -- lines from the next one on are those of the cells behind this line
-line_at-behind : (line : ℕ) (lines : List (List Run)) → get_or lines (suc line) [] ≡ get_or (drop 1 lines) line []
-line_at-behind line [] = refl
-line_at-behind line (runs ∷ lines) = refl
+line_at-behind : (line : ℕ) (lines : List (List Run)) (below : List Run) → get_or lines (suc line) below ≡ get_or (drop 1 lines) line below
+line_at-behind line [] below = refl
+line_at-behind line (runs ∷ lines) below = refl
 
 written-behind : (line place : ℕ) (cells : List Cell) → written (suc line) place cells ≡ written line place (map behind_first cells)
 written-behind line place [] = refl
 written-behind line place (c ∷ cells) =
+    let text = get_or c.lines (suc line) c.below in
     let f : List Run → List Run = λ text. at_column c.at place text ++ written line (end_of c.at place text) (map behind_first cells) in
-    ap (λ (rest : List Run). at_column c.at place (get_or c.lines (suc line) []) ++ rest)
-    (written-behind line (end_of c.at place (get_or c.lines (suc line) [])) cells)
-    ∙ ap f (line_at-behind line c.lines)
+    ap (λ (rest : List Run). at_column c.at place text ++ rest) (written-behind line (end_of c.at place text) cells)
+    ∙ ap f (line_at-behind line c.lines c.below)
 
 pub lines-behind : (line count : ℕ) (cells : List Cell) → lines_from (suc line) count cells ≡ lines_from line count (map behind_first cells)
 lines-behind line zero cells = refl

@@ -5,11 +5,11 @@ use Rattle.std.proofs.lemmas.List.{drop-drop, drop-take, take-take}
 use Rattle.std.proofs.lemmas.List.Sums.{sum_by-cons}
 use Rattle.std.proofs.lemmas.Slice.{between_is}
 use Rattle.tbl_layout.specs.Entries.{Run, block_line, columns_of, further_words}
-use Rattle.tbl_layout.specs.KeptEntries.{Lies}
 use Rattle.tbl_layout.specs.declared.columns.Column.{Column}
 use Rattle.tbl_layout.specs.declared.entry.Entry.{Entry}
 use Rattle.tbl_layout.specs.declared.entry.EntryKind.{EntryKind}
 use Rattle.tbl_layout.specs.declared.entry.EntryKind.TheVariants.{Block, Repeated, Ruled, Short, Split, Text}
+use Rattle.tbl_layout.specs.KeptEntries.{Lies}
 use Rattle.tbl_picture.specs.PictureLines.{Cell}
 use Rattle.tbl_picture.specs.RowsLeft.{begins_at, behind_first, block_text, cell_left, first_of, lines_left_by}
 use Rattle.tbl_picture.specs.RowsWalked.{IsBlock}
@@ -78,6 +78,6 @@ module _ (bytes : List ℕ) (line : ℕ) (r : RowColumn) (is : IsBlock r.entry.k
       ≡ drop 1 (map block_line (lines_of r.column.measure (parts_at (block_text bytes r.entry) r.place)))
       → cell_left bytes (suc line) (record r { place = p }) ≡ behind_first (cell_left bytes line r)
   block-moved p moved =
-      let cell : List (List Run) → Cell = λ lines. record { at = begins_at r; lines = lines } in
+      let cell : List (List Run) → Cell = λ lines. record { at = begins_at r; lines = lines; below = [] } in
       ap cell (block-by r.entry.kind bytes (suc line) r.column r.end r.entry p is ∙ moved)
       ∙ ap (λ (lines : List (List Run)). cell (drop 1 lines)) (sym (block-by r.entry.kind bytes line r.column r.end r.entry r.place is))

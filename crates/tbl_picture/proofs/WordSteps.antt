@@ -1,5 +1,5 @@
 -- What a step does that begins a line of a block, or gives a word of it.
-use Rattle.std.proofs.Common.{◌≡◌, ℕ, suc, ◌+◌, ◌-◌, List, [], ◌∷◌, ◌++◌, length, drop, map, get_or, replicate, sym, ap, ◌∙◌, arith, append_assoc}
+use Rattle.std.proofs.Common.{◌≡◌, ℕ, ◌+◌, ◌-◌, List, [], ◌∷◌, ◌++◌, drop, map, get_or, replicate, sym, ap, ◌∙◌, arith, append_assoc}
 use Rattle.std.proofs.lemmas.List.Sums.{sum_by-cons}
 use Rattle.roff_source.specs.Bytes.{blank}
 use Rattle.tbl_layout.specs.Entries.{Run, blanks, block_line, columns_of, further_words, run_of_word}
@@ -7,14 +7,14 @@ use Rattle.tbl_layout.specs.declared.entry.Entry.{Entry}
 use Rattle.tbl_picture.specs.PictureLines.{Cell, at_column, end_of}
 use Rattle.tbl_picture.specs.PieceQueue.{Adds, KeptPieces}
 use Rattle.tbl_picture.specs.RowsLeft.{begins_at, block_text, cell_left, first_of, given, given_of, if_given, one_less, word_given}
-use Rattle.tbl_picture.specs.RowsWalked.{IsBlock, most_steps, steps_of_columns, steps_of_word}
-use Rattle.tbl_picture.specs.Walks.{AtColumn, KeptWalk, RowSteps, WalkedRow, at_word, further_lines, passed, row_left, row_steps, steps_of_rest}
+use Rattle.tbl_picture.specs.RowsWalked.{IsBlock, steps_of_word}
+use Rattle.tbl_picture.specs.Walks.{AtColumn, KeptWalk, RowSteps, WalkedRow, at_word, further_lines, passed, row_left, row_steps}
 use Rattle.tbl_picture.specs.declared.row_columns.RowColumn.{RowColumn}
 use Rattle.tbl_picture.specs.declared.walk.Next.{Next}
 use Rattle.tbl_picture.specs.declared.walk.Next.TheVariants.{AtCell, AtWord}
 use Rattle.tbl_picture.proofs.BlockColumns.{lines-empty, lines-word, word-glyph}
 use Rattle.tbl_picture.proofs.CellSteps.{none-steps}
-use Rattle.tbl_picture.proofs.ColumnSteps.{cells-first, cells_behind, columns_behind, steps-word}
+use Rattle.tbl_picture.proofs.ColumnSteps.{cells-first, cells_behind, columns_behind, fronts_behind, steps-cell, steps-word, steps_behind}
 use Rattle.tbl_picture.proofs.RunsGiven.{given-two}
 use Rattle.tbl_picture.proofs.WordRuns.{block-first, block-moved, columns-further, few-bytes, few-left}
 use Rattle.tbl_text.specs.BlockLines.{behind_rest, lines_of, rest_of_line, width_behind}
@@ -28,7 +28,7 @@ use Rattle.tbl_text.specs.declared.block_words.BlockWord.{BlockWord}
 module _ (row : WalkedRow) (w : KeptWalk) (r : RowColumn) (at : AtColumn row w r) (is : IsBlock r.entry.kind) where
   -- a block that has no line any more
   pub ended-steps : (frame : List ℕ) (pieces : KeptPieces) → w.next ≡ AtCell → parts_at (block_text row.bytes r.entry) r.place ≡ []
-      → RowSteps frame row w (passed AtEnd w.place w) pieces pieces
+      → RowSteps frame row w (passed row.boxing AtEnd w.place w) pieces pieces
   ended-steps frame pieces next none =
       let lines = ap (λ (parts : List Part). map block_line (lines_of r.column.measure parts)) none in
       none-steps row w r at next frame pieces AtEnd
@@ -40,7 +40,7 @@ module _ (row : WalkedRow) (w : KeptWalk) (r : RowColumn) (at : AtColumn row w r
   pub empty-steps : (frame : List ℕ) (pieces : KeptPieces) (p : BlockPlace) → w.next ≡ AtCell
       → parts_at (block_text row.bytes r.entry) r.place ≡ EmptyLine ∷ parts_at (block_text row.bytes r.entry) p
       → IsWithin (block_text row.bytes r.entry) p
-      → RowSteps frame row w (passed p w.place w) pieces pieces
+      → RowSteps frame row w (passed row.boxing p w.place w) pieces pieces
   empty-steps frame pieces p next parts within =
       let rest = parts_at (block_text row.bytes r.entry) p in
       let lines = ap (λ (ps : List Part). map block_line (lines_of r.column.measure ps)) parts ∙ lines-empty r.column.measure rest in
@@ -95,16 +95,10 @@ module _ (row : WalkedRow) (w : KeptWalk) (r : RowColumn) (at : AtColumn row w r
       ∙ ap (λ (front : List ℕ). front ++ further) (append_assoc added words_left behind)
       ∙ append_assoc added (words_left ++ behind) further in
       let word_left : row_left (AtWord word width p) row (at_word word width p w) ≡ (words_left ++ behind) ++ further =
-      ap (λ (cs : List RowColumn). word_given row.bytes w.line w.count word width p cs ++ further) at.first
-      ∙ ap (λ (n : ℕ). word_given row.bytes w.line w.count word n p (r ∷ columns_behind row w r at) ++ further) width_is in
-      let most = most_steps row.bytes in
-      let steps_rest = steps_of_rest row.bytes (row.height - suc w.line) row.entries in
-      let more = steps_of_columns most (drop (suc (length w.behind)) row.entries) in
-      let old_steps : row_steps w.next row.bytes row.height row.entries w ≡ most + more + steps_rest =
-      ap (λ (n : Next). row_steps n row.bytes row.height row.entries w) next
-      ∙ ap (λ (entries : List Entry). steps_of_columns most entries + steps_rest) at.entries in
-      let new_steps : row_steps (AtWord word width p) row.bytes row.height row.entries w ≡ left_at text p + 1 + (more + steps_rest) =
-      ap (λ (entries : List Entry). steps_of_word row.bytes p entries + (more + steps_rest)) at.entries in
+      ap (λ (cs : List RowColumn). word_given row.bytes w.line (fronts_behind row w r at) w.count word width p cs ++ further) at.first
+      ∙ ap (λ (n : ℕ). word_given row.bytes w.line (fronts_behind row w r at) w.count word n p (r ∷ columns_behind row w r at) ++ further) width_is in
+      let new_steps : row_steps (AtWord word width p) row w ≡ left_at text p + 1 + steps_behind row w r at =
+      ap (λ (entries : List Entry). steps_of_word row.bytes p entries + steps_behind row w r at) at.entries in
       steps-word row w r at frame before after word width p added adds
       (record {
         block = is;
@@ -113,4 +107,4 @@ module _ (row : WalkedRow) (w : KeptWalk) (r : RowColumn) (at : AtColumn row w r
         rest = ap (λ (n : ℕ). map block_line (lines_of m (behind_rest m n rest))) width_is ∙ ap (λ (ls : List (List Run)). drop 1 ls) (sym lines);
       })
       (left ∙ ap (λ (bytes : List ℕ). added ++ bytes) (sym word_left))
-      (omega (arith, old_steps, new_steps, few-left text p, few-bytes row.bytes r.entry at.lies))
+      (omega (arith, steps-cell row w r at next, new_steps, few-left text p, few-bytes row.bytes r.entry at.lies))

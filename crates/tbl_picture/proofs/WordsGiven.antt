@@ -1,19 +1,19 @@
 -- What a step does that gives a word of a block.
-use Rattle.std.proofs.Common.{◌≡◌, ℕ, zero, suc, ◌+◌, ◌-◌, ◌<◌, ◌≤◌, List, [], ◌∷◌, ◌++◌, length, drop, map, min, replicate, refl, sym, ap, subst, ◌∙◌, arith, append_assoc}
+use Rattle.std.proofs.Common.{◌≡◌, ℕ, zero, suc, ◌+◌, ◌<◌, ◌≤◌, List, [], ◌∷◌, ◌++◌, length, drop, map, min, replicate, refl, sym, ap, subst, ◌∙◌, arith, append_assoc}
 use Rattle.std.specs.List.{slice_range}
 use Rattle.roff_source.specs.Bytes.{blank}
 use Rattle.tbl_layout.specs.Entries.{blanks, block_line, further_words, run_of_word}
-use Rattle.tbl_layout.specs.KeptEntries.{Lies}
 use Rattle.tbl_layout.specs.declared.entry.Entry.{Entry}
+use Rattle.tbl_layout.specs.KeptEntries.{Lies}
 use Rattle.tbl_picture.specs.PieceQueue.{Adds, KeptPieces}
 use Rattle.tbl_picture.specs.RowsLeft.{begins_at, block_text, end_given, given, given_of, if_given, one_less, word_given}
-use Rattle.tbl_picture.specs.RowsWalked.{StandsInFirst, StandsNext, most_steps, steps_of_columns, steps_of_word}
-use Rattle.tbl_picture.specs.Walks.{AtColumn, InWord, KeptWalk, RowSteps, WalkedRow, at_word, further_lines, passed, row_left, row_steps, steps_of_rest}
+use Rattle.tbl_picture.specs.RowsWalked.{StandsInFirst, StandsNext, steps_of_word}
+use Rattle.tbl_picture.specs.Walks.{AtColumn, InWord, KeptWalk, RowSteps, WalkedRow, at_word, further_lines, passed, row_left, row_steps}
 use Rattle.tbl_picture.specs.declared.row_columns.RowColumn.{RowColumn}
 use Rattle.tbl_picture.specs.declared.walk.Next.{Next}
 use Rattle.tbl_picture.specs.declared.walk.Next.TheVariants.{AtWord}
 use Rattle.tbl_picture.proofs.BlockColumns.{word-glyph}
-use Rattle.tbl_picture.proofs.ColumnSteps.{cells_behind, steps-passed, steps-word}
+use Rattle.tbl_picture.proofs.ColumnSteps.{cells_behind, fronts_behind, steps-passed, steps-word, steps_behind}
 use Rattle.tbl_picture.proofs.RunsGiven.{given-last, given-two, last_given}
 use Rattle.tbl_picture.proofs.WordRuns.{block-moved, drop-of-none, slice-in}
 use Rattle.tbl_text.proofs.BlockSlices.{length-slice_range}
@@ -72,22 +72,15 @@ module _ (row : WalkedRow) (w : KeptWalk) (r : RowColumn) (at : AtColumn row w r
       ++ given (one_less w.count) (begins_at r + width_behind width words_of_line) (cells_behind row w r at)) ++ further_lines row w
   left-word =
       ap (λ (n : Next). row_left n row w) next
-      ∙ ap (λ (cs : List RowColumn). word_given row.bytes w.line w.count word width p cs ++ further_lines row w) at.first
+      ∙ ap (λ (cs : List RowColumn). word_given row.bytes w.line (fronts_behind row w r at) w.count word width p cs ++ further_lines row w) at.first
 
-  steps-of-word : (q : BlockPlace) (word_then : BlockWord) (wider : ℕ) → row_steps (AtWord word_then wider q) row.bytes row.height row.entries w
-      ≡ left_at (block_text row.bytes r.entry) q + 1
-      + (steps_of_columns (most_steps row.bytes) (drop (suc (length w.behind)) row.entries)
-      + steps_of_rest row.bytes (row.height - suc w.line) row.entries)
+  steps-of-word : (q : BlockPlace) (word_then : BlockWord) (wider : ℕ) → row_steps (AtWord word_then wider q) row w
+      ≡ left_at (block_text row.bytes r.entry) q + 1 + steps_behind row w r at
   steps-of-word q word_then wider =
-      let more = steps_of_columns (most_steps row.bytes) (drop (suc (length w.behind)) row.entries)
-      + steps_of_rest row.bytes (row.height - suc w.line) row.entries in
-      ap (λ (entries : List Entry). steps_of_word row.bytes q entries + more) at.entries
+      ap (λ (entries : List Entry). steps_of_word row.bytes q entries + steps_behind row w r at) at.entries
 
-  steps-old : row_steps w.next row.bytes row.height row.entries w
-      ≡ left_at (block_text row.bytes r.entry) p + 1
-      + (steps_of_columns (most_steps row.bytes) (drop (suc (length w.behind)) row.entries)
-      + steps_of_rest row.bytes (row.height - suc w.line) row.entries)
-  steps-old = ap (λ (n : Next). row_steps n row.bytes row.height row.entries w) next ∙ steps-of-word p word width
+  steps-old : row_steps w.next row w ≡ left_at (block_text row.bytes r.entry) p + 1 + steps_behind row w r at
+  steps-old = ap (λ (n : Next). row_steps n row w) next ∙ steps-of-word p word width
 
   -- a word behind which another one goes on with the line
   pub joins-steps : (frame : List ℕ) (before after : KeptPieces) (then_word : BlockWord) (wider : ℕ) (q : BlockPlace) (text : List ℕ)
@@ -122,7 +115,7 @@ module _ (row : WalkedRow) (w : KeptWalk) (r : RowColumn) (at : AtColumn row w r
       ∙ ap (λ (front : List ℕ). front ++ further) (append_assoc added rest cells_given)
       ∙ append_assoc added (rest ++ cells_given) further in
       let then_left : row_left (AtWord then_word wider q) row (at_word then_word wider q w) ≡ (rest ++ cells_given) ++ further =
-      ap (λ (cs : List RowColumn). word_given row.bytes w.line w.count then_word wider q cs ++ further) at.first in
+      ap (λ (cs : List RowColumn). word_given row.bytes w.line (fronts_behind row w r at) w.count then_word wider q cs ++ further) at.first in
       steps-word row w r at frame before after then_word wider q added adds
       (record {
         block = stands.block;
@@ -139,7 +132,7 @@ module _ (row : WalkedRow) (w : KeptWalk) (r : RowColumn) (at : AtColumn row w r
       → text ≡ last_given w.count (run_of_word (word_at (block_text row.bytes r.entry) word))
       → given (one_less w.count) reached (cells_behind row w r at) ≡ given (one_less w.count) (begins_at r + width) (cells_behind row w r at)
       → Adds row.bytes frame 4 before after text
-      → RowSteps frame row w (passed p reached w) before after
+      → RowSteps frame row w (passed row.boxing p reached w) before after
   ends-steps frame before after reached text line text_is reached_is adds =
       let block = block_text row.bytes r.entry in
       let m = r.column.measure in

@@ -3,6 +3,7 @@ use Rattle.std.specs.Prelude.{◌≡◌, Bool, true, false, ℕ, ◌+◌, ◌*�
 use Rattle.roff_source.specs.Bytes.{newline}
 use Rattle.tbl_format.specs.FormatRows.{KeptFormat}
 use Rattle.tbl_format.specs.RowsServed.{all_rows}
+use Rattle.tbl_format.specs.declared.options.Boxing.{Boxing}
 use Rattle.tbl_kept.specs.Joined.{RiseWithin, unjoined}
 use Rattle.tbl_kept.specs.Rows.{KeptRows, RowsLaid, elements_of}
 use Rattle.tbl_kept.specs.TableText.{KeptText, block_of}
@@ -10,7 +11,8 @@ use Rattle.tbl_picture.specs.PictureLines.{picture_lines}
 use Rattle.tbl_picture.specs.PieceQueue.{KeptPieces, bytes_left}
 use Rattle.tbl_picture.specs.Pieces.{AreWithin}
 use Rattle.tbl_picture.specs.RowsWalked.{AreNarrow}
-use Rattle.tbl_picture.specs.Walks.{CanWalk, KeptWalk, still_to_come}
+use Rattle.tbl_picture.specs.ElementsWalked.{CanWalk, still_to_come}
+use Rattle.tbl_picture.specs.Walks.{KeptWalk}
 use Rattle.tbl_picture.specs.declared.giving.Giving.TheInside.{Inside}
 use Rattle.tbl_picture.specs.declared.giving.Rest.{Rest}
 use Rattle.tbl_picture.specs.declared.giving.Rest.TheVariants.{Lines, Nothing, Read}
@@ -35,9 +37,10 @@ pub record IsLaidOut (t : KeptText) (r : KeptRows) (k : KeptFormat) (columns : �
   pub narrow : AreNarrow r.columns
   pub small : length (block_of t) < 2 ^ 33
 
--- the lines of its picture, which is so wide
-abbrev pub lines_laid : ℕ → KeptText → KeptRows → KeptFormat → List ℕ
-lines_laid width t r k = picture_lines width r.columns (elements_of (block_of t) (all_rows k.format) r.elements)
+-- the lines of its picture, which is boxed so and so wide
+abbrev pub lines_laid : Boxing → ℕ → KeptText → KeptRows → KeptFormat → List ℕ
+lines_laid boxing width t r k =
+    picture_lines (record { boxing = boxing; width = width; columns = r.columns }) (elements_of (block_of t) (all_rows k.format) r.elements)
 
 -- what the walk is to give
 abbrev pub lines_left : KeptText → KeptRows → KeptFormat → KeptWalk → List ℕ

@@ -4,6 +4,8 @@ pub mod WorkedPictures
 pub mod RowsLeft
 pub mod RowsWalked
 pub mod Walks
+pub mod RulesWalked
+pub mod ElementsWalked
 pub mod Pieces
 pub mod PieceQueue
 pub mod Giving

@@ -1,9 +1,11 @@
 -- What is left of a row of a table's picture, as it is walked: of each field its lines that were not given.
-use Rattle.std.specs.Prelude.{ℕ, zero, suc, ◌+◌, ◌-◌, min, Bool, false, List, [], ◌∷◌, ◌++◌, drop, get_or, map, if◌then◌else◌, ◌==◌}
+use Rattle.std.specs.Prelude.{ℕ, zero, suc, ◌+◌, ◌-◌, min, Bool, false, List, [], ◌∷◌, ◌++◌, drop, get_or, map, Option, None, Some, if◌then◌else◌, ◌==◌}
 use Rattle.std.specs.List.{slice_range, flat_map}
 use Rattle.tbl_format.specs.declared.format.FormatKey.{FormatKey}
 use Rattle.tbl_format.specs.declared.format.Key.{Key}
 use Rattle.tbl_format.specs.declared.format.Key.TheVariants.{Left}
+use Rattle.tbl_format.specs.declared.options.Boxing.{Boxing}
+use Rattle.tbl_format.specs.declared.options.Boxing.TheVariants.{EachField, Nothing as NotBoxed}
 use Rattle.tbl_layout.specs.Columns.{place_in, place_of_rule, widest_entry}
 use Rattle.tbl_layout.specs.DataLines.{is_same_sign, sign_byte}
 use Rattle.tbl_layout.specs.Entries.{Run, block_line, further_words, run_of_word, up_to_last_glyph}
@@ -15,7 +17,9 @@ use Rattle.tbl_layout.specs.declared.entry.Entry.{Entry}
 use Rattle.tbl_layout.specs.declared.entry.EntryKind.{EntryKind}
 use Rattle.tbl_layout.specs.declared.entry.EntryKind.TheVariants.{Block, Repeated, Ruled, Short, Split, Text}
 use Rattle.tbl_layout.specs.declared.entry.SplitEntry.{SplitEntry}
-use Rattle.tbl_picture.specs.PictureLines.{Cell, at_column, end_of, repeated}
+use Rattle.tbl_picture.specs.PictureLines.{Cell, at_column, bar_at, bar_by, crossed_at, end_of, joint, no_bar, repeated, with_fronts}
+use Rattle.tbl_picture.specs.declared.fronts.Front.{Front}
+use Rattle.tbl_picture.specs.declared.fronts.Front.TheVariants.{Bar, Crossed, Nothing as NoFront}
 use Rattle.tbl_picture.specs.declared.row_columns.RowColumn.{RowColumn}
 use Rattle.tbl_text.specs.BlockLines.{lines_of, rest_of_line, width_behind}
 use Rattle.tbl_text.specs.BlockPlaces.{parts_at, word_at}
@@ -76,7 +80,7 @@ begins_at r = begins_by r.entry.kind r.column r.key r.entry
 -- what is left of it from a line of the row on
 abbrev pub cell_left : List ℕ → ℕ → RowColumn → Cell
 cell_left bytes line r =
-    record { at = begins_at r; lines = lines_left_by r.entry.kind bytes line r.column r.end r.entry r.place }
+    record { at = begins_at r; lines = lines_left_by r.entry.kind bytes line r.column r.end r.entry r.place; below = [] }
 
 -- the key of a column: behind those of a row come such as `l`
 abbrev pub key_of : List FormatKey → ℕ → Key
@@ -88,31 +92,73 @@ is_ruled_by sign (Ruled other) = is_same_sign sign other
 is_ruled_by sign kind = false
 
 -- where a rule over a column ends, behind which these columns and these fields come
-abbrev pub rule_end_by : RuleSign → Column → List Column → List Entry → ℕ
-rule_end_by sign c [] entries = c.start + c.width
-rule_end_by sign c (d ∷ columns) [] = c.start + c.width
-rule_end_by sign c (d ∷ columns) (e ∷ entries) = if is_ruled_by sign e.kind then d.start else c.start + c.width
+abbrev pub rule_end_by : Boxing → RuleSign → Column → List Column → List Entry → ℕ
+rule_end_by boxing sign c [] entries = c.start + c.width
+rule_end_by boxing sign c (d ∷ columns) [] = c.start + c.width
+rule_end_by boxing sign c (d ∷ columns) (e ∷ entries) = if is_ruled_by sign e.kind then joint boxing c d else c.start + c.width
 
 -- where the field of a column ends, if it is a rule over it, else 0
-abbrev pub end_by : EntryKind → Column → List Column → List Entry → ℕ
-end_by (Ruled sign) c columns entries = rule_end_by sign c columns entries
-end_by kind c columns entries = 0
+abbrev pub end_by : Boxing → EntryKind → Column → List Column → List Entry → ℕ
+end_by boxing (Ruled sign) c columns entries = rule_end_by boxing sign c columns entries
+end_by boxing kind c columns entries = 0
 
 -- the columns of a row from one on, as many as it has fields, with their keys, where their blocks go on, and where their rules end
-abbrev pub row_columns : List FormatKey → ℕ → List Column → List Entry → List BlockPlace → List RowColumn
-row_columns keys column [] entries places = []
-row_columns keys column (c ∷ columns) [] places = []
-row_columns keys column (c ∷ columns) (e ∷ entries) [] = []
-row_columns keys column (c ∷ columns) (e ∷ entries) (p ∷ places) =
-    record { column = c; key = key_of keys column; entry = e; place = p; end = end_by e.kind c columns entries }
-    ∷ row_columns keys (suc column) columns entries places
+abbrev pub row_columns : Boxing → List FormatKey → ℕ → List Column → List Entry → List BlockPlace → List RowColumn
+row_columns boxing keys column [] entries places = []
+row_columns boxing keys column (c ∷ columns) [] places = []
+row_columns boxing keys column (c ∷ columns) (e ∷ entries) [] = []
+row_columns boxing keys column (c ∷ columns) (e ∷ entries) (p ∷ places) =
+    record { column = c; key = key_of keys column; entry = e; place = p; end = end_by boxing e.kind c columns entries }
+    ∷ row_columns boxing keys (suc column) columns entries places
+
+-- the sign of the first two fields, if they are the same rule
+abbrev pub joined_kinds : EntryKind → EntryKind → Option RuleSign
+joined_kinds (Ruled sign) next = if is_ruled_by sign next then Some sign else None
+joined_kinds kind next = None
+
+abbrev pub joined_first : List Entry → Option RuleSign
+joined_first [] = None
+joined_first (e ∷ []) = None
+joined_first (e ∷ f ∷ entries) = joined_kinds e.kind f.kind
+
+-- what stands between two columns, the first of which has the first of these fields
+abbrev pub between_by : Boxing → Column → Column → List Entry → Cell
+between_by EachField c d entries = bar_by (joined_first entries) c d
+between_by boxing c d entries = no_bar
+
+-- what stands between columns
+abbrev pub all_between_by : Boxing → List Column → List Entry → List Cell
+all_between_by boxing [] entries = []
+all_between_by boxing (c ∷ []) entries = []
+all_between_by boxing (c ∷ d ∷ columns) entries =
+    between_by boxing c d entries ∷ all_between_by boxing (d ∷ columns) (drop 1 entries)
+
+-- what stands in front of each column of a row that is kept, and behind the last, in a picture that is so wide
+abbrev pub fronts_by : Boxing → ℕ → List Column → List Entry → List Cell
+fronts_by NotBoxed width columns entries = []
+fronts_by boxing width columns entries = bar_at 0 ∷ all_between_by boxing columns entries ++ bar_at (width - 1) ∷ []
+
+-- one of them
+abbrev pub cell_of_front : Front → Cell
+cell_of_front NoFront = no_bar
+cell_of_front (Bar at) = bar_at at
+cell_of_front (Crossed at sign end) = crossed_at at sign end
+
+-- what is left of a cell from a line of its row on
+abbrev pub from_line : ℕ → Cell → Cell
+from_line line c = record { at = c.at; lines = drop line c.lines; below = c.below }
+
+-- cells, each but the first behind what stands in front of it
+abbrev pub then_fronts : List Cell → List Cell → List Cell
+then_fronts fronts [] = []
+then_fronts fronts (c ∷ cells) = c ∷ with_fronts fronts cells
 
 -- the first line of a cell, and a cell without it
 abbrev pub first_of : Cell → List Run
-first_of c = get_or c.lines 0 []
+first_of c = get_or c.lines 0 c.below
 
 abbrev pub behind_first : Cell → Cell
-behind_first c = record { at = c.at; lines = drop 1 c.lines }
+behind_first c = record { at = c.at; lines = drop 1 c.lines; below = c.below }
 
 -- what is given of a column's runs where so many columns are left up to the line's last glyph: the last one up to its own
 abbrev pub given_of : ℕ → List Run → List ℕ
@@ -131,14 +177,15 @@ given count place [] = []
 given count place (c ∷ cells) =
     given_of count (at_column c.at place (first_of c)) ++ given (one_less count) (end_of c.at place (first_of c)) cells
 
--- a word of a block whose line is so wide with it, what stands behind it on the line, and what is given behind that
-abbrev pub word_given : List ℕ → ℕ → ℕ → BlockWord → ℕ → BlockPlace → List RowColumn → List ℕ
-word_given bytes line count w width behind [] = []
-word_given bytes line count w width behind (r ∷ columns) =
+-- a word of a block whose line is so wide with it, what stands behind it on the line, and what is given behind that: the other
+-- columns, with what stands in front of them
+abbrev pub word_given : List ℕ → ℕ → List Cell → ℕ → BlockWord → ℕ → BlockPlace → List RowColumn → List ℕ
+word_given bytes line fronts count w width behind [] = []
+word_given bytes line fronts count w width behind (r ∷ columns) =
     let block = block_text bytes r.entry in
     let words = rest_of_line r.column.measure width (parts_at block behind) in
     given_of count (run_of_word (word_at block w) ∷ further_words words)
-    ++ given (one_less count) (begins_at r + width_behind width words) (map (cell_left bytes line) columns)
+    ++ given (one_less count) (begins_at r + width_behind width words) (with_fronts fronts (map (cell_left bytes line) columns))
 
 -- bytes that are given where columns are left up to the line's last glyph
 abbrev pub if_given : ℕ → List ℕ → List ℕ

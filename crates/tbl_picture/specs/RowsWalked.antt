@@ -1,12 +1,12 @@
 -- What the walk of a row's lines needs, and how many steps it may take.
-use Rattle.std.specs.Prelude.{◌≡◌, ℕ, zero, suc, ◌+◌, ◌≤◌, ◌<◌, List, [], ◌∷◌, drop, length, map}
+use Rattle.std.specs.Prelude.{◌≡◌, ℕ, zero, suc, ◌+◌, ◌≤◌, ◌<◌, max, List, [], ◌∷◌, drop, length, map}
 use Rattle.std.specs.List.{AllByRecursion}
-use Rattle.tbl_kept.specs.Rows.{Command, KeptElement, Row, Rule}
 use Rattle.tbl_layout.specs.Entries.{Run, block_line, up_to_last_glyph}
 use Rattle.tbl_layout.specs.declared.columns.Column.{Column}
 use Rattle.tbl_layout.specs.declared.entry.Entry.{Entry}
 use Rattle.tbl_layout.specs.declared.entry.EntryKind.{EntryKind}
 use Rattle.tbl_layout.specs.declared.entry.EntryKind.TheVariants.{Block}
+use Rattle.tbl_layout.specs.KeptEntries.{Lies}
 use Rattle.tbl_picture.specs.PictureLines.{Cell}
 use Rattle.tbl_picture.specs.RowsLeft.{block_text, first_of, lines_left_by, repeated_lines}
 use Rattle.tbl_picture.specs.declared.row_columns.RowColumn.{RowColumn}
@@ -66,20 +66,23 @@ StandsInFirst bytes word width place (r ∷ columns) = StandsNext bytes word wid
 abbrev pub most_steps : List ℕ → ℕ
 most_steps bytes = length bytes + 3
 
--- the most steps of a line of columns, of which each has at most so many, of so many lines, and of elements
+-- how many there are of what stands in front of columns and behind the last
+abbrev pub front_count : List Column → ℕ
+front_count columns = suc (max 1 (length columns))
+
+-- the most steps of columns, of which each has at most so many, and of the line's end; of a line with so much in front of them that
+-- a column comes next; and of so many lines
 abbrev pub steps_of_columns : ℕ → List Entry → ℕ
 steps_of_columns most [] = 1
 steps_of_columns most (e ∷ entries) = most + steps_of_columns most entries
 
+abbrev pub steps_of_cells : ℕ → ℕ → List Entry → ℕ
+steps_of_cells most fronts [] = 1
+steps_of_cells most fronts (e ∷ entries) = most + (fronts + steps_of_columns most entries)
+
 abbrev pub steps_of_lines : ℕ → ℕ → ℕ
 steps_of_lines steps zero = 0
 steps_of_lines steps (suc count) = suc steps + steps_of_lines steps count
-
-abbrev pub steps_of : ℕ → List KeptElement → ℕ
-steps_of most [] = 0
-steps_of most (Row keys height entries ∷ elements) = suc (steps_of_lines (steps_of_columns most entries) height) + steps_of most elements
-steps_of most (Rule sign ∷ elements) = suc (steps_of most elements)
-steps_of most (Command from to ∷ elements) = suc (steps_of most elements)
 
 -- the most steps of what is left of a block's line, behind a place of the first field's block
 abbrev pub steps_of_word : List ℕ → BlockPlace → List Entry → ℕ

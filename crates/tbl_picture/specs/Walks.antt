@@ -1,24 +1,25 @@
 -- A walk over the lines of a table's picture: how far it has come, and what is to come.
-use Rattle.std.specs.Prelude.{◌≡◌, ℕ, suc, ◌+◌, ◌-◌, ◌≤◌, ◌<◌, Bool, true, false, List, [], ◌∷◌, ◌++◌, drop, length, map, take, nat_lt, vec_capacity, None, if◌then◌else◌}
+use Rattle.std.specs.Prelude.{◌≡◌, ℕ, suc, ◌+◌, ◌-◌, ◌≤◌, ◌<◌, max, Bool, true, false, List, [], ◌∷◌, ◌++◌, drop, length, map, take, nat_lt, vec_capacity, None, if◌then◌else◌}
 use Rattle.std.specs.List.{AllByRecursion}
 use Rattle.roff_source.specs.Bytes.{newline}
 use Rattle.tbl_format.specs.Format.{FormatRow}
 use Rattle.tbl_format.specs.RowsServed.{row_at}
 use Rattle.tbl_format.specs.declared.format.FormatKey.{FormatKey}
-use Rattle.tbl_kept.specs.Rows.{Command, KeptElement, KeptRows, Row, RowsLaid, Rule, element_of, elements_of}
-use Rattle.tbl_layout.specs.KeptEntries.{Lies}
+use Rattle.tbl_format.specs.declared.options.Boxing.{Boxing}
+use Rattle.tbl_format.specs.declared.options.Boxing.TheVariants.{Nothing as NotBoxed}
 use Rattle.tbl_layout.specs.declared.columns.Column.{Column}
 use Rattle.tbl_layout.specs.declared.entry.Entry.{Entry}
-use Rattle.tbl_picture.specs.PictureLines.{Cell, lines_from, lines_of_element, picture_lines}
-use Rattle.tbl_picture.specs.PieceQueue.{Adds, KeptPieces, bytes_left}
-use Rattle.tbl_picture.specs.Pieces.{AreWithin}
-use Rattle.tbl_picture.specs.RowsLeft.{behind_first, block_text, cell_left, given, one_less, row_columns, word_given}
-use Rattle.tbl_picture.specs.RowsWalked.{AreNarrow, IsNarrow, LastHasGlyph, PlacesLie, StandsInFirst, most_steps, steps_of, steps_of_columns, steps_of_lines, steps_of_word}
+use Rattle.tbl_layout.specs.KeptEntries.{Lies}
+use Rattle.tbl_picture.specs.PictureLines.{Cell, lines_from, with_fronts}
+use Rattle.tbl_picture.specs.PieceQueue.{Adds, KeptPieces}
+use Rattle.tbl_picture.specs.RowsLeft.{behind_first, block_text, cell_left, from_line, fronts_by, given, one_less, row_columns, then_fronts, word_given}
+use Rattle.tbl_picture.specs.RowsWalked.{AreNarrow, IsNarrow, LastHasGlyph, PlacesLie, StandsInFirst, front_count, most_steps, steps_of_cells, steps_of_columns, steps_of_lines, steps_of_word}
 use Rattle.tbl_picture.specs.declared.row_columns.RowColumn.{RowColumn}
 use Rattle.tbl_picture.specs.declared.row_columns.RowLent.{RowLent}
 use Rattle.tbl_picture.specs.declared.walk.Next.{Next}
-use Rattle.tbl_picture.specs.declared.walk.Next.TheVariants.{AtElement, AtLine, AtCell, AtWord}
+use Rattle.tbl_picture.specs.declared.walk.Next.TheVariants.{AtCell, AtElement, AtEnd, AtFront, AtLine, AtRule, AtTop, AtWord}
 use Rattle.tbl_picture.specs.declared.walk.Walk.TheInside.{Inside}
+use Rattle.tbl_picture.specs.declared.walk.rules.Beside.{Beside}
 use Rattle.tbl_text.specs.BlockPlaces.{IsWithin}
 use Rattle.tbl_text.specs.declared.block_parts.BlockPlace.{BlockPlace}
 use Rattle.tbl_text.specs.declared.block_parts.BlockPlace.TheVariants.{AtEnd, AtLine as AtPlace}
@@ -26,7 +27,7 @@ use Rattle.tbl_text.specs.declared.block_words.BlockWord.{BlockWord}
 
 -- the element and the line of it, how many columns are left up to the line's last glyph, the column of the page that is reached,
 -- what comes next, for each column of the row where its block goes on: on this line, and behind it, of the columns that are
--- behind the walk; and how wide the picture is
+-- behind the walk; what stands above; and how the picture is boxed, and how wide it is
 pub record KeptWalk : Type 0 where
   pub element : ℕ
   pub line : ℕ
@@ -35,6 +36,8 @@ pub record KeptWalk : Type 0 where
   pub next : Next
   pub places : List BlockPlace
   pub behind : List BlockPlace
+  pub above : Beside
+  pub boxing : Boxing
   pub picture_width : ℕ
   pub room : ℕ
 
@@ -47,6 +50,8 @@ kept_by a = record {
   next = a.next;
   places = a.places.items;
   behind = a.behind.items;
+  above = a.above;
+  boxing = a.boxing;
   picture_width = a.picture_width;
   room = a.room;
 }
@@ -56,8 +61,10 @@ pub record IsSound (a : Inside) : Type 0 where
   pub places_reserved : a.room ≤ vec_capacity a.places
   pub behind_reserved : a.room ≤ vec_capacity a.behind
 
--- a row that is walked: the table's bytes, the keys of the row of the formats, the columns, its lines and its fields
+-- a row that is walked: how its picture is boxed, and how wide it is, the table's bytes, the keys of the row of the formats, the columns, its lines and its fields
 pub record WalkedRow : Type 0 where
+  pub boxing : Boxing
+  pub width : ℕ
   pub bytes : List ℕ
   pub keys : List FormatKey
   pub columns : List Column
@@ -67,6 +74,8 @@ pub record WalkedRow : Type 0 where
 -- one that is lent
 abbrev pub lent_row : RowLent → WalkedRow
 lent_row row = record {
+  boxing = row.boxing;
+  width = row.width;
   bytes = row.bytes.now;
   keys = row.keys.now;
   columns = row.columns.now;
@@ -76,14 +85,36 @@ lent_row row = record {
 
 -- its columns, and what is left of them
 abbrev pub columns_walked : WalkedRow → KeptWalk → List RowColumn
-columns_walked row w = row_columns row.keys 0 row.columns row.entries w.places
+columns_walked row w = row_columns row.boxing row.keys 0 row.columns row.entries w.places
 
 abbrev pub columns_left : WalkedRow → KeptWalk → List RowColumn
 columns_left row w = drop (length w.behind) (columns_walked row w)
 
--- what is left of it from a line on
+-- what stands in front of them, from a line on
+abbrev pub fronts_of : WalkedRow → ℕ → List Cell
+fronts_of row line = map (from_line line) (fronts_by row.boxing row.width row.columns row.entries)
+
+-- all that is left of it from a line on, where its blocks go on at these places
+abbrev pub line_cells : WalkedRow → ℕ → List BlockPlace → List Cell
+line_cells row line places =
+    with_fronts (fronts_of row line) (map (cell_left row.bytes line) (row_columns row.boxing row.keys 0 row.columns row.entries places))
+
+-- what is left of its fields, all and those that are behind the walk
+abbrev pub fields_now : WalkedRow → KeptWalk → List Cell
+fields_now row w = map (cell_left row.bytes w.line) (columns_walked row w)
+
+abbrev pub fields_left : WalkedRow → KeptWalk → List Cell
+fields_left row w = map (cell_left row.bytes w.line) (columns_left row w)
+
+-- with what stands in front of them: of all; where a column comes next; and where what stands in front of one does
 abbrev pub cells_now : WalkedRow → KeptWalk → List Cell
-cells_now row w = map (cell_left row.bytes w.line) (columns_walked row w)
+cells_now row w = with_fronts (fronts_of row w.line) (fields_now row w)
+
+abbrev pub cells_left : WalkedRow → KeptWalk → List Cell
+cells_left row w = then_fronts (drop (suc (length w.behind)) (fronts_of row w.line)) (fields_left row w)
+
+abbrev pub cells_in_front : ℕ → WalkedRow → KeptWalk → List Cell
+cells_in_front at row w = with_fronts (drop at (fronts_of row w.line)) (fields_left row w)
 
 -- what is to come of its next lines, where this one is under way
 abbrev pub further_lines : WalkedRow → KeptWalk → List ℕ
@@ -91,42 +122,21 @@ further_lines row w = newline ∷ lines_from 0 (row.height - suc w.line) (map be
 
 -- what is to come of a row, by what comes next
 abbrev pub row_left : Next → WalkedRow → KeptWalk → List ℕ
+row_left AtTop row w = []
 row_left AtElement row w = []
+row_left (AtRule rule) row w = []
+row_left AtEnd row w = []
 row_left AtLine row w = lines_from 0 (row.height - w.line) (cells_now row w)
-row_left AtCell row w = given w.count w.place (map (cell_left row.bytes w.line) (columns_left row w)) ++ further_lines row w
-row_left (AtWord word width place) row w = word_given row.bytes w.line w.count word width place (columns_left row w) ++ further_lines row w
-
--- the whole of a row, if nothing of it is given, else what is left
-abbrev pub row_to_come : Next → List ℕ → List ℕ → List ℕ
-row_to_come AtElement whole left = whole
-row_to_come AtLine whole left = left
-row_to_come AtCell whole left = left
-row_to_come (AtWord word width place) whole left = left
+row_left (AtFront at) row w = given w.count w.place (cells_in_front at row w) ++ further_lines row w
+row_left AtCell row w = given w.count w.place (cells_left row w) ++ further_lines row w
+row_left (AtWord word width place) row w =
+    word_given row.bytes w.line (drop (suc (length w.behind)) (fronts_of row w.line)) w.count word width place (columns_left row w)
+    ++ further_lines row w
 
 -- a row of a table that is walked
-abbrev pub walked : List ℕ → List FormatRow → List Column → ℕ → ℕ → List Entry → WalkedRow
-walked bytes formats columns keys height entries =
-    record { bytes = bytes; keys = (row_at formats keys).keys; columns = columns; height = height; entries = entries }
-
--- what is to come of elements, of which the first is walked
-abbrev pub elements_to_come : List ℕ → List FormatRow → List Column → KeptWalk → List KeptElement → List ℕ
-elements_to_come bytes formats columns w [] = []
-elements_to_come bytes formats columns w (Row keys height entries ∷ elements) =
-    row_to_come w.next (lines_of_element w.picture_width columns (element_of bytes formats (Row keys height entries)))
-    (row_left w.next (walked bytes formats columns keys height entries) w)
-    ++ picture_lines w.picture_width columns (elements_of bytes formats elements)
-elements_to_come bytes formats columns w (Rule sign ∷ elements) =
-    picture_lines w.picture_width columns (elements_of bytes formats (Rule sign ∷ elements))
-elements_to_come bytes formats columns w (Command from to ∷ elements) =
-    picture_lines w.picture_width columns (elements_of bytes formats (Command from to ∷ elements))
-
--- the bytes that are to come
-abbrev pub still_to_come : List ℕ → List FormatRow → KeptRows → KeptWalk → List ℕ
-still_to_come bytes formats rows w = elements_to_come bytes formats rows.columns w (drop w.element rows.elements)
-
--- nothing of the picture is given, which is so wide
-abbrev pub started : ℕ → KeptWalk → KeptWalk
-started width w = record w { element = 0; line = 0; next = AtElement; picture_width = width }
+abbrev pub walked : List ℕ → List FormatRow → Boxing → ℕ → List Column → ℕ → ℕ → List Entry → WalkedRow
+walked bytes formats boxing width columns keys height entries =
+    record { boxing = boxing; width = width; bytes = bytes; keys = (row_at formats keys).keys; columns = columns; height = height; entries = entries }
 
 -- a row is before one of its lines
 pub record BeforeLine (row : WalkedRow) (w : KeptWalk) : Type 0 where
@@ -138,13 +148,24 @@ pub record BeforeLine (row : WalkedRow) (w : KeptWalk) : Type 0 where
   pub places : PlacesLie row.bytes row.entries w.places
 
 -- a row is within one of its lines: the blocks of the columns that are behind the walk go on behind this line
-pub record InLine (row : WalkedRow) (w : KeptWalk) : Type 0 where
+pub record OnLine (row : WalkedRow) (w : KeptWalk) : Type 0 where
   pub before : BeforeLine row w
   pub column : length w.behind ≤ length row.entries
   pub places : PlacesLie row.bytes (take (length w.behind) row.entries) w.behind
-  pub moved : map (cell_left row.bytes (suc w.line)) (row_columns row.keys 0 row.columns row.entries w.behind)
-      ≡ take (length w.behind) (map behind_first (cells_now row w))
-  pub last : LastHasGlyph w.count (map (cell_left row.bytes w.line) (columns_left row w))
+  pub moved : map (cell_left row.bytes (suc w.line)) (row_columns row.boxing row.keys 0 row.columns row.entries w.behind)
+      ≡ take (length w.behind) (map behind_first (fields_now row w))
+
+-- what stands in front of a column comes next: of the next one of the row, if it has one
+pub record InFront (row : WalkedRow) (at : ℕ) (w : KeptWalk) : Type 0 where
+  pub on : OnLine row w
+  pub within : at < length (fronts_by row.boxing row.width row.columns row.entries)
+  pub first : length w.behind < length row.entries → at ≡ length w.behind
+  pub last : LastHasGlyph w.count (cells_in_front at row w)
+
+-- a column comes next, or the line's end
+pub record InLine (row : WalkedRow) (w : KeptWalk) : Type 0 where
+  pub on : OnLine row w
+  pub last : LastHasGlyph w.count (cells_left row w)
 
 pub record InWord (row : WalkedRow) (word : BlockWord) (width : ℕ) (place : BlockPlace) (w : KeptWalk) : Type 0 where
   pub line : InLine row w
@@ -152,53 +173,44 @@ pub record InWord (row : WalkedRow) (word : BlockWord) (width : ℕ) (place : Bl
 
 -- what the walk of a row needs, by what comes next
 abbrev pub IsUnderWay : Next → WalkedRow → KeptWalk → Type 0
-IsUnderWay AtElement row w = Unit {0}
+IsUnderWay AtTop row w = ⊥
+IsUnderWay AtElement row w = ⊥
+IsUnderWay (AtRule rule) row w = ⊥
+IsUnderWay AtEnd row w = ⊥
 IsUnderWay AtLine row w = BeforeLine row w
+IsUnderWay (AtFront at) row w = InFront row at w
 IsUnderWay AtCell row w = InLine row w
 IsUnderWay (AtWord word width place) row w = InWord row word width place w
 
--- what the walk needs at elements, the first of which comes next or is under way
-abbrev pub StandsAt : List ℕ → List FormatRow → List Column → KeptWalk → List KeptElement → Type 0
-StandsAt bytes formats columns w [] = Unit {0}
-StandsAt bytes formats columns w (Row keys height entries ∷ elements) =
-    IsUnderWay w.next (walked bytes formats columns keys height entries) w
-StandsAt bytes formats columns w (Rule sign ∷ elements) = w.next ≡ AtElement
-StandsAt bytes formats columns w (Command from to ∷ elements) = w.next ≡ AtElement
-
--- what the walk needs
-pub record CanWalk (bytes : List ℕ) (formats : List FormatRow) (rows : KeptRows) (w : KeptWalk) : Type 0 where
-  pub laid : RowsLaid bytes formats rows
-  pub narrow : AreNarrow rows.columns
-  pub room : length rows.columns ≤ w.room
-  pub row : StandsAt bytes formats rows.columns w (drop w.element rows.elements)
-
 -- the most steps of so many lines of a row, and of those of a row that are left
-abbrev pub steps_of_rest : List ℕ → ℕ → List Entry → ℕ
-steps_of_rest bytes lines entries = steps_of_lines (steps_of_columns (most_steps bytes) entries) lines
+abbrev pub steps_of_rest : WalkedRow → ℕ → ℕ
+steps_of_rest row lines = steps_of_lines (front_count row.columns + steps_of_columns (most_steps row.bytes) row.entries) lines
 
-abbrev pub row_steps : Next → List ℕ → ℕ → List Entry → KeptWalk → ℕ
-row_steps AtElement bytes height entries w = suc (steps_of_rest bytes height entries)
-row_steps AtLine bytes height entries w = steps_of_rest bytes (height - w.line) entries
-row_steps AtCell bytes height entries w =
-    steps_of_columns (most_steps bytes) (drop (length w.behind) entries) + steps_of_rest bytes (height - suc w.line) entries
-row_steps (AtWord word width place) bytes height entries w =
-    steps_of_word bytes place (drop (length w.behind) entries)
-    + (steps_of_columns (most_steps bytes) (drop (suc (length w.behind)) entries) + steps_of_rest bytes (height - suc w.line) entries)
-
-abbrev pub steps_at : List ℕ → KeptWalk → List KeptElement → ℕ
-steps_at bytes w [] = 0
-steps_at bytes w (Row keys height entries ∷ elements) = row_steps w.next bytes height entries w + steps_of (most_steps bytes) elements
-steps_at bytes w (Rule sign ∷ elements) = suc (steps_of (most_steps bytes) elements)
-steps_at bytes w (Command from to ∷ elements) = suc (steps_of (most_steps bytes) elements)
-
--- the most steps that are left
-abbrev pub steps_left : List ℕ → KeptRows → KeptWalk → ℕ
-steps_left bytes rows w = steps_at bytes w (drop w.element rows.elements)
+abbrev pub row_steps : Next → WalkedRow → KeptWalk → ℕ
+row_steps AtTop row w = 0
+row_steps AtElement row w = 0
+row_steps (AtRule rule) row w = 0
+row_steps AtEnd row w = 0
+row_steps AtLine row w = steps_of_rest row (row.height - w.line)
+row_steps (AtFront at) row w =
+    front_count row.columns - at + steps_of_columns (most_steps row.bytes) (drop (length w.behind) row.entries)
+    + steps_of_rest row (row.height - suc w.line)
+row_steps AtCell row w =
+    steps_of_cells (most_steps row.bytes) (front_count row.columns - suc (length w.behind)) (drop (length w.behind) row.entries)
+    + steps_of_rest row (row.height - suc w.line)
+row_steps (AtWord word width place) row w =
+    steps_of_word row.bytes place (drop (length w.behind) row.entries)
+    + (front_count row.columns - suc (length w.behind)
+    + (steps_of_columns (most_steps row.bytes) (drop (suc (length w.behind)) row.entries) + steps_of_rest row (row.height - suc w.line)))
 
 -- within a row
 abbrev pub IsOn : Next → Type 0
+IsOn AtTop = ⊥
 IsOn AtElement = ⊥
+IsOn (AtRule rule) = ⊥
+IsOn AtEnd = ⊥
 IsOn AtLine = Unit {0}
+IsOn (AtFront at) = Unit {0}
 IsOn AtCell = Unit {0}
 IsOn (AtWord word width place) = Unit {0}
 
@@ -209,8 +221,10 @@ pub record RowSteps (frame : List ℕ) (row : WalkedRow) (old new : KeptWalk) (b
   pub joins : row_left old.next row old ≡ added ++ row_left new.next row new
   pub on : IsOn new.next
   pub can : IsUnderWay new.next row new
-  pub less : row_steps new.next row.bytes row.height row.entries new < row_steps old.next row.bytes row.height row.entries old
+  pub less : row_steps new.next row new < row_steps old.next row old
   pub element : new.element ≡ old.element
+  pub above : new.above ≡ old.above
+  pub boxing : new.boxing ≡ old.boxing
   pub width : new.picture_width ≡ old.picture_width
   pub room : new.room ≡ old.room
 
@@ -220,6 +234,8 @@ pub record RowEnds (frame : List ℕ) (row : WalkedRow) (old new : KeptWalk) (be
   pub adds : Adds row.bytes frame 4 before after added
   pub all : row_left old.next row old ≡ added
   pub element : new.element ≡ old.element
+  pub above : new.above ≡ old.above
+  pub boxing : new.boxing ≡ old.boxing
   pub width : new.picture_width ≡ old.picture_width
   pub room : new.room ≡ old.room
 
@@ -235,24 +251,6 @@ first_place e = if nat_lt e.from e.to then AtPlace 0 None else AtEnd
 abbrev pub row_begun : List Entry → KeptWalk → KeptWalk
 row_begun entries w = record w { line = 0; next = AtLine; places = map first_place entries }
 
--- behind a step of a row the next element comes, if that was its last
-abbrev pub gone_on : Bool → KeptWalk → KeptWalk
-gone_on true w = record w { element = w.element + 1; next = AtElement }
-gone_on false w = w
-
--- a row begins, of which nothing is given
-pub record RowBegins (ended : Bool) (row : WalkedRow) (old new : KeptWalk) (before after : KeptPieces) : Type 0 where
-  pub goes_on : ended ≡ false
-  pub walk : new ≡ row_begun row.entries old
-  pub pieces : after ≡ before
-
--- what a step does with a row, by what comes next
-abbrev pub RowDoes : Next → Bool → List ℕ → WalkedRow → KeptWalk → KeptWalk → KeptPieces → KeptPieces → Type 0
-RowDoes AtElement ended frame row old new before after = RowBegins ended row old new before after
-RowDoes AtLine ended frame row old new before after = RowEndsOrGoesOn ended frame row old new before after
-RowDoes AtCell ended frame row old new before after = RowEndsOrGoesOn ended frame row old new before after
-RowDoes (AtWord word width place) ended frame row old new before after = RowEndsOrGoesOn ended frame row old new before after
-
 -- the walk is at a column of a line, which lies in the table's bytes
 pub record AtColumn (row : WalkedRow) (w : KeptWalk) (r : RowColumn) : Type 0 where
   pub line : InLine row w
@@ -263,33 +261,39 @@ pub record AtColumn (row : WalkedRow) (w : KeptWalk) (r : RowColumn) : Type 0 wh
   pub narrow : IsNarrow r.column
   pub free : length w.behind < w.room
 
+-- what comes next in front of a column: what stands in front of it, where the picture is boxed
+abbrev pub next_column : Boxing → ℕ → Next
+next_column NotBoxed column = AtCell
+next_column boxing column = AtFront column
+
+-- the walk is at what stands in front of a column
+pub record FrontStands (row : WalkedRow) (at : ℕ) (f : Cell) (w : KeptWalk) : Type 0 where
+  pub front : InFront row at w
+  pub first : drop at (fronts_of row w.line) ≡ from_line w.line f ∷ drop (suc at) (fronts_of row w.line)
+
 -- behind a column, whose block goes on at a place, and at a column of the page
-abbrev pub passed : BlockPlace → ℕ → KeptWalk → KeptWalk
-passed place reached w = record w { behind = w.behind ++ place ∷ []; count = one_less w.count; place = reached; next = AtCell }
+abbrev pub passed : Boxing → BlockPlace → ℕ → KeptWalk → KeptWalk
+passed boxing place reached w = record w {
+  behind = w.behind ++ place ∷ [];
+  count = one_less w.count;
+  place = reached;
+  next = next_column boxing (length (w.behind ++ place ∷ []));
+}
+
+-- behind what stands in front of a column: the field of the column, if the row has one, else what stands in front of the next column,
+-- if there is one
+abbrev pub next_behind : Bool → Bool → ℕ → Next
+next_behind true is_inner at = AtCell
+next_behind false true at = AtFront (at + 1)
+next_behind false false at = AtCell
+
+abbrev pub front_passed : WalkedRow → ℕ → ℕ → KeptWalk → KeptWalk
+front_passed row at reached w = record w {
+  count = one_less w.count;
+  place = reached;
+  next = next_behind (nat_lt (length w.behind) (length row.entries)) (nat_lt at (max 1 (length row.columns))) at;
+}
 
 -- before a word
 abbrev pub at_word : BlockWord → ℕ → BlockPlace → KeptWalk → KeptWalk
 at_word word width place w = record w { next = AtWord word width place }
-
--- a step of the walk gives some pieces: with what is to come they are what was to come
-pub record Steps (bytes frame : List ℕ) (formats : List FormatRow) (rows : KeptRows) (old new : KeptWalk) (before after : KeptPieces) : Type 0 where
-  pub some : 0 < length (still_to_come bytes formats rows old)
-  pub can : CanWalk bytes formats rows new
-  pub less : steps_left bytes rows new < steps_left bytes rows old
-  pub same : bytes_left bytes frame after ++ still_to_come bytes formats rows new
-      ≡ bytes_left bytes frame before ++ still_to_come bytes formats rows old
-  pub within : AreWithin bytes frame after.pieces
-  pub few : after.taken ≤ before.taken + 4
-  pub grown : length after.pieces + before.taken ≡ length before.pieces + after.taken
-  pub pieces_room : after.room ≡ before.room
-  pub room : new.room ≡ old.room
-
--- nothing is to come, and nothing changes
-pub record HasEnded (bytes : List ℕ) (formats : List FormatRow) (rows : KeptRows) (old new : KeptWalk) (before after : KeptPieces) : Type 0 where
-  pub none : still_to_come bytes formats rows old ≡ []
-  pub walk : new ≡ old
-  pub pieces : after ≡ before
-
-abbrev pub StepsIf : Bool → List ℕ → List ℕ → List FormatRow → KeptRows → KeptWalk → KeptWalk → KeptPieces → KeptPieces → Type 0
-StepsIf true bytes frame formats rows old new before after = Steps bytes frame formats rows old new before after
-StepsIf false bytes frame formats rows old new before after = HasEnded bytes formats rows old new before after

@@ -2,9 +2,11 @@
 //! Tables").
 #![tactic(auto)]
 
+pub mod fronts;
 pub mod giving;
 pub mod picture;
 pub mod piece_queue;
 pub mod row_columns;
 pub mod walk;
+pub mod worked_boxes;
 pub mod worked_rules;

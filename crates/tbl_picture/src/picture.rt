@@ -115,10 +115,9 @@ fn blanks(most: usize) -> &'static [u8]
     at_most(MOST_BLANKS, most)
 }
 
-/// As many bytes of a single rule are given at once.
+/// As many bytes of rules are given at once.
 const SINGLE: &[u8; 64] = b"----------------------------------------------------------------";
 
-/// As many of a double one.
 const DOUBLE: &[u8; 64] = b"================================================================";
 
 /// A byte, so many times or 64, or one of a byte that rules aren't drawn with.

@@ -3,21 +3,23 @@
 ghost use Rattle.std.specs.Prelude.{◌≡◌, ℕ, suc, ◌+◌, ◌-◌, ◌<◌, ◌≤◌, ◌^◌, List, [], ◌∷◌, length, drop};
 ghost use Rattle.std.specs.Prelude.{map, get_or, true, false, if◌then◌else◌};
 ghost use Rattle.std.specs.List.{AllByRecursion};
+ghost use Rattle.tbl_layout.specs.KeptEntries.{Lies};
 ghost use Rattle.tbl_picture.specs.RowsLeft.{begins_at, block_text, cell_left, first_of};
 ghost use Rattle.tbl_picture.specs.RowsLeft.{end_by, is_ruled_by, repeated_lines, row_columns};
 ghost use Rattle.tbl_picture.specs.RowsLeft.{rule_end_by, split_run};
-ghost use Rattle.tbl_picture.specs.RowsWalked.{AreGlyphless, AreNarrow, HasGlyph, IsNarrow};
-ghost use Rattle.tbl_picture.specs.RowsWalked.{LastHasGlyph, PlacesLie};
+ghost use Rattle.tbl_picture.specs.PictureLines.{joint};
+ghost use Rattle.tbl_picture.specs.RowsWalked.{AreGlyphless, AreNarrow, HasGlyph};
+ghost use Rattle.tbl_picture.specs.RowsWalked.{IsNarrow, LastHasGlyph, PlacesLie};
 ghost use Rattle.tbl_layout.specs.DataLines.{is_same_sign};
 ghost use Rattle.tbl_layout.specs.Entries.{block_line, up_to_last_glyph};
-ghost use Rattle.tbl_layout.specs.KeptEntries.{Lies};
 ghost use Rattle.tbl_text.specs.BlockLines.{lines_of};
 ghost use Rattle.tbl_text.specs.BlockPlaces.{IsWithin, parts_at};
 
 use roff_escape::OpenEscapes;
 use tbl_format::format::{FormatKey, Key};
+use tbl_format::options::Boxing;
 use tbl_kept::rows::key_at;
-use tbl_layout::columns::Column;
+use tbl_layout::columns::{Column, bar_place};
 use tbl_layout::data_lines::{RuleSign, sign_byte};
 use tbl_layout::entry::{Entry, EntryKind, SplitEntry};
 use tbl_text::block_parts::{BlockPart, BlockPlace, next_part};
@@ -25,6 +27,10 @@ use tbl_text::block_parts::{BlockPart, BlockPlace, next_part};
 /// A row, lent.
 #[derive(Clone, Copy)]
 pub struct RowLent<'a> {
+    /// How the picture is boxed.
+    pub boxing: Boxing,
+    /// How wide it is.
+    pub width: usize,
     /// The table's bytes.
     pub bytes: &'a [u8],
     /// The keys of the row of the formats that serves it.
@@ -37,8 +43,7 @@ pub struct RowLent<'a> {
     pub height: u32,
 }
 
-/// A column of a row: its key, its field, where the block that this is goes on, and where the rule
-/// over the column ends.
+/// A column of a row: its key, its field, and where the block or the rule that this is goes on or ends.
 #[derive(Clone, Copy)]
 pub struct RowColumn {
     /// The column.
@@ -59,8 +64,8 @@ pub fn column_at(row: &RowLent<'_>, places: &[BlockPlace], at: usize) -> RowColu
     requires column { length row.now.entries.now ≤ length row.now.columns.now }
     requires place { at < length places.now }
     requires narrow { AreNarrow row.now.columns.now }
-    ensures { let all = row_columns row.now.keys.now 0 row.now.columns.now row.now.entries.now
-        places.now in
+    ensures { let all = row_columns row.now.boxing row.now.keys.now 0 row.now.columns.now
+        row.now.entries.now places.now in
         drop at all ≡ result ∷ drop (suc at) all }
 {
     let column = row.columns[at];
@@ -81,7 +86,7 @@ fn end_at(row: &RowLent<'_>, at: usize, column: Column, kind: EntryKind) -> usiz
     requires entry { at < length row.now.entries.now }
     requires column { length row.now.entries.now ≤ length row.now.columns.now }
     requires narrow { IsNarrow column }
-    ensures { result ≡ end_by kind column (drop (suc at) row.now.columns.now)
+    ensures { result ≡ end_by row.now.boxing kind column (drop (suc at) row.now.columns.now)
         (drop (suc at) row.now.entries.now) }
 {
     match kind {
@@ -95,32 +100,44 @@ fn rule_end(row: &RowLent<'_>, at: usize, column: Column, sign: RuleSign) -> usi
     requires entry { at < length row.now.entries.now }
     requires column { length row.now.entries.now ≤ length row.now.columns.now }
     requires narrow { IsNarrow column }
-    ensures { result ≡ rule_end_by sign column (drop (suc at) row.now.columns.now)
+    ensures { result ≡ rule_end_by row.now.boxing sign column (drop (suc at) row.now.columns.now)
         (drop (suc at) row.now.entries.now) }
 {
     let next = at + 1;
     if next < row.entries.len() {
-        rule_end_before(sign, column, row.columns[next], row.entries[next].kind)
+        let is_joined = is_ruled(sign, row.entries[next].kind);
+        rule_end_before(row.boxing, is_joined, column, row.columns[next])
     } else {
         column.start + column.width
     }
 }
 
-/// Where it ends in front of another column with a field.
-fn rule_end_before(sign: RuleSign, column: Column, next: Column, kind: EntryKind) -> usize
+/// Where it ends in front of another column, which a rule goes on with or not.
+fn rule_end_before(boxing: Boxing, is_joined: bool, column: Column, next: Column) -> usize
     requires { IsNarrow column }
     ensures { result
-        ≡ (if is_ruled_by sign kind then next.start else column.start + column.width) }
+        ≡ (if is_joined then joint boxing column next else column.start + column.width) }
 {
-    if is_ruled(sign, kind) {
-        next.start
+    if is_joined {
+        joint(boxing, column, next)
     } else {
         column.start + column.width
+    }
+}
+
+/// Where a rule over a column ends that goes on with the next one.
+fn joint(boxing: Boxing, column: Column, next: Column) -> usize
+    requires { IsNarrow column }
+    ensures { result ≡ joint boxing column next }
+{
+    match boxing {
+        Boxing::EachField => bar_place(column, next),
+        _ => next.start,
     }
 }
 
 /// Whether a field is a rule over its column that is drawn with this sign.
-fn is_ruled(sign: RuleSign, kind: EntryKind) -> bool
+pub fn is_ruled(sign: RuleSign, kind: EntryKind) -> bool
     ensures { result ≡ is_ruled_by sign kind }
 {
     match kind {
@@ -202,8 +219,11 @@ impl RowColumn {
                 has_repeated_glyph(line, sign_byte(sign), self.rule_width())
             }
             EntryKind::Short => {
-                let count = self.column.needs.widest_entry();
-                has_repeated_glyph(line, sign_byte(RuleSign::Single), count)
+                has_repeated_glyph(
+                    line,
+                    sign_byte(RuleSign::Single),
+                    self.column.needs.widest_entry(),
+                )
             }
             EntryKind::Repeated(byte) => has_repeated_glyph(line, byte, self.column.width),
         }
@@ -260,9 +280,11 @@ pub fn count_to_glyph(
     requires places { PlacesLie row.now.bytes.now row.now.entries.now places.now }
     ensures few { result ≤ length row.now.entries.now }
     ensures last { LastHasGlyph result (map (cell_left row.now.bytes.now line)
-        (row_columns row.now.keys.now 0 row.now.columns.now row.now.entries.now places.now)) }
+        (row_columns row.now.boxing row.now.keys.now 0 row.now.columns.now row.now.entries.now
+        places.now)) }
     ensures behind { AreGlyphless (drop result (map (cell_left row.now.bytes.now line)
-        (row_columns row.now.keys.now 0 row.now.columns.now row.now.entries.now places.now))) }
+        (row_columns row.now.boxing row.now.keys.now 0 row.now.columns.now row.now.entries.now
+        places.now))) }
     ensures room { escapes.new.room ≡ escapes.old.room }
 {
     let mut count = row.entries.len();

@@ -1,30 +1,36 @@
 //! A walk over the lines of a table's picture, one step of pieces behind the other (Lesk, "Tbl":
 //! Formatting).
 
-ghost use Rattle.std.specs.Prelude.{◌≡◌, ℕ, ◌+◌, ◌<◌, ◌≤◌, ◌^◌, List, [], IfOk, length};
+ghost use Rattle.std.specs.Prelude.{◌≡◌, ℕ, ◌+◌, ◌<◌, ◌≤◌, ◌^◌, List, IfOk, length};
 ghost use Rattle.tbl_format.specs.Format.{FormatRow};
 ghost use Rattle.tbl_format.specs.RowsServed.{all_rows};
 ghost use Rattle.tbl_kept.specs.Rows.{KeptRows, RowsLaid, elements_of};
+ghost use Rattle.tbl_picture.specs.ElementsWalked.{first_next};
 ghost use Rattle.tbl_picture.specs.PictureLines.{picture_lines};
-ghost use Rattle.std.specs.Prelude.{◌-◌, ◌++◌, map, true, vec_capacity, vec_len};
+ghost use Rattle.std.specs.Prelude.{◌++◌, map, vec_capacity, vec_len};
 ghost use Rattle.tbl_picture.specs.Pieces.{AreWithin};
 ghost use Rattle.tbl_picture.specs.Walks.{first_place};
 
 use crate::picture::Piece;
 use crate::piece_queue::PieceQueue;
 use crate::row_columns::RowLent;
-use lines::give_rule;
 use roff_escape::OpenEscapes;
+use rules::{Beside, RuleBegun};
 use std::alloc::{AllocError, Global};
 use std::marker::Model;
 use tbl_format::format_rows::FormatRows;
-use tbl_kept::rows::{Lent, TableRows};
+use tbl_format::options::Boxing;
+use tbl_kept::rows::TableRows;
+use tbl_layout::data_lines::RuleSign;
 use tbl_layout::entry::Entry;
 use tbl_text::block_parts::BlockPlace;
 use tbl_text::block_words::BlockWord;
 
 mod cells;
+mod elements;
+mod fronts;
 mod lines;
+pub mod rules;
 
 /// The most pieces of one step.
 pub const STEP_PIECES: usize = 4;
@@ -32,15 +38,23 @@ pub const STEP_PIECES: usize = 4;
 /// What comes next.
 #[derive(Clone, Copy)]
 pub enum Next {
-    /// A row or a command.
+    /// The rule above everything, of a picture that is boxed.
+    AtTop,
+    /// An element, or a rule that the box adds in front of it, or the rule behind all.
     AtElement,
+    /// A boundary between columns on a rule line of a picture that is boxed, or the line's end.
+    AtRule(RuleBegun),
     /// A line of a row.
     AtLine,
+    /// What stands in front of a column of the row, or behind the last, where the picture is boxed.
+    AtFront(usize),
     /// A cell of a line, or the line's end.
     AtCell,
     /// A word of a block, whose blanks were given, how many columns its line has up to its end, and
     /// the place behind it.
     AtWord(BlockWord, u64, BlockPlace),
+    /// Nothing: the rule behind everything was given.
+    AtEnd,
 }
 
 /// How far the picture was given. All its memory is reserved as it is made.
@@ -60,7 +74,10 @@ pub struct Walk {
     places: Vec<BlockPlace>,
     /// Where it goes on behind this line, for the columns of which this line was given.
     behind: Vec<BlockPlace>,
-    /// How wide the picture is.
+    /// What stands above: the last element that was given, apart from commands.
+    above: Beside,
+    /// How the picture is boxed, and how wide it is.
+    boxing: Boxing,
     picture_width: usize,
     room: usize,
 }
@@ -76,10 +93,9 @@ impl Model for Walk {
 }
 
 impl Walk {
+    ghost use Rattle.tbl_picture.specs.ElementsWalked.{CanWalk, StepsIf, started, still_to_come};
     ghost use Rattle.tbl_picture.specs.RowsWalked.{AreNarrow};
-    ghost use Rattle.tbl_picture.specs.Walks.{CanWalk, IsUnderWay, RowDoes, StepsIf};
-    ghost use Rattle.tbl_picture.specs.Walks.{gone_on, lent_row, row_begun, started};
-    ghost use Rattle.tbl_picture.specs.Walks.{still_to_come};
+    ghost use Rattle.tbl_picture.specs.Walks.{IsUnderWay, RowEndsOrGoesOn, lent_row, row_begun};
 
     /// A walk over tables of so many columns at the most.
     pub fn new(alloc: Global, columns: usize) -> Result<Self, AllocError>
@@ -94,24 +110,29 @@ impl Walk {
             next: Next::AtElement,
             places: Vec::with_capacity(alloc, columns)?,
             behind: Vec::with_capacity(alloc, columns)?,
+            above: Beside::Nothing,
+            boxing: Boxing::Nothing,
             picture_width: 0,
             room: columns,
         })
     }
 
-    /// Nothing of the picture is given, which is so wide.
-    pub fn start(&mut self, width: usize)
-        ensures value { self.new ≡ started width self.old }
+    /// Nothing of the picture is given, which is boxed so and so wide.
+    pub fn start(&mut self, boxing: Boxing, width: usize)
+        ensures value { self.new ≡ started boxing width self.old }
         ensures lines { (bytes : List ℕ) (formats : List FormatRow) (rows : KeptRows)
             → still_to_come bytes formats rows self.new
-            ≡ picture_lines width rows.columns (elements_of bytes formats rows.elements) }
+            ≡ picture_lines (record { boxing = boxing; width = width; columns = rows.columns })
+            (elements_of bytes formats rows.elements) }
         ensures can { (bytes : List ℕ) (formats : List FormatRow) (rows : KeptRows)
             → RowsLaid bytes formats rows → AreNarrow rows.columns
             → length rows.columns ≤ self.old.room → CanWalk bytes formats rows self.new }
     {
         self.element = 0;
         self.line = 0;
-        self.next = Next::AtElement;
+        self.next = first_next(boxing);
+        self.above = Beside::Nothing;
+        self.boxing = boxing;
         self.picture_width = width;
     }
 
@@ -131,44 +152,18 @@ impl Walk {
             pieces.old pieces.new }
         ensures escapes { escapes.new.room ≡ escapes.old.room }
     {
-        if self.element >= rows.count() {
-            return false;
-        }
-        match rows.element(self.element) {
-            Lent::Command(from, to) => {
-                pieces.add(Piece::Block(from, to));
-                pieces.add(Piece::LineEnd);
-                self.element += 1;
+        match self.next {
+            Next::AtTop => {
+                self.begin_rule(pieces, rows, RuleSign::Single, false);
                 true
             }
-            Lent::Rule(sign) => {
-                give_rule(pieces, self.picture_width, sign);
-                self.element += 1;
+            Next::AtElement => self.step_at_element(pieces, rows),
+            Next::AtRule(rule) => {
+                self.step_in_rule(pieces, rows, rule);
                 true
             }
-            Lent::Row(keys, height, entries) => {
-                let row = RowLent {
-                    bytes,
-                    keys: format.row_of_all(keys),
-                    columns: rows.columns(),
-                    entries,
-                    height,
-                };
-                let has_ended = self.step_in_row(pieces, escapes, &row);
-                self.go_on(has_ended);
-                true
-            }
-        }
-    }
-
-    /// Behind a step of a row the next element comes, if that was its last.
-    fn go_on(&mut self, has_ended: bool)
-        requires { has_ended ≡ true → self.old.element < 2 ^ 64 - 1 }
-        ensures { self.new ≡ gone_on has_ended self.old }
-    {
-        if has_ended {
-            self.element += 1;
-            self.next = Next::AtElement;
+            Next::AtEnd => false,
+            _ => self.step_in_element(pieces, escapes, bytes, rows, format),
         }
     }
 
@@ -183,17 +178,17 @@ impl Walk {
         requires fits { length row.now.entries.now ≤ self.old.room }
         requires small { row.now.height < 2 ^ 32 }
         requires room { pieces.old.taken + 4 ≤ pieces.old.room }
-        ensures steps { (frame : List ℕ) → RowDoes self.old.next result frame (lent_row row.now)
+        ensures steps { (frame : List ℕ) → RowEndsOrGoesOn result frame (lent_row row.now)
             self.old self.new pieces.old pieces.new }
         ensures escapes { escapes.new.room ≡ escapes.old.room }
     {
         match self.next {
-            Next::AtElement => {
-                self.begin_row(row.entries);
-                false
-            }
             Next::AtLine => {
                 self.begin_line(pieces, escapes, row);
+                false
+            }
+            Next::AtFront(at) => {
+                self.give_front(pieces, row, at);
                 false
             }
             Next::AtCell => {
@@ -207,6 +202,7 @@ impl Walk {
                 self.give_word(pieces, escapes, row, word, width, place);
                 false
             }
+            _ => false,
         }
     }
 
@@ -219,6 +215,16 @@ impl Walk {
         push_places(&mut self.places, entries);
         self.line = 0;
         self.next = Next::AtLine;
+    }
+}
+
+/// What comes first of a picture.
+fn first_next(boxing: Boxing) -> Next
+    ensures { result ≡ first_next boxing }
+{
+    match boxing {
+        Boxing::Nothing => Next::AtElement,
+        _ => Next::AtTop,
     }
 }
 

@@ -1,9 +1,10 @@
 //! Worked rules: what the definitions give for them.
 
-ghost use Rattle.std.specs.Prelude.{◌≡◌, [], ◌∷◌, Some, None, codes};
+ghost use Rattle.std.specs.Prelude.{◌≡◌, [], ◌∷◌, ◌++◌, Some, None, codes};
 ghost use Rattle.tbl_format.specs.declared.format.Key.TheVariants.{Alphabetic, Center, Left};
 ghost use Rattle.tbl_format.specs.declared.format.Key.TheVariants.{Numeric, Right};
-ghost use Rattle.tbl_picture.specs.WorkedPictures.{lines_of_data};
+ghost use Rattle.tbl_format.specs.declared.options.Boxing.TheVariants.{Around, EachField};
+ghost use Rattle.tbl_picture.specs.WorkedPictures.{lines_boxed, lines_of_data};
 
 /// Rules over columns, and over the whole table.
 pub fn over_columns()
@@ -35,4 +36,15 @@ pub fn repeated()
         ≡ codes "\\&      xx\n\\&abc   de\n" }
     ensures blank { lines_of_data None (Left ∷ Left ∷ []) (codes "\\Rx:\\R " ∷ codes "abc:de" ∷ [])
         ≡ codes "\\&xxx\n\\&abc   de\n" }
+{}
+
+/// Bars at the edges and between fields, and rules that cross them.
+pub fn boxed()
+    ensures around { lines_boxed Around None (Left ∷ Left ∷ [])
+        (codes "a:b" ∷ codes "_" ∷ codes "c" ∷ [])
+        ≡ codes "\\&+-------+\n\\&| a   b |\n\\&+-------+\n\\&| c     |\n\\&+-------+\n" }
+    ensures fields { lines_boxed EachField None (Left ∷ Left ∷ [])
+        (codes "a:b" ∷ codes "_:_" ∷ codes "=" ∷ codes "c" ∷ [])
+        ≡ codes "\\&+---+---+\n\\&| a | b |\n\\&+---+---+\n\\&| --+-- |\n"
+        ++ codes "\\&+===+===+\n\\&| c |   |\n\\&+---+---+\n" }
 {}

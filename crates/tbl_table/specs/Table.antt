@@ -12,7 +12,7 @@ use Rattle.tbl_kept.specs.Joined.{Joined, behind_joined, goes_on}
 use Rattle.tbl_layout.specs.Columns.{Laid, laid}
 use Rattle.tbl_layout.specs.DataLines.{ends_row}
 use Rattle.tbl_picture.specs.Frame.{indent, picture}
-use Rattle.tbl_picture.specs.PictureLines.{picture_lines}
+use Rattle.tbl_picture.specs.PictureLines.{Sheet, picture_lines}
 use Rattle.tbl_data.specs.DataRead.{closed_block, data_line, whole_line}
 pub use Rattle.tbl_data.specs.TableRead.{TableRead, bad, columns, no_lines, with_notes}
 use Rattle.tbl_data.specs.declared.phase.Phase.{Phase}
@@ -155,7 +155,13 @@ told_at_cut t = notes t
 
 -- its columns, and how wide its picture is
 abbrev pub laid_out : ℕ → TableRead → Laid
-laid_out line_length t = laid t.options.expanded line_length t.format.asked t.body
+laid_out line_length t = laid t.options.boxing t.options.expanded line_length t.format.asked t.body
+
+-- how it is boxed, and how wide it and its columns are
+abbrev pub sheet_of : ℕ → TableRead → Sheet
+sheet_of line_length t =
+    let table = laid_out line_length t in
+    record { boxing = t.options.boxing; width = table.width; columns = table.columns }
 
 abbrev pub width_in : Phase → ℕ → TableRead → ℕ
 width_in AtHead line_length t = 0
@@ -169,8 +175,8 @@ width line_length t = width_in t.phase line_length t
 -- what is written in its place
 abbrev pub picture_of : ℕ → TableRead → List ℕ
 picture_of line_length t =
-    let table = laid_out line_length t in
-    picture (indent t.options.centered line_length table.width) (picture_lines table.width table.columns t.body)
+    let sheet = sheet_of line_length t in
+    picture (indent t.options.centered line_length sheet.width) (picture_lines sheet t.body)
 
 abbrev pub output_in : Phase → ℕ → TableRead → Option (List ℕ)
 output_in AtHead line_length t = None
@@ -196,9 +202,7 @@ picture_after line_length lines = output line_length (ended_after line_length li
 
 abbrev pub lines_after : ℕ → List (List ℕ) → List ℕ
 lines_after line_length lines =
-    let t = ended_after line_length lines in
-    let table = laid_out line_length t in
-    picture_lines table.width table.columns t.body
+    let t = ended_after line_length lines in picture_lines (sheet_of line_length t) t.body
 
 abbrev pub notes_after : List (List ℕ) → List Told
 notes_after lines = notes (ended_after 65 lines)

@@ -5,11 +5,12 @@ ghost use Rattle.tbl_data.specs.TableData.{DataFits};
 ghost use Rattle.tbl_data.specs.declared.table_data.OpenBlock.TheVariants.{Nothing};
 ghost use Rattle.tbl_format.specs.Format.{FormatRow};
 ghost use Rattle.tbl_kept.specs.Rows.{RowsLaid};
-ghost use Rattle.tbl_layout.specs.Columns.{gaps, width_of_all};
+ghost use Rattle.tbl_layout.specs.Columns.{width_of_all};
 ghost use Rattle.tbl_picture.specs.Frame.{indent};
 ghost use Rattle.tbl_table.specs.Laying.{IsLaid, lacking_by, laid_by, with_places};
 
 use tbl_data::table_data::TableData;
+use tbl_format::options::Boxing;
 use tbl_layout::columns::{all_gaps, lacking, width_of_all};
 
 /// How wide a picture is: its columns, or 2^64 - 1 if there are more, and how many of them are
@@ -25,6 +26,7 @@ pub struct LaidWidth {
 /// The columns of a table get their widths, and its blocks their lines; it lies in these bytes.
 pub fn lay_out(
     kept: &mut TableData,
+    boxing: Boxing,
     is_expanded: bool,
     settled: &[u8],
     line_length: u32,
@@ -34,18 +36,18 @@ pub fn lay_out(
     requires closed { kept.old.open ≡ Nothing }
     ensures laid { IsLaid settled.now line_length kept.old kept.new }
     ensures width { result.width
-        ≡ min (laid_by is_expanded line_length settled.now kept.old).width (2 ^ 64 - 1) }
-    ensures more { result.more ≡ lacking_by is_expanded line_length settled.now kept.old }
+        ≡ min (laid_by boxing is_expanded line_length settled.now kept.old).width (2 ^ 64 - 1) }
+    ensures more { result.more ≡ lacking_by boxing is_expanded line_length settled.now kept.old }
     ensures few { result.more < 2 ^ 32 }
 {
     kept.rows
         .set_widths(&mut kept.escapes, settled, &kept.format, line_length);
-    let width = width_of_all(kept.rows.columns(), kept.format.asked());
+    let width = width_of_all(boxing, kept.rows.columns(), kept.format.asked());
     let more = lacking(
         is_expanded,
         line_length,
         width,
-        all_gaps(kept.format.asked()),
+        all_gaps(boxing, kept.format.asked()),
     );
     LaidWidth {
         width: width.saturating_add(more),
@@ -54,15 +56,15 @@ pub fn lay_out(
 }
 
 /// Its columns get their places, where so many columns of the page are spread over the gaps.
-pub fn set_places(kept: &mut TableData, more: usize)
-    requires { width_of_all kept.old.rows.columns (gaps kept.old.format.format.asked) + more
+pub fn set_places(kept: &mut TableData, boxing: Boxing, more: usize)
+    requires { width_of_all boxing kept.old.rows.columns kept.old.format.format.asked + more
         < 2 ^ 32 }
-    ensures value { kept.new ≡ with_places more kept.old }
+    ensures value { kept.new ≡ with_places boxing more kept.old }
     ensures laid { (bytes : List ℕ) (formats : List FormatRow)
         → RowsLaid bytes formats kept.old.rows
         → RowsLaid bytes formats kept.new.rows }
 {
-    kept.rows.set_starts(kept.format.asked(), more);
+    kept.rows.set_starts(boxing, kept.format.asked(), more);
 }
 
 /// How far a picture is indented that has so many columns.

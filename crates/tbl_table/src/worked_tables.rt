@@ -64,8 +64,9 @@ pub fn reports()
         ≡ told_at 4 (NotMeasured 99) ∷ [] }
     ensures surplus_rule { notes_after (codes "l." ∷ codes "a\t_" ∷ [])
         ≡ told_at 2 TooManyFields ∷ [] }
-    ensures box_option { picture_after 65 (codes "box;" ∷ codes "l." ∷ []) ≡ None }
-    ensures box_note { notes_after (codes "box;" ∷ codes "l." ∷ []) ≡ told_at 1 BadFormat ∷ [] }
+    ensures box_option { picture_after 65 (codes "doublebox;" ∷ codes "l." ∷ []) ≡ None }
+    ensures box_note { notes_after (codes "doublebox;" ∷ codes "l." ∷ [])
+        ≡ told_at 1 BadFormat ∷ [] }
     ensures key { notes_after (codes "l" ∷ codes "l=." ∷ codes "a" ∷ [])
         ≡ told_at 2 BadFormat ∷ [] }
     ensures joined_surplus { notes_after (codes "l." ∷ codes "a\\" ∷ codes "\tb" ∷ [])

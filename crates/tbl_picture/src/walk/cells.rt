@@ -8,10 +8,11 @@ ghost use Rattle.tbl_picture.specs.PieceQueue.{Adds};
 ghost use Rattle.tbl_picture.specs.RowsLeft.{end_given, if_given};
 ghost use Rattle.tbl_picture.specs.RowsWalked.{IsBlock, Repeats};
 
+use super::fronts::{count_given, next_column};
 use super::{Next, Walk};
 use crate::picture::Piece;
 use crate::piece_queue::PieceQueue;
-use crate::row_columns::{RowColumn, RowLent, block_bytes, column_at, count_to_glyph};
+use crate::row_columns::{RowColumn, RowLent, block_bytes, column_at};
 use roff_escape::OpenEscapes;
 use tbl_layout::data_lines::{RuleSign, sign_byte};
 use tbl_layout::entry::{EntryKind, SplitEntry};
@@ -55,19 +56,19 @@ impl Walk {
             → RowSteps frame (lent_row row.now) self.old self.new pieces.old pieces.new }
         ensures escapes { escapes.new.room ≡ escapes.old.room }
     {
-        self.count = count_to_glyph(escapes, row, self.places.as_slice(), self.line);
+        self.count = count_given(escapes, row, self.places.as_slice(), self.line);
         self.behind.clear();
         self.place = 0;
         self.width = 0;
-        self.next = Next::AtCell;
+        self.next = next_column(row.boxing, 0);
         pieces.add(Piece::LineFront);
     }
 
     /// A column is given: a text that begins at a column of the page and has so many, and its block
     /// goes on at a place.
-    pub(super) fn pass(&mut self, block: BlockPlace, place: usize, width: usize)
+    pub(super) fn pass(&mut self, row: &RowLent<'_>, block: BlockPlace, place: usize, width: usize)
         requires { length self.old.behind < self.old.room }
-        ensures { self.new ≡ passed block (place + width) self.old }
+        ensures { self.new ≡ passed row.now.boxing block (place + width) self.old }
     {
         self.behind.push_reserved(block);
         if self.count > 0 {
@@ -75,11 +76,11 @@ impl Walk {
         }
         self.place = place;
         self.width = width;
-        self.next = Next::AtCell;
+        self.next = next_column(row.boxing, self.behind.len());
     }
 
     /// How many columns of the page there are up to one from the place that is reached.
-    fn gap_to(&self, at: usize) -> usize
+    pub(super) fn gap_to(&self, at: usize) -> usize
         ensures { result ≡ at - self.now.place }
     {
         at.saturating_sub(self.place).saturating_sub(self.width)
@@ -115,14 +116,14 @@ impl Walk {
                 if self.line == 0 && held.entry.from != held.entry.to {
                     self.give_text(pieces, row, held, glyphs, width);
                 } else {
-                    self.pass(held.place, self.place, self.width);
+                    self.pass(row, held.place, self.place, self.width);
                 }
             }
             EntryKind::Split(split) => {
                 if self.line == 0 {
                     self.give_split(pieces, row, held, split);
                 } else {
-                    self.pass(held.place, self.place, self.width);
+                    self.pass(row, held.place, self.place, self.width);
                 }
             }
             EntryKind::Block(_) => self.begin_block_line(pieces, escapes, row, held),
@@ -165,7 +166,7 @@ impl Walk {
             self.count,
             Piece::Block(held.entry.from as usize, to as usize),
         );
-        self.pass(held.place, at, width as usize);
+        self.pass(row, held.place, at, width as usize);
     }
 
     /// A number that is split.
@@ -197,7 +198,7 @@ impl Walk {
             self.count,
             Piece::Block(split.behind as usize, to as usize),
         );
-        self.pass(held.place, at, split.width as usize);
+        self.pass(row, held.place, at, split.width as usize);
     }
 
     /// A byte that is repeated so often, on the first line of its row.
@@ -217,12 +218,12 @@ impl Walk {
             → RowSteps frame (lent_row row.now) self.old self.new pieces.old pieces.new }
     {
         if self.line != 0 {
-            return self.pass(held.place, self.place, self.width);
+            return self.pass(row, held.place, self.place, self.width);
         }
         let at = held.begins_at();
         give(pieces, self.count, Piece::Blanks(self.gap_to(at)));
         give(pieces, self.count, Piece::Repeated(byte, count));
-        self.pass(held.place, at, count);
+        self.pass(row, held.place, at, count);
     }
 
     /// The line of a block begins, or the block has none there.
@@ -249,8 +250,8 @@ impl Walk {
                 give(pieces, self.count, Piece::Blanks(word.leading() as usize));
                 self.next = Next::AtWord(word, word.begun_width(), behind);
             }
-            Some((BlockPart::EmptyLine, behind)) => self.pass(behind, self.place, self.width),
-            None => self.pass(BlockPlace::AtEnd, self.place, self.width),
+            Some((BlockPart::EmptyLine, behind)) => self.pass(row, behind, self.place, self.width),
+            None => self.pass(row, BlockPlace::AtEnd, self.place, self.width),
         }
     }
 }

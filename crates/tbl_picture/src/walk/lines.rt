@@ -1,8 +1,6 @@
 //! The words of a block's line, and the ends of lines, as a walk gives them.
 
 ghost use Rattle.std.specs.Prelude.{◌≡◌, ℕ, ◌+◌, ◌<◌, ◌^◌, ◌≤◌, List, [], length};
-ghost use Rattle.tbl_picture.specs.PictureLines.{rule_line};
-ghost use Rattle.tbl_picture.specs.PieceQueue.{Adds};
 
 use super::cells::{end_given, give};
 use super::{Next, Walk};
@@ -10,21 +8,9 @@ use crate::picture::Piece;
 use crate::piece_queue::PieceQueue;
 use crate::row_columns::{RowLent, block_bytes};
 use roff_escape::OpenEscapes;
-use tbl_layout::data_lines::{RuleSign, sign_byte};
 use tbl_text::block_lines::{OnLine, next_on_line};
 use tbl_text::block_parts::BlockPlace;
 use tbl_text::block_words::BlockWord;
-
-/// A rule over a picture that is so wide.
-pub(super) fn give_rule(pieces: &mut PieceQueue, width: usize, sign: RuleSign)
-    requires { pieces.old.taken + 4 ≤ pieces.old.room }
-    ensures { (block frame : List ℕ)
-        → Adds block frame 4 pieces.old pieces.new (rule_line width sign) }
-{
-    pieces.add(Piece::LineFront);
-    pieces.add(Piece::Repeated(sign_byte(sign), width));
-    pieces.add(Piece::LineEnd);
-}
 
 impl Walk {
     ghost use Rattle.tbl_picture.specs.Walks.{InLine, InWord, RowEndsOrGoesOn, RowSteps, lent_row};
@@ -64,7 +50,7 @@ impl Walk {
             OnLine::Ends(_) => {
                 let end = end_given(self.count, word.glyphs, word.to);
                 give(pieces, self.count, Piece::Block(from, start + end as usize));
-                self.pass(place, held.begins_at(), width as usize);
+                self.pass(row, place, held.begins_at(), width as usize);
             }
         }
     }

@@ -197,7 +197,14 @@ impl Table {
         ensures limits { self.new.limits ≡ self.old.limits }
     {
         let settled = &self.text.block()[..self.text.line_start()];
-        let laid = lay_out(&mut self.kept, self.options.expanded, settled, line_length);
+        let options = self.options;
+        let laid = lay_out(
+            &mut self.kept,
+            options.boxing,
+            options.expanded,
+            settled,
+            line_length,
+        );
         self.phase = Phase::Bad;
         self.begun = Begun::Nothing;
         self.kept.notes.tell();
@@ -205,9 +212,10 @@ impl Table {
             self.giving.give_nothing();
             return Some(Limit::Width);
         }
-        set_places(&mut self.kept, laid.more);
+        set_places(&mut self.kept, options.boxing, laid.more);
         self.giving.give_picture(
-            indent(self.options.centered, line_length, laid.width),
+            indent(options.centered, line_length, laid.width),
+            options.boxing,
             laid.width,
             has_newline,
         );

@@ -24,7 +24,7 @@ returns c =
     let no_entry : Entry = record { from = 0; to = 0; kind = Text 0 0 } in
     let key : key_of row.keys.now (0 + at) ≡ c.key_at.result = ap (key_of row.keys.now) (let same : 0 + at ≡ at = omega arith in same) ∙ sym (c.key_at.ensures 0) in
     let kind = (get_or row.entries.now at no_entry).kind in
-    let end : end_by kind (get_or row.columns.now at no_column) (drop (suc at) row.columns.now) (drop (suc at) row.entries.now) ≡ c.end_at.result =
+    let end : end_by row.boxing kind (get_or row.columns.now at no_column) (drop (suc at) row.columns.now) (drop (suc at) row.entries.now) ≡ c.end_at.result =
     sym c.end_at.ensures in
     let with : Key → ℕ → RowColumn = λ k n. record {
       column = get_or row.columns.now at no_column;
@@ -33,8 +33,8 @@ returns c =
       place = get_or places at (AtLine 0 None);
       end = n;
     } in
-    let rest = drop (suc at) (row_columns row.keys.now 0 row.columns.now row.entries.now places) in
-    row-column row.keys.now 0 at row.columns.now row.entries.now places no_column no_entry (AtLine 0 None)
+    let rest = drop (suc at) (row_columns row.boxing row.keys.now 0 row.columns.now row.entries.now places) in
+    row-column row.boxing row.keys.now 0 at row.columns.now row.entries.now places no_column no_entry (AtLine 0 None)
     c.requires.entry c.requires.column c.requires.place
     ∙ ap (λ (n : ℕ). with (key_of row.keys.now (0 + at)) n ∷ rest) end
     ∙ ap (λ (k : Key). with k c.end_at.result ∷ rest) key

@@ -7,7 +7,7 @@ abbrev pub invariant-loop-count : goal.invariant-loop-count
 invariant-loop-count l = record {
   few : l.count ≤ length l.row.entries.now;
   behind : AreGlyphless (drop l.count (map (cell_left l.row.bytes.now l.line)
-      (row_columns l.row.keys.now 0 l.row.columns.now l.row.entries.now l.places)));
+      (row_columns l.row.boxing l.row.keys.now 0 l.row.columns.now l.row.entries.now l.places)));
   room : l.escapes.room ≡ l.fn.escapes.room;
 }
 

@@ -4,7 +4,7 @@ use Rattle.tbl_kept.specs.TableText.{block_of}
 use Rattle.tbl_picture.specs.Giving.{lines_left}
 use Rattle.tbl_picture.specs.PieceQueue.{bytes_left}
 use Rattle.tbl_picture.specs.Pieces.{AreWithin}
-use Rattle.tbl_picture.specs.Walks.{CanWalk, steps_left}
+use Rattle.tbl_picture.specs.ElementsWalked.{CanWalk, steps_left}
 use Rattle.tbl_picture.specs.declared.giving.Rest.TheVariants.{Lines}
 use Rattle.tbl_picture.proofs.giving.Giving.refill_lines.Given as goal
 
@@ -24,4 +24,4 @@ invariant-loop-self l = record {
 }
 
 abbrev pub decreases-loop-self : goal.decreases-loop-self
-decreases-loop-self l = steps_left (block_of l.text) l.rows l.self.walk
+decreases-loop-self l = steps_left (block_of l.text) (all_rows l.format.format) l.rows l.self.walk

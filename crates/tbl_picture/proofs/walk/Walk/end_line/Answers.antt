@@ -9,7 +9,7 @@ use Rattle.tbl_picture.proofs.LineSteps.{ended-by}
 use Rattle.tbl_picture.proofs.walk.Walk.end_line.Goals as goal
 
 pub overflow_add-self : goal.overflow_add-self
-overflow_add-self c = omega (arith, ap (λ (k : KeptWalk). k.line) c.self.view_is, c.requires.line.before.line, c.requires.small)
+overflow_add-self c = omega (arith, ap (λ (k : KeptWalk). k.line) c.self.view_is, c.requires.line.on.before.line, c.requires.small)
 
 pub returns : goal.returns
 returns c = λ frame.

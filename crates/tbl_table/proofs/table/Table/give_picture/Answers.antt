@@ -6,7 +6,7 @@ use Rattle.tbl_data.specs.declared.phase.Phase.TheVariants.{Bad}
 use Rattle.tbl_format.specs.RowsServed.{all_rows}
 use Rattle.tbl_kept.specs.Rows.{KeptRows, RowsLaid, SameRoom}
 use Rattle.tbl_kept.specs.TableNotes.{KeptNotes}
-use Rattle.tbl_layout.specs.Columns.{gaps, width_of_all}
+use Rattle.tbl_layout.specs.Columns.{width_of_all}
 use Rattle.tbl_layout.specs.KeptEntries.{content_of}
 use Rattle.tbl_layout.specs.declared.columns.Column.{Column}
 use Rattle.tbl_picture.specs.Frame.{indent, picture}
@@ -93,18 +93,18 @@ invariant_of-self-2 c =
     let wide = (laid_out line_length t).width in
     let width : c.lay_out-laid.result.width ≡ min wide (2 ^ 64 - 1) = rw slice at c.lay_out-laid.ensures.width in
     let more = c.lay_out-laid.result.more in
-    let more_is : more ≡ lacking_by a.options.expanded line_length a.text.settled a.kept = rw slice at c.lay_out-laid.ensures.more in
+    let more_is : more ≡ lacking_by a.options.boxing a.options.expanded line_length a.text.settled a.kept = rw slice at c.lay_out-laid.ensures.more in
     let within : wide ≤ a.limits.width = within-test a.limits.width wide c.lay_out-laid.result.width fits.rooms.wide width c.if-laid-self.false in
     let rows : KeptRows = places a.limits a.phase a.begun a.text a.kept fits is none closed line_length a.options new laid more in
     let kept_is : c.set_places.new.kept ≡ record a.kept { rows = rows; escapes = new.escapes; notes = record a.kept.notes { to_tell = a.kept.notes.notes } } =
     c.set_places.ensures.value
-    ∙ ap (λ (ns : KeptNotes). with_places more (record new { notes = ns })) c.tell.ensures
-    ∙ ap (λ (e : TableData). with_places more (record e { notes = record e.notes { to_tell = e.notes.notes } })) laid.same in
+    ∙ ap (λ (ns : KeptNotes). with_places a.options.boxing more (record new { notes = ns })) c.tell.ensures
+    ∙ ap (λ (e : TableData). with_places a.options.boxing more (record e { notes = record e.notes { to_tell = e.notes.notes } })) laid.same in
     let formats = all_rows a.kept.format.format in
     let rows_laid : RowsLaid a.text.settled formats rows =
     subst (λ (e : TableData). RowsLaid a.text.settled formats e.rows) kept_is (c.set_places.ensures.laid a.text.settled formats laid.laid) in
-    let narrow : width_of_all new.rows.columns (gaps a.kept.format.format.asked) + more < 4294967296 =
-    omega (arith, within, fits.rooms.wide, more_is, ap (λ (cs : List Column). width_of_all cs (gaps a.kept.format.format.asked)) laid.columns) in
+    let narrow : width_of_all a.options.boxing new.rows.columns a.kept.format.format.asked + more < 4294967296 =
+    omega (arith, within, fits.rooms.wide, more_is, ap (λ (cs : List Column). width_of_all a.options.boxing cs a.kept.format.format.asked) laid.columns) in
     let can : IsLaidOut a.text rows a.kept.format a.giving.columns =
     laid-out a.limits a.phase a.begun a.text a.kept fits is none closed line_length a.options new laid a.giving.columns more c.self.invariant.columns narrow rows_laid in
     let rooms : SameRoom a.kept.rows rows = record { entries = laid.rooms.entries; elements = laid.rooms.elements; columns = laid.rooms.columns } in
@@ -152,25 +152,25 @@ returns-clause-to_come c =
     let wide = (laid_out line_length t).width in
     let width : c.lay_out-laid.result.width ≡ min wide (2 ^ 64 - 1) = rw slice at c.lay_out-laid.ensures.width in
     let more = c.lay_out-laid.result.more in
-    let more_is : more ≡ lacking_by a.options.expanded line_length a.text.settled a.kept = rw slice at c.lay_out-laid.ensures.more in
+    let more_is : more ≡ lacking_by a.options.boxing a.options.expanded line_length a.text.settled a.kept = rw slice at c.lay_out-laid.ensures.more in
     let within : wide ≤ a.limits.width = within-test a.limits.width wide c.lay_out-laid.result.width fits.rooms.wide width c.if-laid-self.false in
     let rows : KeptRows = places a.limits a.phase a.begun a.text a.kept fits is none closed line_length a.options new laid more in
     let kept_is : c.set_places.new.kept ≡ record a.kept { rows = rows; escapes = new.escapes; notes = record a.kept.notes { to_tell = a.kept.notes.notes } } =
     c.set_places.ensures.value
-    ∙ ap (λ (ns : KeptNotes). with_places more (record new { notes = ns })) c.tell.ensures
-    ∙ ap (λ (e : TableData). with_places more (record e { notes = record e.notes { to_tell = e.notes.notes } })) laid.same in
+    ∙ ap (λ (ns : KeptNotes). with_places a.options.boxing more (record new { notes = ns })) c.tell.ensures
+    ∙ ap (λ (e : TableData). with_places a.options.boxing more (record e { notes = record e.notes { to_tell = e.notes.notes } })) laid.same in
     let formats = all_rows a.kept.format.format in
     let rows_laid : RowsLaid a.text.settled formats rows =
     subst (λ (e : TableData). RowsLaid a.text.settled formats e.rows) kept_is (c.set_places.ensures.laid a.text.settled formats laid.laid) in
-    let narrow : width_of_all new.rows.columns (gaps a.kept.format.format.asked) + more < 4294967296 =
-    omega (arith, within, fits.rooms.wide, more_is, ap (λ (cs : List Column). width_of_all cs (gaps a.kept.format.format.asked)) laid.columns) in
+    let narrow : width_of_all a.options.boxing new.rows.columns a.kept.format.format.asked + more < 4294967296 =
+    omega (arith, within, fits.rooms.wide, more_is, ap (λ (cs : List Column). width_of_all a.options.boxing cs a.kept.format.format.asked) laid.columns) in
     let can : IsLaidOut a.text rows a.kept.format a.giving.columns =
     laid-out a.limits a.phase a.begun a.text a.kept fits is none closed line_length a.options new laid a.giving.columns more c.self.invariant.columns narrow rows_laid in
     let wide_is : c.lay_out-laid.result.width ≡ wide = omega (arith, width, within, fits.rooms.wide) in
     let indent_is : c.indent.result ≡ indent a.options.centered line_length wide = c.indent.ensures ∙ ap (λ (n : ℕ). indent a.options.centered line_length n) wide_is in
     rw (← c.self.view_is, kept_is)
     (c.give_picture.ensures.coming a.text rows a.kept.format can
-    ∙ ap (λ (n : ℕ). with_newline c.args.has_newline (picture n (lines_laid c.lay_out-laid.result.width a.text rows a.kept.format) ++ a.text.line)) indent_is
-    ∙ ap (λ (n : ℕ). with_newline c.args.has_newline (picture (indent a.options.centered line_length wide) (lines_laid n a.text rows a.kept.format) ++ a.text.line)) wide_is
+    ∙ ap (λ (n : ℕ). with_newline c.args.has_newline (picture n (lines_laid a.options.boxing c.lay_out-laid.result.width a.text rows a.kept.format) ++ a.text.line)) indent_is
+    ∙ ap (λ (n : ℕ). with_newline c.args.has_newline (picture (indent a.options.centered line_length wide) (lines_laid a.options.boxing n a.text rows a.kept.format) ++ a.text.line)) wide_is
     ∙ ap (λ (lines : List ℕ). with_newline c.args.has_newline (picture (indent a.options.centered line_length wide) lines ++ a.text.line))
     (lines-are a.limits a.phase a.begun a.text a.kept fits is none closed line_length a.options new laid wide more more_is rows_laid))

@@ -1,0 +1,281 @@
+-- What a step does that gives what stands in front of a column.
+use Rattle.std.proofs.Common.{◌≡◌, ◌≢◌, ℕ, zero, suc, ◌+◌, ◌-◌, ◌<◌, max, Bool, true, false, List, [], ◌∷◌, ◌++◌, length, drop, replicate, get_or, refl, sym, ap, subst, ◌∙◌, arith, append_assoc, length-drop}
+use Rattle.std.specs.Prelude.{nat_lt}
+use Rattle.std.proofs.lemmas.Bool.{ltb-true, ltb-false}
+use Rattle.std.proofs.lemmas.List.{drop_all, length-map}
+use Rattle.roff_source.specs.Bytes.{blank}
+use Rattle.tbl_layout.specs.DataLines.{sign_byte}
+use Rattle.tbl_layout.specs.Entries.{Run, blanks, columns_of}
+use Rattle.tbl_layout.specs.declared.data_lines.RuleSign.{RuleSign}
+use Rattle.tbl_layout.specs.declared.data_lines.RuleSign.TheVariants.{Double, Single}
+use Rattle.tbl_picture.specs.PictureLines.{Cell, at_column, bar, bar_at, crossed_at, crossing, end_of, no_bar, one, repeated, with_fronts}
+use Rattle.tbl_picture.specs.PieceQueue.{Adds, KeptPieces}
+use Rattle.tbl_picture.specs.RowsLeft.{cell_left, first_of, from_line, fronts_by, given, given_of, if_given, one_less, then_fronts}
+use Rattle.tbl_picture.specs.RowsWalked.{HasGlyph, LastHasGlyph, front_count, most_steps, steps_of_cells, steps_of_columns}
+use Rattle.tbl_picture.specs.Walks.{FrontStands, InFront, IsOn, IsUnderWay, KeptWalk, OnLine, RowSteps, WalkedRow, cells_in_front, cells_left, columns_left, columns_walked, fields_left, fronts_of, front_passed, further_lines, next_behind, row_left, row_steps, steps_of_rest}
+use Rattle.tbl_picture.specs.declared.walk.Next.{Next}
+use Rattle.tbl_picture.specs.declared.walk.Next.TheVariants.{AtCell, AtFront}
+use Rattle.tbl_picture.proofs.Adding.{adds-fewer, adds-none}
+use Rattle.tbl_picture.proofs.CellsGiven.{none-given, repeated-last, run-given}
+use Rattle.tbl_picture.proofs.ColumnSteps.{steps-cells}
+use Rattle.tbl_picture.proofs.FrontCells.{boxed-some, front-count}
+use Rattle.tbl_picture.proofs.RowColumns.{drop-none, length-row_columns, map-at}
+use Rattle.tbl_picture.proofs.RunsGiven.{given-before, given-last, last-behind}
+
+-- cells behind what stands in front of the first of them
+abbrev pub behind_front : List Cell → List Cell → List Cell
+behind_front fronts [] = with_fronts fronts []
+behind_front fronts (c ∷ cells) = c ∷ with_fronts fronts cells
+
+with-first : (f : Cell) (fronts cells : List Cell) → with_fronts (f ∷ fronts) cells ≡ f ∷ behind_front fronts cells
+with-first f fronts [] = refl
+with-first f fronts (c ∷ cells) = refl
+
+then-some : (fronts cells : List Cell) → 0 < length cells → then_fronts fronts cells ≡ behind_front fronts cells
+then-some fronts [] some = absurd (omega (arith, some))
+then-some fronts (c ∷ cells) some = refl
+
+none-long : {A : Type 0} (xs : List A) → length xs ≡ 0 → xs ≡ []
+none-long [] is = refl
+none-long (x ∷ xs) is = absurd (omega (arith, is))
+
+-- what stands in front of a column
+pub front-stands : (row : WalkedRow) (w : KeptWalk) (at : ℕ) (f : Cell) → InFront row at w
+    → drop at (fronts_by row.boxing row.width row.columns row.entries) ≡ f ∷ drop (suc at) (fronts_by row.boxing row.width row.columns row.entries)
+    → FrontStands row at f w
+front-stands row w at f front is = record {
+  front = front;
+  first = map-at (from_line w.line) at (fronts_by row.boxing row.width row.columns row.entries) f is;
+}
+
+module _ (row : WalkedRow) (w : KeptWalk) (at : ℕ) (f : Cell) (stands : FrontStands row at f w) (reached : ℕ) where
+  abbrev pub front_now : Cell
+  front_now = from_line w.line f
+
+  abbrev pub behind_now : List Cell
+  behind_now = behind_front (drop (suc at) (fronts_of row w.line)) (fields_left row w)
+
+  abbrev new_walk : KeptWalk
+  new_walk = front_passed row at reached w
+
+  pub front-first : cells_in_front at row w ≡ front_now ∷ behind_now
+  front-first =
+      ap (λ (fronts : List Cell). with_fronts fronts (fields_left row w)) stands.first
+      ∙ with-first front_now (drop (suc at) (fronts_of row w.line)) (fields_left row w)
+
+  last-front : LastHasGlyph (one_less w.count) behind_now
+  last-front = last-behind w.count front_now behind_now (subst (LastHasGlyph w.count) front-first stands.front.last)
+
+  all-fronts : length (fronts_by row.boxing row.width row.columns row.entries) ≡ front_count row.columns
+  all-fronts =
+      front-count row.boxing row.width row.columns row.entries
+      (boxed-some row.boxing row.width row.columns row.entries at stands.front.within)
+
+  many-left : length (fields_left row w) ≡ length row.entries - length w.behind
+  many-left =
+      let b = stands.front.on.before in
+      omega (
+        arith,
+        length-map (columns_left row w) (cell_left row.bytes w.line),
+        length-drop (length w.behind) (columns_walked row w),
+        length-row_columns row.boxing row.keys row.bytes 0 row.columns row.entries w.places b.short b.places,
+      )
+
+  on-front : OnLine row new_walk
+  on-front =
+      let o = stands.front.on in
+      let b = o.before in
+      record {
+        before = record { line = b.line; short = b.short; room = b.room; narrow = b.narrow; lie = b.lie; places = b.places };
+        column = o.column;
+        places = o.places;
+        moved = o.moved;
+      }
+
+  -- what is known behind it
+  record Behind (next : Next) : Type 0 where
+    can : IsUnderWay next row new_walk
+    on : IsOn next
+    left : row_left next row new_walk ≡ given (one_less w.count) reached behind_now ++ further_lines row w
+    less : row_steps next row new_walk
+        < front_count row.columns - at + steps_of_columns (most_steps row.bytes) (drop (length w.behind) row.entries)
+        + steps_of_rest row (row.height - suc w.line)
+
+  abbrev given_behind : List Cell → List ℕ
+  given_behind cells = given (one_less w.count) reached cells ++ further_lines row w
+
+  -- where a column comes next, and where none does any more
+  cell-behind : cells_left row new_walk ≡ behind_now
+      → (steps_of_cells (most_steps row.bytes) (front_count row.columns - suc (length w.behind)) (drop (length w.behind) row.entries)
+      < front_count row.columns - at + steps_of_columns (most_steps row.bytes) (drop (length w.behind) row.entries))
+      → Behind AtCell
+  cell-behind same less = record {
+    can = record { on = on-front; last = subst (LastHasGlyph (one_less w.count)) (sym same) last-front };
+    on = tt;
+    left = ap given_behind same;
+    less = omega (arith, less);
+  }
+
+  next-by : (t u : Bool) → nat_lt (length w.behind) (length row.entries) ≡ t → nat_lt at (max 1 (length row.columns)) ≡ u
+      → Behind (next_behind t u at)
+  next-by true u is_field is =
+      let few = ltb-true (length w.behind) (length row.entries) is_field in
+      let same : suc at ≡ suc (length w.behind) = ap suc (stands.front.first few) in
+      cell-behind
+      (then-some (drop (suc (length w.behind)) (fronts_of row w.line)) (fields_left row w) (omega (arith, many-left, few))
+      ∙ ap (λ (n : ℕ). behind_front (drop n (fronts_of row w.line)) (fields_left row w)) (sym same))
+      (omega (
+        arith,
+        same,
+        stands.front.within,
+        all-fronts,
+        steps-cells (most_steps row.bytes) (front_count row.columns - suc (length w.behind)) (drop (length w.behind) row.entries),
+      ))
+  next-by false true is_field is =
+      let past = ltb-false (length w.behind) (length row.entries) is_field in
+      let inner = ltb-true at (max 1 (length row.columns)) is in
+      let none : fields_left row w ≡ [] = none-long (fields_left row w) (omega (arith, many-left, past)) in
+      let next : at + 1 ≡ suc at = omega arith in
+      let fronts = drop (suc at) (fronts_of row w.line) in
+      let same : cells_in_front (at + 1) row new_walk ≡ behind_now =
+      ap (λ (n : ℕ). with_fronts (drop n (fronts_of row w.line)) (fields_left row w)) next
+      ∙ ap (with_fronts fronts) none
+      ∙ sym (ap (behind_front fronts) none) in
+      record {
+        can = record {
+          on = on-front;
+          within = omega (arith, inner, all-fronts);
+          first = λ few. absurd (omega (arith, few, past));
+          last = subst (LastHasGlyph (one_less w.count)) (sym same) last-front;
+        };
+        on = tt;
+        left = ap given_behind same;
+        less = omega (arith, inner);
+      }
+  next-by false false is_field is =
+      let past = ltb-false (length w.behind) (length row.entries) is_field in
+      let edge = ltb-false at (max 1 (length row.columns)) is in
+      let all = fronts_by row.boxing row.width row.columns row.entries in
+      let none : fields_left row w ≡ [] = none-long (fields_left row w) (omega (arith, many-left, past)) in
+      let no_entry : drop (length w.behind) row.entries ≡ [] = drop_all (length w.behind) row.entries (omega (arith, past)) in
+      let no_front : drop (suc at) (fronts_of row w.line) ≡ [] =
+      drop_all (suc at) (fronts_of row w.line) (omega (arith, edge, all-fronts, length-map all (from_line w.line))) in
+      let most = most_steps row.bytes in
+      cell-behind
+      (ap (then_fronts (drop (suc (length w.behind)) (fronts_of row w.line))) none
+      ∙ sym (ap (λ (fronts : List Cell). behind_front fronts (fields_left row w)) no_front ∙ ap (behind_front []) none))
+      (omega (
+        arith,
+        stands.front.within,
+        all-fronts,
+        ap (steps_of_cells most (front_count row.columns - suc (length w.behind))) no_entry,
+        ap (steps_of_columns most) no_entry,
+      ))
+
+  -- a step that gives it
+  pub front-passed : (frame : List ℕ) (before after : KeptPieces) (added : List ℕ) → w.next ≡ AtFront at
+      → Adds row.bytes frame 4 before after added
+      → given w.count w.place (front_now ∷ behind_now) ≡ added ++ given (one_less w.count) reached behind_now
+      → RowSteps frame row w new_walk before after
+  front-passed frame before after added next adds split =
+      let behind = next-by (nat_lt (length w.behind) (length row.entries)) (nat_lt at (max 1 (length row.columns))) refl refl in
+      record {
+        added = added;
+        adds = adds;
+        joins =
+            ap (λ (n : Next). row_left n row w) next
+            ∙ ap (λ (cells : List Cell). given w.count w.place cells ++ further_lines row w) front-first
+            ∙ ap (λ (bytes : List ℕ). bytes ++ further_lines row w) split
+            ∙ append_assoc added (given (one_less w.count) reached behind_now) (further_lines row w)
+            ∙ ap (λ (rest : List ℕ). added ++ rest) (sym behind.left);
+        on = behind.on;
+        can = behind.can;
+        less = omega (arith, behind.less, ap (λ (n : Next). row_steps n row w) next);
+        element = refl;
+        above = refl;
+        boxing = refl;
+        width = refl;
+        room = refl;
+      }
+
+-- a line of a bar
+bar-first : (line place : ℕ) → first_of (from_line line (bar_at place)) ≡ one bar ∷ []
+bar-first line place = ap (λ (lines : List (List Run)). get_or lines 0 (one bar ∷ [])) (drop-none line)
+
+no-first : (line : ℕ) → first_of (from_line line no_bar) ≡ []
+no-first line = ap (λ (lines : List (List Run)). get_or lines 0 []) (drop-none line)
+
+-- on further lines a bar isn't crossed
+pub crossed-late : (line place end : ℕ) (sign : RuleSign) → line ≢ 0 → from_line line (crossed_at place sign end) ≡ from_line line (bar_at place)
+crossed-late zero place end sign other = absurd (other refl)
+crossed-late (suc n) place end sign other =
+    ap (λ (lines : List (List Run)). record { at = place; lines = lines; below = one bar ∷ [] }) (drop-none n)
+
+pub stands-late : (row : WalkedRow) (w : KeptWalk) (at place end : ℕ) (sign : RuleSign) → w.line ≢ 0
+    → FrontStands row at (crossed_at place sign end) w → FrontStands row at (bar_at place) w
+stands-late row w at place end sign other stands = record {
+  front = stands.front;
+  first = stands.first
+      ∙ ap (λ (c : Cell). c ∷ drop (suc at) (fronts_of row w.line)) (crossed-late w.line place end sign other);
+}
+
+-- what is given of a bar that is crossed
+crossing-given : (count gap k : ℕ) (sign : RuleSign) → given_of count (blanks gap ∷ one crossing ∷ repeated (sign_byte sign) k ∷ [])
+    ≡ if_given count (replicate gap blank) ++ (if_given count (replicate 1 crossing) ++ if_given count (replicate k (sign_byte sign)))
+crossing-given zero gap k sign = refl
+crossing-given (suc zero) gap zero Single = refl
+crossing-given (suc zero) gap zero Double = refl
+crossing-given (suc zero) gap (suc k) Single = refl
+crossing-given (suc zero) gap (suc k) Double = refl
+crossing-given (suc (suc n)) gap k sign =
+    let rest = repeated (sign_byte sign) k in
+    given-before (suc (suc n)) (blanks gap) (one crossing ∷ rest ∷ []) (λ is. absurd (omega (arith, is)))
+    ∙ ap (λ (more : List ℕ). replicate gap blank ++ more)
+    (given-before (suc (suc n)) (one crossing) (rest ∷ []) (λ is. absurd (omega (arith, is)))
+    ∙ ap (λ (more : List ℕ). replicate 1 crossing ++ more) (given-last (suc (suc n)) rest))
+
+module _ (row : WalkedRow) (w : KeptWalk) (at : ℕ) (next : w.next ≡ AtFront at) (frame : List ℕ) where
+  -- a bar
+  pub bar-steps : (before after : KeptPieces) (place gap reached : ℕ) → FrontStands row at (bar_at place) w
+      → gap ≡ place - w.place → reached ≡ place + 1
+      → Adds row.bytes frame 4 before after (if_given w.count (replicate gap blank) ++ if_given w.count (replicate 1 bar))
+      → RowSteps frame row w (front_passed row at reached w) before after
+  bar-steps before after place gap reached stands gap_is reached_is adds =
+      let behind = behind_now row w at (bar_at place) stands reached in
+      let first = bar-first w.line place in
+      let has : HasGlyph (one bar ∷ []) = omega arith in
+      let text = if_given w.count (replicate 1 bar) in
+      front-passed row w at (bar_at place) stands reached frame before after (if_given w.count (replicate gap blank) ++ text) next adds
+      (run-given w.count w.place (from_line w.line (bar_at place)) (one bar) behind first (λ _. subst HasGlyph (sym first) has)
+      ∙ ap (λ (last : List ℕ). (if_given w.count (replicate (place - w.place) blank) ++ last) ++ given (one_less w.count) (place + 1) behind)
+      (repeated-last w.count bar 1 (λ _. has))
+      ∙ ap (λ (n : ℕ). (if_given w.count (replicate n blank) ++ text) ++ given (one_less w.count) (place + 1) behind) (sym gap_is)
+      ∙ ap (λ (n : ℕ). (if_given w.count (replicate gap blank) ++ text) ++ given (one_less w.count) n behind) (sym reached_is))
+
+  -- no bar
+  pub no-bar-steps : (pieces : KeptPieces) → FrontStands row at no_bar w → RowSteps frame row w (front_passed row at w.place w) pieces pieces
+  no-bar-steps pieces stands =
+      front-passed row w at no_bar stands w.place frame pieces pieces [] next
+      (adds-fewer row.bytes frame 0 4 pieces pieces [] (omega arith) (adds-none row.bytes frame pieces))
+      (none-given w.count w.place (from_line w.line no_bar) (behind_now row w at no_bar stands w.place) (no-first w.line))
+
+  -- a bar that is crossed
+  pub crossing-steps : (before after : KeptPieces) (place end gap rest reached : ℕ) (sign : RuleSign)
+      → FrontStands row at (crossed_at place sign end) w → w.line ≡ 0
+      → gap ≡ place - w.place → rest ≡ end - (place + 1) → reached ≡ place + (rest + 1)
+      → Adds row.bytes frame 4 before after
+      (if_given w.count (replicate gap blank) ++ (if_given w.count (replicate 1 crossing) ++ if_given w.count (replicate rest (sign_byte sign))))
+      → RowSteps frame row w (front_passed row at reached w) before after
+  crossing-steps before after place end gap rest reached sign stands line gap_is rest_is reached_is adds =
+      let f = crossed_at place sign end in
+      let behind = behind_now row w at f stands reached in
+      let runs : ℕ → List Run = λ n. one crossing ∷ repeated (sign_byte sign) n ∷ [] in
+      let more = if_given w.count (replicate 1 crossing) ++ if_given w.count (replicate rest (sign_byte sign)) in
+      let g : List Run → List ℕ = λ text. given_of w.count (at_column place w.place text) ++ given (one_less w.count) (end_of place w.place text) behind in
+      let wide : place + columns_of (runs rest) ≡ reached = omega (arith, reached_is) in
+      front-passed row w at f stands reached frame before after (if_given w.count (replicate gap blank) ++ more) next adds
+      (ap (λ (n : ℕ). g (first_of (from_line n f))) line
+      ∙ ap (λ (n : ℕ). g (runs n)) (sym rest_is)
+      ∙ ap (λ (n : ℕ). given_of w.count (blanks n ∷ runs rest) ++ given (one_less w.count) (place + columns_of (runs rest)) behind) (sym gap_is)
+      ∙ ap (λ (front : List ℕ). front ++ given (one_less w.count) (place + columns_of (runs rest)) behind) (crossing-given w.count gap rest sign)
+      ∙ ap (λ (n : ℕ). (if_given w.count (replicate gap blank) ++ more) ++ given (one_less w.count) n behind) wide)

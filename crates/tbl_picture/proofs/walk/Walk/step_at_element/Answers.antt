@@ -1,0 +1,65 @@
+use Rattle.std.proofs.Common.{◌≡◌, suc, ◌+◌, [], ◌∷◌, ◌++◌, drop, refl, sym, ap, subst, ◌∙◌, arith}
+use Rattle.std.specs.List.{slice_range}
+use Rattle.roff_source.specs.Bytes.{newline}
+use Rattle.tbl_kept.specs.Rows.{Row}
+use Rattle.tbl_picture.specs.ElementsWalked.{CanWalk, Steps}
+use Rattle.tbl_picture.specs.Walks.{KeptWalk, kept_by}
+use Rattle.tbl_picture.specs.declared.walk.Next.TheVariants.{AtElement}
+use Rattle.tbl_text.proofs.BlockSlices.{length-slice_range}
+use Rattle.tbl_picture.proofs.Adding.{adds-fewer, adds-more}
+use Rattle.tbl_picture.proofs.PictureSteps.{command-lies, command-steps, row-at, rule-at}
+use Rattle.tbl_picture.proofs.walk.Walk.step_at_element.Goals as goal
+
+pub returns-in-Command : goal.returns-in-Command
+returns-in-Command c = record {
+  step = λ bytes frame formats can within.
+      let rows = c.args.rows.now in
+      let w = kept_by c.self.inside in
+      let view = c.self.view_is in
+      let here = subst (λ (k : KeptWalk). CanWalk bytes formats rows k) (sym view) can in
+      let next : w.next ≡ AtElement = ap (λ (k : KeptWalk). k.next) view ∙ c.requires.next in
+      let from = c.in-Command.from in
+      let to = c.in-Command.to in
+      let before = c.args.pieces.now in
+      let between = c.add.new.self in
+      let after = c.add-in-Command.new.self in
+      let elements = drop (suc w.element) rows.elements in
+      let at = c.in-Command.ensures in
+      let lies = command-lies bytes frame formats rows w here before after within next from to elements at in
+      let text = slice_range bytes from to in
+      let adds = adds-fewer bytes frame (1 + 1) 4 before after (text ++ newline ∷ []) (omega arith)
+      (adds-more bytes frame 1 1 before between after text (newline ∷ [])
+      (c.add.ensures.adds bytes frame (length-slice_range bytes from to lies.within)) (c.add-in-Command.ensures.adds bytes frame refl)) in
+      subst (λ (k : KeptWalk). Steps bytes frame formats rows k (record w { element = w.element + 1 }) before after) view
+      (command-steps bytes frame formats rows w here before after within next from to elements at adds);
+}
+
+pub returns-in-Rule : goal.returns-in-Rule
+returns-in-Rule c = record {
+  step = λ bytes frame formats can within.
+      let rows = c.args.rows.now in
+      let w = kept_by c.self.inside in
+      let view = c.self.view_is in
+      let here = subst (λ (k : KeptWalk). CanWalk bytes formats rows k) (sym view) can in
+      let next : w.next ≡ AtElement = ap (λ (k : KeptWalk). k.next) view ∙ c.requires.next in
+      let before = c.args.pieces.now in
+      let after = c.step_at_rule.new.pieces in
+      let new = c.step_at_rule.new.self in
+      subst (λ (k : KeptWalk). Steps bytes frame formats rows k new before after) view
+      (rule-at bytes frame formats rows w here before after within next c.in-Rule.sign (drop (suc w.element) rows.elements) c.in-Rule.ensures new
+      (c.step_at_rule.ensures bytes frame formats));
+}
+
+pub returns-in-Row : goal.returns-in-Row
+returns-in-Row c = record {
+  step = λ bytes frame formats can within.
+      let rows = c.args.rows.now in
+      let w = c.args.self.now in
+      let before = c.args.pieces.now in
+      let after = c.step_at_row.new.pieces in
+      let row = c.in-Row in
+      let at = subst (λ (k : KeptWalk). drop k.element rows.elements ≡ Row row.field-0 row.field-1 row.entries.now ∷ drop (suc k.element) rows.elements)
+      c.self.view_is row.ensures in
+      row-at bytes frame formats rows w can before after within c.requires.next row.field-0 row.field-1 row.entries.now
+      (drop (suc w.element) rows.elements) at c.step_at_row.new.self (c.step_at_row.ensures bytes frame formats);
+}

@@ -1,0 +1,60 @@
+use Rattle.std.proofs.Common.{◌≡◌, ℕ, ◌+◌, suc, List, [], ◌∷◌, drop, sym, ap, subst, arith}
+use Rattle.tbl_format.specs.RowsServed.{all_rows, row_at}
+use Rattle.tbl_format.specs.declared.format.FormatKey.{FormatKey}
+use Rattle.tbl_format.specs.declared.options.Boxing.{Boxing}
+use Rattle.tbl_kept.specs.Rows.{KeptElement, Row}
+use Rattle.tbl_layout.specs.declared.columns.Column.{Column}
+use Rattle.tbl_picture.specs.ElementsWalked.{IsInRow, Steps}
+use Rattle.tbl_picture.specs.Walks.{KeptWalk, RowEndsOrGoesOn, WalkedRow}
+use Rattle.tbl_picture.proofs.PictureSteps.{does-element, row-by, within-drop}
+use Rattle.tbl_picture.proofs.walk.Walk.step_in_element.Goals as goal
+
+pub returns-in-Row-clause-step : goal.returns-in-Row-clause-step
+returns-in-Row-clause-step c = λ frame within.
+    let bytes = c.args.bytes.now in
+    let formats = all_rows c.args.format.now.format in
+    let rows = c.args.rows.now in
+    let w = c.args.self.now in
+    let a = c.self.inside in
+    let view = c.self.view_is in
+    let mid = c.step_in_row-has_ended.new.self in
+    let t = c.step_in_row-has_ended.result in
+    let keys = c.in-Row.keys in
+    let height = c.in-Row.height in
+    let entries = c.in-Row.entries.now in
+    let before = c.args.pieces.now in
+    let after = c.step_in_row-has_ended.new.pieces in
+    let elements = drop (suc w.element) rows.elements in
+    let at = subst (λ (k : KeptWalk). drop k.element rows.elements ≡ Row keys height entries ∷ drop (suc k.element) rows.elements) view c.in-Row.ensures in
+    let row : Boxing → ℕ → List FormatKey → List Column → WalkedRow = λ b n ks cs.
+    record { boxing = b; width = n; bytes = bytes; keys = ks; columns = cs; height = height; entries = entries } in
+    let does = subst (λ (k : KeptWalk). RowEndsOrGoesOn t frame (row k.boxing k.picture_width (row_at formats keys).keys rows.columns) w mid before after) view
+    (subst (λ (cs : List Column). RowEndsOrGoesOn t frame (row a.boxing a.picture_width (row_at formats keys).keys cs) w mid before after) c.columns.ensures
+    (subst (λ (ks : List FormatKey). RowEndsOrGoesOn t frame (row a.boxing a.picture_width ks c.columns.result.now) w mid before after) c.row_of_all.ensures
+    (c.step_in_row-has_ended.ensures.steps frame))) in
+    let under = subst (IsInRow bytes formats rows w) at c.requires.row in
+    subst (λ (k : KeptWalk). Steps bytes frame formats rows w k before after) (sym c.go_on.ensures)
+    (row-by bytes frame formats rows w c.requires.can before after within keys height entries elements at t mid under does)
+
+pub go_on-requires : goal.go_on-requires
+go_on-requires c = λ _.
+    let a = c.self.inside in
+    let rows = c.args.rows.now in
+    let row : WalkedRow = record {
+      boxing = a.boxing;
+      width = a.picture_width;
+      bytes = c.args.bytes.now;
+      keys = c.row_of_all.result.now;
+      columns = c.columns.result.now;
+      height = c.in-Row.height;
+      entries = c.in-Row.entries.now;
+    } in
+    omega (
+      arith,
+      does-element c.step_in_row-has_ended.result [] row c.args.self.now c.step_in_row-has_ended.new.self c.args.pieces.now c.step_in_row-has_ended.new.pieces
+          (c.step_in_row-has_ended.ensures.steps []),
+      ap (λ (k : KeptWalk). k.element) c.self.view_is,
+      within-drop a.element rows.elements (Row c.in-Row.keys c.in-Row.height c.in-Row.entries.now) (drop (suc a.element) rows.elements) c.in-Row.ensures,
+      c.count.ensures,
+      c.count.type_inv,
+    )

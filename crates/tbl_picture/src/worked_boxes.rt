@@ -1,0 +1,48 @@
+//! Worked rules of boxes: what the definitions give for them.
+
+ghost use Rattle.std.specs.Prelude.{◌≡◌, [], ◌∷◌, None, codes};
+ghost use Rattle.tbl_format.specs.declared.format.Key.TheVariants.{Left};
+ghost use Rattle.tbl_format.specs.declared.options.Boxing.TheVariants.{Around, EachField};
+ghost use Rattle.tbl_picture.specs.WorkedPictures.{lines_boxed};
+
+/// A box around a table.
+pub fn around()
+    ensures rows { lines_boxed Around None (Left ∷ Left ∷ [])
+        (codes "a:b" ∷ codes "ccc:dd" ∷ [])
+        ≡ codes "\\&+----------+\n\\&| a     b  |\n\\&| ccc   dd |\n\\&+----------+\n" }
+    ensures rule { lines_boxed Around None (Left ∷ Left ∷ [])
+        (codes "_" ∷ codes "a:b" ∷ [])
+        ≡ codes "\\&---------\n\\&+-------+\n\\&| a   b |\n\\&+-------+\n" }
+    ensures empty { lines_boxed Around None (Left ∷ [])
+        ([])
+        ≡ codes "\\&----\n\\&----\n" }
+    ensures none { lines_boxed Around None (Left ∷ [])
+        (codes "=" ∷ [])
+        ≡ codes "\\&----\n\\&====\n\\&----\n" }
+{}
+
+/// A box around each field.
+pub fn each_field()
+    ensures rows { lines_boxed EachField None (Left ∷ Left ∷ [])
+        (codes "a:b" ∷ codes "ccc:dd" ∷ [])
+        ≡ codes "\\&+-----+----+\n\\&| a   | b  |\n\\&+-----+----+\n\\&| ccc | dd |\n\\&+-----+----+\n" }
+    ensures rules { lines_boxed EachField None (Left ∷ Left ∷ [])
+        (codes "a:b" ∷ codes "_" ∷ codes "=" ∷ codes "c:d" ∷ [])
+        ≡ codes "\\&+---+---+\n\\&| a | b |\n\\&+---+---+\n\\&+===+===+\n\\&| c | d |\n\\&+---+---+\n" }
+    ensures command { lines_boxed EachField None (Left ∷ Left ∷ [])
+        (codes "a:b" ∷ codes ".sp" ∷ codes "c:d" ∷ [])
+        ≡ codes "\\&+---+---+\n\\&| a | b |\n.sp\n\\&+---+---+\n\\&| c | d |\n\\&+---+---+\n" }
+{}
+
+/// Rules that go on over the bar between two columns.
+pub fn joined()
+    ensures above { lines_boxed EachField None (Left ∷ Left ∷ [])
+        (codes "a:b" ∷ codes "_:_" ∷ codes "=" ∷ codes "c:d" ∷ [])
+        ≡ codes "\\&+---+---+\n\\&| a | b |\n\\&+---+---+\n\\&| --+-- |\n\\&+===+===+\n\\&| c | d |\n\\&+---+---+\n" }
+    ensures last { lines_boxed EachField None (Left ∷ Left ∷ [])
+        (codes "a:b" ∷ codes "_:_" ∷ [])
+        ≡ codes "\\&+---+---+\n\\&| a | b |\n\\&+---+---+\n\\&| --+-- |\n\\&+-------+\n" }
+    ensures others { lines_boxed EachField None (Left ∷ Left ∷ [])
+        (codes "a:b" ∷ codes "_:=" ∷ [])
+        ≡ codes "\\&+---+---+\n\\&| a | b |\n\\&+---+---+\n\\&| - | = |\n\\&+---+---+\n" }
+{}
