@@ -8,8 +8,9 @@ taken once. Both programs format it, and groff's `troff` prints what each of the
 program has no message but of what is left out, both must look the same. That isn't asked for where groff means something else: with
 the letter `x`, which widens a column; in a block in a column without `w`, which takes what other texts of the column need; under
 the key `a`, which has a place more; and where a table has escapes or characters that only groff has, or characters that are two
-columns wide. How many tables are of which kind, and which messages they have, is told too. It wants groff. The exit status is 1
-if something differs.
+columns wide. groff's boxes lack the blank at the left edge, its rules over tables without a box are one column longer, and its double
+rules are single ones: that is made alike first. How many tables are of which kind, and which messages they have, is told too. It wants
+groff. The exit status is 1 if something differs.
 """
 import collections
 import concurrent.futures
@@ -32,8 +33,10 @@ TABLE = re.compile(rb"^\.TS(?=[ \t\n]).*?^\.TE(?=[ \t\n]|\Z)[^\n]*\n?", re.M | r
 # What stands before a table: no hyphens, no ends of lines but at blanks, no adjusting, and a page that is long enough.
 BEFORE = b".nh\n.na\n.pl 5000v\n.cflags 0 -\\[hy]\\[em]\\[en]\\[mi]/\n"
 # Escapes that only groff has.
-OF_GROFF = re.compile(rb"(?<!\\)(?:\\\\)*\\[\[/,:~)CRZABEFmMOVY]")
+OF_GROFF = re.compile(rb"(?<!\\)(?:\\\\)*\\(?:[\[/,:~)CRZABEFmMOVY]|[fns*]\[)")
 CHARACTER = re.compile(rb"\\\((..)", re.S)
+# The lines and corners of boxes on groff's other device, and what they are here.
+BOX_SIGNS = str.maketrans("─│┌┐└┘├┤┬┴┼═‐", "-|+++++++++=-")
 # Characters that groff's simplest device doesn't have. On the other one each has one column.
 LACKING = {"de", "di", "tm"}
 SHOWN = 10
@@ -80,12 +83,28 @@ def is_of_groff(table):
     text = table.decode("utf-8", "replace")
     names = {name.decode("latin-1") for name in CHARACTER.findall(table)}
     known = {name for name, printed in CHARACTERS.items() if table.isascii() and name not in LACKING or len(printed) == 1}
-    return bool(OF_GROFF.search(table)) or bool(names - known) or any(unicodedata.east_asian_width(sign) in "WF" for sign in text)
+    # A soft hyphen is none on groff's devices.
+    wide = any(unicodedata.east_asian_width(sign) in "WF" for sign in text)
+    return bool(OF_GROFF.search(table)) or bool(names - known) or wide or "\u00ad" in text
+
+
+def read_table(table):
+    """What the lines of a table say."""
+    return Table(list(enumerate(table.split(b"\n")[1:table.rstrip(b"\n").count(b"\n")], 2)))
+
+
+def as_groff_rules(lines, table):
+    """These lines with boxes and rules as groff makes them."""
+    if read_table(table).is_boxed:
+        lines = [line.replace("=", "-") if re.fullmatch(" *[+=-]+", line) else line for line in lines]
+        return [re.sub(r"^( *[|+-])[ -]", r"\1", line) for line in lines]
+    width = max(map(len, lines))
+    return [line.replace("=", "-") + "-" if set(line.strip()) in ({"-"}, {"="}) and len(line) == width else line for line in lines]
 
 
 def is_measured_otherwise(table):
     """Whether groff gives a table other widths."""
-    read = Table(list(enumerate(table.split(b"\n")[1:table.rstrip(b"\n").count(b"\n")], 2)))
+    read = read_table(table)
     rows = [row for row in read.elements if isinstance(row, Row)]
     blocks = [column for row in rows for column, cell in enumerate(row.cells) if isinstance(cell, list)]
     has_x = any(what.lower() == b"left out: x" for _, what in read.told)
@@ -103,7 +122,8 @@ def compare(table):
     if is_measured_otherwise(table):
         return messages, "are measured otherwise", None
     theirs = subprocess.run(["tbl"], input=BEFORE + table, capture_output=True).stdout
-    ours, theirs = printed(BEFORE + done.stdout), printed(theirs)
+    ours, theirs = (printed(text).translate(BOX_SIGNS) for text in (BEFORE + done.stdout, theirs))
+    ours = "\n".join(as_groff_rules(ours.split("\n"), table))
     return messages, "are the same" if ours == theirs else "differ", None if ours == theirs else (ours, theirs)
 
 
