@@ -541,12 +541,16 @@ OF_ONE_CELL = PICTURE + b"\\&a\n.if \\n(TF .fi\n.TE\n"
 TABLES = {
     "tables_of_one_cell": (b"", b".TS\nl.\na\n.TE\n", b"", 13 * 100_000, (), None, 2 * OF_ONE_CELL),
     "tables_of_one_option": (b"", b".TS\nx;l.\n.TE\n", b"", 13 * 100_000, (), None, PICTURE + b".if"),
-    "tables_that_pass": (b"", b".TS\nbox;\nl.\na\n.TE\n", b"", 18 * 100_000, (), None, 2 * b".TS\nbox;\nl.\na\n.TE\n"),
+    "tables_that_pass": (b"", b".TS\nbox;\nlq.\na\n.TE\n", b"", 19 * 100_000, (), None, 2 * b".TS\nbox;\nlq.\na\n.TE\n"),
     "tables_that_never_begin": (b"", b".T", b"\n", 10 * MEGABYTE, (), None, b".T.T"),
     "table_of_many_rows": (b".TS\nl l.\n", b"a\tb\n", b".TE\n", 8 * MEGABYTE, (), "rows", b".TS\n"),
     "table_of_many_empty_rows": (b".TS\nl l.\n", b"\n", b".TE\n", 2 * MEGABYTE, (), "rows", b".TS\n"),
     "table_of_many_fields": (
         b".TS\n" + b"l" * 40 + b".\n", 39 * b"\t" + b"\n", b".TE\n", 40 * 4949, (), None, PICTURE + 9 * b"\\&\n"),
+    "table_of_bars": (
+        b".TS\ndoublebox;" + 40 * b"l||" + b".\n", 39 * b"\t" + b"\n", b".TE\n", 40 * 4949, (), None, PICTURE + b"\\&++=" + 9 * b"=++="),
+    "table_of_bars_and_rules": (
+        b".TS\n||" + 40 * b"l||" + b".\n", 39 * b"_\t" + b"_\n_\n", b".TE\n", 82 * 2440, (), None, PICTURE + b"\\&|| " + 9 * b"-++-"),
     "table_of_wide_rows": (
         b".TS\nr.\n%s\n" % (4096 * b"x"), b"a\n", b".TE\n", 4108 + 2 * 4999, (), None, PICTURE + b"\\&xxx"),
     "table_of_surplus_fields": (b".TS\nl.\na", b"\tx", b"\n.TE\n", 262_144, (), None, PICTURE + b"\\&a\n"),
@@ -554,7 +558,7 @@ TABLES = {
     "table_without_an_end": (
         b".TS\nl.\n", b"A row of a table that has no end, and is so long.\n", b"", 10 * MEGABYTE, (), "rows", b".TS\n"),
     "table_without_an_end_of_long_rows": (b".TS\nl.\n", 16 * b"long " + b"\n", b"", 10 * MEGABYTE, (), "text", b".TS\n"),
-    "table_without_an_end_that_passes": (b".TS\nbox;\n", b"A row.\n", b"", 10 * MEGABYTE, (), "text", b".TS\n"),
+    "table_without_an_end_that_passes": (b".TS\nlq.\n", b"A row.\n", b"", 10 * MEGABYTE, (), "text", b".TS\n"),
     "table_that_ends_nearly": (b".TS\nl.\n", b".TE.TE", b"\n", 10 * MEGABYTE, (), "text", b".TS\n"),
     "field": (b".TS\nl.\n", b"x", b"\n.TE\n", 10 * MEGABYTE, (), "text", b".TS\n"),
     "field_of_width": (b".TS\nl.\n", b"x", b"\n.TE\n", 262_144, (), "width", b".TS\n"),
@@ -571,6 +575,7 @@ TABLES = {
     "columns_enough": (b".TS\n", b"l ", b".\na\n.TE\n", 2_000, ("--columns=1000",), None, OF_ONE_CELL),
     "rows_of_a_format": (b".TS\n", b"l,", b"l.\na\n.TE\n", 262_144, (), None, OF_ONE_CELL),
     "rows_of_a_format_without_keys": (b".TS\n", b",\n", b"l.\na\n.TE\n", 262_144, (), None, OF_ONE_CELL),
+    "rows_of_bars_of_a_format": (b".TS\n", b"||l||,", b"l.\na\n.TE\n", 262_144, (), None, PICTURE + b"\\&|| a ||\n.if"),
     "number": (b".TS\nl", b"9", b"l.\na\n.TE\n", 262_144, (), "width", b".TS\n"),
     "numbers": (b".TS\nl", b"3 ", b"l.\na\n.TE\n", 262_144, (), None, OF_ONE_CELL),
     "format_without_an_end": (b".TS\nl", b" \n", b"", 10 * MEGABYTE, (), "text", b".TS\n"),
@@ -631,6 +636,7 @@ TOLD_IN_ORDER = {
 # Columns that are far apart, with the limit that stops each command; `nroff` counts blanks for its line at the glyph behind.
 FAR_TABLES = {
     "columns_far_apart": (b".TS\nl40000000 l.\na\tb\n.TE\n", {"tbl": None, "both": "line"}),
+    "bars_far_apart": (b".TS\nl40000000 | l.\na\tb\n.TE\n", {"tbl": None, "both": "line"}),
     "columns_farthest_apart": (b".TS\nl999999990 l.\na\tb\n.TE\n", {"tbl": "output", "both": "bytes"}),
 }
 FAR_OPTIONS = ("--width=1000000000", "--output=50000000")
@@ -859,7 +865,7 @@ RANDOM = {
 RANDOM_DOCUMENTS = 100
 PIECES_OF_TABLES = (
     4 * [b"\n.TE\n", b"\n.TS\n", b"\n.TS\nl l.\n", b"\n.TS\ntab(:);\nl r.\n", b":", b"\t", b"\n"]
-    + [b"l", b"r", b"c", b",", b".\n", b";", b"tab(:)", b"tab(", b")", b"center ", b"box", b"9", b"n", b"|", b"_\n", b"=\n"]
+    + [b"l", b"r", b"c", b",", b".\n", b";", b"tab(:)", b"tab(", b")", b"center ", b"box", b"9", b"n", b"|", b"||", b"doublebox", b"_\n", b"=\n"]
     + [b"T{\n", b"\nT}", b"\n.T&\n", b"\\\n", b"\\\\\n", b"\n.TE", b"\n.TS x\n", b"\n.TEx\n", b"a", b"words", b" "]
     + [b"\n.TS\ntab(:);\nlw(5) n a.\n", b"T{\na b c\nT}", b":T{\n", b"\n.T&\nn a\nc.\n", b"expand ", b"w(3)", b"e", b"x", b"1.5", b"\\&"]
     + [rb"\fB", rb"\(em", rb"\nx", rb"\w'", rb"\*(", b"\\", b"'", b"\n.sp\n", b"\n.5\n"]

@@ -5,12 +5,14 @@
 
 PROGRAM is crates/roff/out/roff if none is given. Each table that stands in a page of these folders, packed by gzip or not, is
 taken once. Both programs format it, and groff's `troff` prints what each of them writes, for a device of characters. Where the
-program has no message but of what is left out, both must look the same. That isn't asked for where groff means something else: with
-the letter `x`, which widens a column; in a block in a column without `w`, which takes what other texts of the column need; under
-the key `a`, which has a place more; and where a table has escapes or characters that only groff has, or characters that are two
-columns wide. groff's boxes lack the blank at the left edge, its rules over tables without a box are one column longer, and its double
-rules are single ones: that is made alike first. How many tables are of which kind, and which messages they have, is told too. It wants
-groff. The exit status is 1 if something differs.
+program has no message but of what is left out, both must look the same. That isn't asked for where groff means something else:
+with the letter `x`, which widens a column; in a block in a column without `w`, which takes what other texts of the column need;
+under the key `a`, which has a place more; where a table has escapes or characters that only groff has, or characters that are
+two columns wide; and where bars stand at other places. groff makes no separation wider for its bars, puts a bar elsewhere in
+one that isn't 3 columns wide, or draws it twice there, has one bar at an edge for two, and two lines above and below a double
+box. groff's left edge lacks its blank, each edge takes a place less where it centres, its rules over tables without a right
+edge are one column longer, and its double rules are single ones: that is made alike first. How many tables are of which kind,
+and which messages they have, is told too. It wants groff. The exit status is 1 if something differs.
 """
 import collections
 import concurrent.futures
@@ -23,7 +25,9 @@ import sys
 import unicodedata
 
 sys.dont_write_bytecode = True
+from table_format import BARS
 from table_items import CHARACTERS
+from table_picture import APART, Picture
 from table_reading import Row, Table
 
 TOP = pathlib.Path(__file__).resolve().parent.parent
@@ -40,6 +44,8 @@ BOX_SIGNS = str.maketrans("─│┌┐└┘├┤┬┴┼═‐", "-|++++++++
 # Characters that groff's simplest device doesn't have. On the other one each has one column.
 LACKING = {"de", "di", "tm"}
 SHOWN = 10
+# The line length of all programs.
+LINE = 65
 
 
 def tables_in(path):
@@ -94,12 +100,27 @@ def read_table(table):
 
 
 def as_groff_rules(lines, table):
-    """These lines with boxes and rules as groff makes them."""
-    if read_table(table).is_boxed:
-        lines = [line.replace("=", "-") if re.fullmatch(" *[+=-]+", line) else line for line in lines]
-        return [re.sub(r"^( *[|+-])[ -]", r"\1", line) for line in lines]
-    width = max(map(len, lines))
-    return [line.replace("=", "-") + "-" if set(line.strip()) in ({"-"}, {"="}) and len(line) == width else line for line in lines]
+    """These lines with edges and rules as groff makes them."""
+    read = read_table(table)
+    picture = Picture(read, LINE)
+    # Where groff centres, each edge takes a place less.
+    edges = bool(picture.left) + bool(picture.right)
+    indent, more = (max(0, LINE - width) // 2 if read.is_centred else 0 for width in (picture.width, picture.width - edges))
+    longer = "" if picture.right else "-"
+    lines = [line.replace("=", "-") + longer if re.fullmatch(" *[+=-]+", line) and len(line) == indent + picture.width else line
+             for line in lines]
+    if picture.left:
+        lines = [line[:indent + 1] + line[indent + 2:] for line in lines]
+    return [" " * (more - indent) * bool(line) + line for line in lines]
+
+
+def has_other_bars(table):
+    """Whether groff puts bars of a table at other places."""
+    read = read_table(table)
+    picture = Picture(read, LINE)
+    barred = [column for column in range(read.keys - 1) if read.has_all_bars or read.most_bars.get(column + 1)]
+    separations = {read.apart.get(column, APART) for column in barred} | {picture.apart[column] for column in barred}
+    return read.frame == BARS or BARS in read.most_bars.values() or not separations <= {APART}
 
 
 def is_measured_otherwise(table):
@@ -121,6 +142,8 @@ def compare(table):
         return messages, "have what only groff has", None
     if is_measured_otherwise(table):
         return messages, "are measured otherwise", None
+    if has_other_bars(table):
+        return messages, "have bars at other places", None
     theirs = subprocess.run(["tbl"], input=BEFORE + table, capture_output=True).stdout
     ours, theirs = (printed(text).translate(BOX_SIGNS) for text in (BEFORE + done.stdout, theirs))
     ours = "\n".join(as_groff_rules(ours.split("\n"), table))

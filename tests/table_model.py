@@ -1,11 +1,12 @@
 """A run of `roff tbl`, as a plain model (part of tests/tables.py).
 
 It goes over all of a table again with each line, and keeps nothing but what was read. What isn't laid out yet is `bad format`
-where it stands (`NOT_YET` in tests/table_reading.py).
+where it stands (`NOT_YET` in tests/table_format.py).
 """
 from table_items import BLANK, NEWLINE, TAB
+from table_format import cut
 from table_picture import Picture
-from table_reading import Table, cut
+from table_reading import Table
 
 USUAL = {"rows": 5000, "columns": 40, "text": 262144, "width": 4096, "bytes": 50000000, "output": 200000000}
 

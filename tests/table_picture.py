@@ -4,6 +4,15 @@ from table_items import BLANK, Item, columns_of
 from table_reading import Row, Rule, kind_of
 
 APART = 3
+# How many blanks at least stand between columns with so many bars.
+LEAST_APART = (0, 3, 4)
+
+
+class LaidRow:
+    """A row: for each column its key and its entry, or none, and the bars that it asks for."""
+
+    def __init__(self, entries, bars):
+        self.entries, self.bars = entries, bars
 
 
 class Text:
@@ -80,19 +89,21 @@ class Picture:
 
     def __init__(self, table, length):
         self.table, self.length, self.count = table, length, table.keys
-        least = APART if table.has_all_bars else 0
-        self.apart = [max(least, table.apart.get(column, APART)) for column in range(self.count - 1)]
-        self.edge = 2 if table.is_boxed else 0
-        self.rows = [self.entries(row) if isinstance(row, Row) else row for row in table.elements]
+        most = [max(table.most_bars.get(boundary, 0), self.framed(boundary)) for boundary in range(self.count + 1)]
+        self.apart = [max(LEAST_APART[most[column + 1]], table.apart.get(column, APART)) for column in range(self.count - 1)]
+        # An edge has a blank beside its bars, if it has any.
+        self.left, self.right = (bars + 1 if bars else 0 for bars in (most[0], most[-1]))
+        self.rows = [LaidRow(self.entries(row), row.bars) if isinstance(row, Row) else row for row in table.elements]
         self.widths = [self.width_of(column) for column in range(self.count)]
         widest = max((self.widths[column] for column in table.equal), default=0)
         self.widths = [widest if column in table.equal else width for column, width in enumerate(self.widths)]
         if table.is_expanded:
             self.expand()
-        self.width = self.edge + sum(self.widths) + sum(self.apart) + self.edge
-        # The places of bars between columns.
-        starts = [self.edge + sum(self.widths[:number + 1]) + sum(self.apart[:number]) for number in range(self.count - 1)]
-        self.places = [start + (apart - 1) // 2 for start, apart in zip(starts, self.apart)]
+        self.width = self.left + sum(self.widths) + sum(self.apart) + self.right
+
+    def framed(self, boundary):
+        """How many bars the box has at a boundary."""
+        return self.table.frame if boundary in (0, self.count) else int(self.table.has_all_bars)
 
     def entries(self, row):
         """For each column the key of a row and its entry, or none."""
@@ -109,7 +120,7 @@ class Picture:
 
     def of_column(self, column):
         """The keys and entries of a column."""
-        entries = [row[column] for row in self.rows if isinstance(row, list)]
+        entries = [row.entries[column] for row in self.rows if isinstance(row, LaidRow)]
         return [(key, entry) for key, entry in entries
                 if entry and not isinstance(entry, Drawn) and not (isinstance(entry, Block) and entry.is_empty)]
 
@@ -126,7 +137,7 @@ class Picture:
         return max((entry.left for entry in split), default=0), max((entry.columns - entry.left for entry in split), default=0)
 
     def expand(self):
-        missing, whole = max(0, self.length - sum(self.widths) - sum(self.apart) - 2 * self.edge), sum(self.apart)
+        missing, whole = max(0, self.length - sum(self.widths) - sum(self.apart) - self.left - self.right), sum(self.apart)
         if whole:
             fronts = [sum(self.apart[:number]) for number in range(len(self.apart) + 1)]
             self.apart = [apart + missing * fronts[number + 1] // whole - missing * fronts[number] // whole
@@ -143,29 +154,41 @@ class Picture:
             return (self.widths[column] - left - right) // 2 + left - entry.left
         return {b"l": 0, b"r": spare, b"c": spare // 2, b"n": spare // 2}[key]
 
+    def bar_places(self, boundary, bars):
+        """Where so many bars stand at a boundary: outermost at an edge, and else in the middle of the separation."""
+        if boundary == 0:
+            return set(range(bars))
+        if boundary == self.count:
+            return set(range(self.width - bars, self.width))
+        apart = self.apart[boundary - 1]
+        first = self.left + sum(self.widths[:boundary]) + sum(self.apart[:boundary - 1]) + (apart - bars) // 2
+        return set(range(first, first + bars))
+
     def bars(self, row, number):
         """The places where a line of a row shows bars, and those where its rules cross them."""
-        if not self.table.is_boxed:
-            return set(), set()
-        crossed = {self.places[column] for column, (_, entry) in enumerate(row)
-                   if number == 0 and isinstance(entry, Drawn) and entry.goes_on(row, column) and self.table.has_all_bars}
-        inner = set(self.places) if self.table.has_all_bars else set()
-        return {0, self.width - 1} | inner - crossed, crossed
+        shown, crossed = set(), set()
+        for boundary in range(self.count + 1):
+            places = self.bar_places(boundary, max(row.bars.get(boundary, 0), self.framed(boundary)))
+            entry = row.entries[boundary - 1][1] if boundary else None
+            is_ruled = number == 0 and isinstance(entry, Drawn) and entry.goes_on(row.entries, boundary - 1)
+            (crossed if is_ruled else shown).update(places)
+        return shown, crossed
 
     def lines(self):
         """The lines of a row after each other, rules and commands."""
         found = []
         for row in self.rows:
-            if not isinstance(row, list):
+            if not isinstance(row, LaidRow):
                 found.append(row)
                 continue
             # Under `allbox` a rule stands between two rows.
             before = [line for line in found if not isinstance(line, bytes)][-1:]
             if self.table.has_all_bars and before and isinstance(before[0], tuple):
                 found.append(Rule(b"-"))
-            found += [(row, number) for number in range(max([1] + [len(entry.lines) for _, entry in row if entry]))]
-        if self.table.is_boxed:
-            found = [Rule(b"-"), *found, Rule(b"-")]
+            found += [(row, number) for number in range(max([1] + [len(entry.lines) for _, entry in row.entries if entry]))]
+        if self.table.frame:
+            sign = b"-" if self.table.frame == 1 else b"="
+            found = [Rule(sign), *found, Rule(sign)]
         for at, line in enumerate(found):
             if isinstance(line, bytes):
                 yield line
@@ -178,17 +201,17 @@ class Picture:
 
     def drawn(self, row, column):
         """How far from its column's first place a field is drawn, and over how many."""
-        key, entry = row[column]
+        key, entry = row.entries[column]
         if entry.source == b"\\_":
             count = max((other.columns for _, other in self.of_column(column)), default=0)
             return {b"r": self.widths[column] - count, b"c": (self.widths[column] - count) // 2}.get(key, 0), count
-        return 0, self.widths[column] + (self.apart[column] if entry.goes_on(row, column) else 0)
+        return 0, self.widths[column] + (self.apart[column] if entry.goes_on(row.entries, column) else 0)
 
     def line(self, row, number):
         """A line of a row, up to its last glyph."""
-        parts, start = [], self.edge
+        parts, start = [], self.left
         bars, crossed = self.bars(row, number)
-        for column, (key, entry) in enumerate(row):
+        for column, (key, entry) in enumerate(row.entries):
             if isinstance(entry, Drawn) and number == 0:
                 place, count = self.drawn(row, column)
                 for place in range(start + place, start + place + count):

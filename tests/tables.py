@@ -7,7 +7,7 @@
 PROGRAM is crates/roff/out/roff if none is given. The model (tests/table_model.py) is `roff tbl`: output, messages and status
 must be the same, also within small limits. `roff both` must be what `roff nroff` makes of the model's output. A document is
 the same in each run, by its number; in the tables of document N the byte N mod 256 may be the separator. Most documents ask
-for nothing that isn't laid out yet (`NOT_YET` in tests/table_reading.py). The exit status is 1 if something differs.
+for nothing that isn't laid out yet (`NOT_YET` in tests/table_format.py). The exit status is 1 if something differs.
 """
 import concurrent.futures
 import os
@@ -18,8 +18,9 @@ import sys
 import tempfile
 
 sys.dont_write_bytecode = True
+from table_format import NOT_YET
 from table_model import Model
-from table_reading import NOT_YET, kind_of, kind_of_line
+from table_reading import kind_of, kind_of_line
 
 TOP = pathlib.Path(__file__).resolve().parent.parent
 PROGRAM = TOP / "crates" / "roff" / "out" / "roff"
@@ -36,21 +37,23 @@ ESCAPES = ([b"\\" + bytes([value]) for value in b"\\e'`-. 0&%|^fs(*n$cwht{}abdDg
 BLOCK_LINES = [b"one two", b"One.", b"two.  three", b"", b" ", b"  set in", b"a", b"word", b"longer-word", b"end?'", b"\\fBx\\fR y.", b"\\fB", b" \\fB",
                b"\\fB \\fR x", b"a \\fB b", b"\\&", b".br", b".5", b".T&", b"x \\c", b"x\\", b"\\(em y", b"tail ", b"stop. ", b"\\\" note", b"a\tb", b"T{",
                b"\x01", b"\x02", b"\x01 ", b"a\x01 b", b"\\ x", b"...", b"(so.)", b"\\(rq.\\(rq", b"a \x01 b", b"\\n(xx.", b"\xc3\xa9t\xc3\xa9", b"_", b"\\^"]
-ODD_FIELDS = [b"_", b"=", b"\\_", b"\\^", b"\\Rx", b"\\R ", b"\\R\\", b"\\R\xc3", b"\\Rxy", b"_ ", b"==", b" =", b"\\\n_", b"\\^\\^", b"\\R\x80"]
+ODD_FIELDS = 3 * [b"_", b"="] + [b"\\_", b"\\^", b"\\Rx", b"\\R ", b"\\R\\", b"\\R\xc3", b"\\Rxy", b"_ ", b"==", b" =", b"\\\n_", b"\\^\\^", b"\\R\x80"]
 LINES_OF_DATA = [b"_", b"=", b"_ ", b".sp", b".", b".5", b".T", b".T&x", b".TS", b".nf\\\nx", b"\\_", b".\\\nT&", b"", b" ", b":", b"T}", b"T}:x", b"\\"]
 PIECES = PLAIN + NUMBERS + ESCAPES + ODD_FIELDS + LINES_OF_DATA + BLOCK_LINES + 9 * [b":", b"\t", b"\n"] + 3 * [b"T{\n", b"\nT}", b"\\\n"]
 OPTIONS = [b"center", b"Centre", b"expand", b"EXPAND", b"tab(:)", b"TAB(:)", b"tab(;)", b"tab())", b"tab( )", b"tab(.)", b"tab(T)", b"tab(\\)",
            b"tab(\x01)", b"tab (:)", b"tab\t(;)", b"linesize(12)", b"linesize (9)", b"delim($$)", b"delim ($$)", b"delim($)", b"tab", b"tab (xx)",
            b"left", b"box (1)", b"box", b"allbox", b"frame", b"doublebox", b"DoubleFrame", b"tab()", b"nokeep",
            b"an-option-of-more-than-thirty-two-bytes", b"(;)", b"tab(:)x", b"delim tab (:)", b"center(1)", b"linesize", b"linesize ()"]
-PLAIN_OPTIONS = OPTIONS[:17] + 3 * [b"allbox", b"box"]
+PLAIN_OPTIONS = OPTIONS[:17] + 2 * [b"allbox", b"box", b"doublebox"]
 KEYS = [b"l", b"r", b"c", b"n", b"a", b"n", b"L", b"R", b"N", b"A"]
 LETTERS = [b"3", b"0", b"12", b"1 7", b"e", b"E", b"w(9)", b"w5", b"W(3n)", b"w(0)", b"w0", b"w(1i/2)", b"w(2+3)", b"w((2)*3)", b"w(.5i)", b"w(0-1)",
-           b"w12 ", b"t", b"d", b"b", b"i", b"u", b"p8", b"p+2", b"v-1", b"v9", b"fB", b"f(CW)", b"fCW", b"f.", b"f,", b"fB,", b"x", b"X", b"m(ab)",
+           b"w12 ", b"t", b"d", b"b", b"i", b"u", b"p8", b"p+2", b"v-1", b"v9", b"fB", b"f(CW)", b"fCW", b"f.", b"f,", b"f|", b"fB,", b"x", b"X", b"m(ab)",
            b"mab", b"M..", b" ", b"\t", b"99999999999"]
-ODD_LETTERS = [b"z", b"|", b"||", b"s", b"^", b"_", b"-", b"=", b"w", b"w(", b"w()", b"w(x)", b"w(5", b"w( 5)", b"w 5", b"w(5 )", b"w(9)9)", b"w(1/0)",
+ODD_LETTERS = [b"z", b"|", b"|||", b"| 3", b"||e", b"s", b"^", b"_", b"-", b"=", b"w", b"w(", b"w()", b"w(x)", b"w(5", b"w( 5)", b"w 5", b"w(5 )", b"w(9)9)", b"w(1/0)",
                b"w(2147483647)", b"w9.", b"w(|1)", b"w(-(3))", b"w(5))", b"p", b"p+", b"v", b"f", b"f(", b"f(B", b"m", b"ma", b"m(", b"q", b"\\", b"(", b"w99999999999"]
-FRONTS = [b" ", b"\t", b"3", b"|", b"e", b","]
+FRONTS = [b" ", b"\t", b"3", b"|,", b"| | |", b"e", b","]
+# Bars before, between and behind keys.
+BARS = [b"|", b"|", b"||", b" | ", b" || ", b"| |", b"\t|", b"|\t|", b"|| "]
 LINES = [b"text\n", b".TS x\n", b".TSx\n", b".TE\n", b".ts\n", b" .TS\n", b".TS", b"\n", b".nf\n", b".\n", b"\\&.TS\n"]
 ENDS = 12 * [b".TE\n"] + [b".TE", b".TE \n", b".TE\tx\n", b".TEx\n.TE\n", b".T", b".", b"", b".TE .TS\n"]
 
@@ -69,7 +72,7 @@ def is_laid_out(piece):
 
 def is_asked(piece):
     """Whether a piece of options or of a format can be laid out."""
-    return piece.lower() not in NOT_YET["options"] and piece[:1].lower() not in NOT_YET["keys"] + NOT_YET["bars and letters"]
+    return piece.lower() not in NOT_YET["options"] and piece[:1].lower() not in NOT_YET["keys"] + NOT_YET["letters"]
 
 
 def some(chance, pieces, fits=is_laid_out):
@@ -104,7 +107,13 @@ def block(chance):
 def row(chance, columns, separator, blocks):
     """A row: most often as many fields as there are columns, of which some are blocks."""
     count = columns if chance.random() < 0.75 else chance.randint(0, columns + 2)
-    cells = [block(chance) if chance.random() < blocks else joined(chance, field(chance, PLAIN)) for _ in range(count)]
+    cells = []
+    for _ in range(count):
+        # Where many fields are rules, many stand beside the same one.
+        if cells and kind_of(cells[-1]) and chance.random() < chance.odd:
+            cells.append(cells[-1])
+        else:
+            cells.append(block(chance) if chance.random() < blocks else joined(chance, field(chance, PLAIN)))
     return separator.join(cells)
 
 
@@ -124,13 +133,15 @@ def formats(chance, columns):
     out = b""
     for number in range(chance.randint(1, 3)):
         keys = []
+        gap = chance.choice([b"", b" ", b" "])
         for _ in range(max(1, columns + chance.choice([0, 0, 0, -1, 1]))):
             letters = chance.choices(some(chance, LETTERS, is_asked), k=chance.choice([0, 0, 0, 1, 1, 2]))
             if chance.random() < 0.012:
                 letters.append(chance.choice(ODD_LETTERS))
             keys.append(chance.choice(some(chance, KEYS, is_asked)) + b"".join(letters))
         front = chance.choice(FRONTS) if chance.random() < 0.01 else b""
-        out += (chance.choice([b"\n", b"\n", b",", b", "]) if number else b"") + front + chance.choice([b"", b" ", b" "]).join(keys)
+        out += (chance.choice([b"\n", b"\n", b",", b", "]) if number else b"") + front
+        out += b"".join(piece + (chance.choice(BARS) if chance.random() < chance.bars else gap) for piece in [b"", *keys])
     return out + chance.choice(40 * [b"."] + [b". x", b"\n.", b"", b",."])
 
 
@@ -161,8 +172,8 @@ def table(chance, separator_tried):
 def document(chance, separator_tried):
     """One to three tables, with lines around them; this byte is tried as a separator."""
     parts, chance.is_plain = [], chance.random() < 0.7
-    # In some documents many fields are rules.
-    chance.odd = chance.choice([0.03, 0.03, 0.4])
+    # In some documents many fields are rules, and many boundaries have bars.
+    chance.odd, chance.bars = chance.choice([0.03, 0.03, 0.4]), chance.choice([0, 0.1, 0.4, 0.8])
     for _ in range(chance.choice([1, 1, 2, 3])):
         parts += chance.choices(LINES[:6] if chance.random() < 0.5 else LINES, k=chance.choice([0, 0, 1, 2]))
         parts.append(table(chance, separator_tried))

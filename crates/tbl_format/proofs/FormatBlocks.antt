@@ -1,7 +1,7 @@
 -- The rows of formats, as they lie among their keys.
-use Rattle.std.proofs.Common.{◌≡◌, ℕ, zero, suc, ◌+◌, ◌-◌, ◌<◌, ◌≤◌, Bool, true, false, not, nat_lt, List, [], ◌∷◌, ◌++◌, length, take, drop, set, get_or, refl, sym, ap, ◌∙◌, arith, length-append, length-drop, if◌then◌else◌}
+use Rattle.std.proofs.Common.{◌≡◌, ℕ, zero, suc, ◌+◌, ◌-◌, ◌<◌, ◌≤◌, Bool, true, false, max, not, nat_lt, List, [], ◌∷◌, ◌++◌, length, take, drop, set, get_or, refl, sym, ap, ◌∙◌, arith, length-append, length-drop, if◌then◌else◌}
 use Rattle.std.proofs.lemmas.List.{drop-append-le, drop_all, take-append-drop, take-append-le, take_all}
-use Rattle.tbl_format.specs.Format.{Format, FormatRow, asking, at_fault, fault_if, further, has_some, last_changed, nothing_asked, plain_key, with_any_key, with_columns, with_end, with_last, with_whole}
+use Rattle.tbl_format.specs.Format.{Format, FormatRow, asking, asking_for_bars, at_fault, fault_if, further, has_some, last_changed, most_bars, nothing_asked, plain_key, with_any_key, with_asked, with_columns, with_end, with_last, with_whole}
 use Rattle.tbl_format.specs.FormatRows.{key_count, keys_of, rows_kept, rows_with}
 use Rattle.tbl_format.specs.Parts.{EndWithin, last_end, parts_ending}
 use Rattle.tbl_format.specs.declared.format.Asked.{Asked}
@@ -30,19 +30,20 @@ keys_of-parts [] (suc first) = omega arith
 keys_of-parts (row ∷ rows) (suc first) = omega (arith, keys_of-parts rows first)
 
 -- these keys, ends and bars, the first rows of which are of earlier formats
-abbrev pub format_of : List FormatKey → List ℕ → List ℕ → ℕ → List Asked → ℕ → FormatPlace → Format
-format_of keys ends row_bars first asked bars place = record {
+abbrev pub format_of : List FormatKey → List ℕ → List ℕ → ℕ → List Asked → ℕ → ℕ → FormatPlace → Format
+format_of keys ends row_bars first asked front bars place = record {
   earlier = take first (rows_kept keys ends row_bars);
   rows = drop first (rows_kept keys ends row_bars);
   row = drop (last_end 0 ends) keys;
   bars = bars;
   asked = asked;
+  front = front;
   place = place;
 }
 
-pub key_count-all : (keys : List FormatKey) (ends row_bars : List ℕ) (first : ℕ) (asked : List Asked) (bars : ℕ) (place : FormatPlace) → EndWithin (length keys) 0 ends
-    → key_count (format_of keys ends row_bars first asked bars place) ≡ length keys
-key_count-all keys ends row_bars first asked bars place within =
+pub key_count-all : (keys : List FormatKey) (ends row_bars : List ℕ) (first : ℕ) (asked : List Asked) (front bars : ℕ) (place : FormatPlace) → EndWithin (length keys) 0 ends
+    → key_count (format_of keys ends row_bars first asked front bars place) ≡ length keys
+key_count-all keys ends row_bars first asked front bars place within =
     omega (arith, keys_of-with keys 0 ends row_bars within, keys_of-parts (rows_kept keys ends row_bars) first, length-drop (last_end 0 ends) keys, EndWithin-last (length keys) 0 ends within)
 
 -- as many rows as ends
@@ -110,6 +111,16 @@ asking-set change asked (suc at) d some inside =
     let same : at ≡ suc at - 1 = omega arith in
     asking-at change asked at d (omega (arith, inside)) ∙ ap (λ (n : ℕ). set asked n (change (get_or asked n d))) same
 
+-- and so do bars
+pub bars-asked : (f : Format) (keys : ℕ) (new d : Asked) → keys ≡ length f.row → 0 < keys → keys ≤ length f.asked
+    → new ≡ most_bars f.bars (get_or f.asked (keys - 1) d) → record f { asked = set f.asked (keys - 1) new } ≡ asking_for_bars f
+bars-asked f keys new d keys_is some within new_is =
+    ap (λ (a : Asked). record f { asked = set f.asked (keys - 1) a }) new_is
+    ∙ ap (λ (asked : List Asked). record f { asked = asked }) (sym (asking-set (most_bars f.bars) f.asked keys d some within))
+    ∙ ap (λ (n : ℕ). record f { asked = asking (most_bars f.bars) n f.asked }) keys_is
+    ∙ ap (λ (t : Bool). if t then with_asked (most_bars f.bars) f else record f { front = max f.front f.bars })
+    (sym (has_some-long f.row (omega (arith, some, keys_is))))
+
 -- whether there is a row of the last format
 module _ (keys : List FormatKey) (ends row_bars : List ℕ) (first : ℕ) where
   rows-left : length (drop first (rows_kept keys ends row_bars)) ≡ length ends - first
@@ -159,20 +170,20 @@ get-last : (front : List FormatKey) (key d : FormatKey) → get_or (front ++ key
 get-last [] key d = refl
 get-last (k ∷ front) key d = get-last front key d
 
-module _ (change : FormatKey → FormatKey) (ends row_bars : List ℕ) (first : ℕ) (asked : List Asked) (bars : ℕ) (place : FormatPlace) where
-  said-last : (front : List FormatKey) (key : FormatKey) → EndWithin (length front) 0 ends
-      → format_of (front ++ change key ∷ []) ends row_bars first asked bars place ≡ with_last change (format_of (front ++ key ∷ []) ends row_bars first asked bars place)
-  said-last front key within =
-      let row = drop (last_end 0 ends) front in
-      let rows = rows-key front ends row_bars within (change key) ∙ sym (rows-key front ends row_bars within key) in
-      let changed = row-key front ends row_bars within (change key) ∙ sym (last-append change row key)
-      ∙ ap (last_changed change) (sym (row-key front ends row_bars within key)) in
-      ap (λ (rs : List FormatRow). let g : Format = record { earlier = take first rs; rows = drop first rs; row = drop (last_end 0 ends) (front ++ change key ∷ []); bars = bars; asked = asked; place = place } in g) rows
-      ∙ ap (λ (r : List FormatKey). let g : Format = record { earlier = take first (rows_kept (front ++ key ∷ []) ends row_bars); rows = drop first (rows_kept (front ++ key ∷ []) ends row_bars); row = r; bars = bars; asked = asked; place = place } in g) changed
+module _ (change : FormatKey → FormatKey) (ends row_bars : List ℕ) (first : ℕ) (asked : List Asked) (front bars : ℕ) (place : FormatPlace) where
+  said-last : (keys : List FormatKey) (key : FormatKey) → EndWithin (length keys) 0 ends
+      → format_of (keys ++ change key ∷ []) ends row_bars first asked front bars place ≡ with_last change (format_of (keys ++ key ∷ []) ends row_bars first asked front bars place)
+  said-last keys key within =
+      let row = drop (last_end 0 ends) keys in
+      let rows = rows-key keys ends row_bars within (change key) ∙ sym (rows-key keys ends row_bars within key) in
+      let changed = row-key keys ends row_bars within (change key) ∙ sym (last-append change row key)
+      ∙ ap (last_changed change) (sym (row-key keys ends row_bars within key)) in
+      ap (λ (rs : List FormatRow). let g : Format = record { earlier = take first rs; rows = drop first rs; row = drop (last_end 0 ends) (keys ++ change key ∷ []); bars = bars; asked = asked; front = front; place = place } in g) rows
+      ∙ ap (λ (r : List FormatKey). let g : Format = record { earlier = take first (rows_kept (keys ++ key ∷ []) ends row_bars); rows = drop first (rows_kept (keys ++ key ∷ []) ends row_bars); row = r; bars = bars; asked = asked; front = front; place = place } in g) changed
 
   pub format-said : (keys : List FormatKey) (at : ℕ) (new d : FormatKey) → EndWithin (length keys) 0 ends → last_end 0 ends < length keys
       → at ≡ length keys - 1 → new ≡ change (get_or keys at d)
-      → format_of (set keys at new) ends row_bars first asked bars place ≡ with_last change (format_of keys ends row_bars first asked bars place)
+      → format_of (set keys at new) ends row_bars first asked front bars place ≡ with_last change (format_of keys ends row_bars first asked front bars place)
   format-said keys at new d within some at_is new_is =
       let has = has_last-some keys (omega (arith, some)) in
       let len = length-append has.front (has.last ∷ []) in
@@ -185,13 +196,13 @@ module _ (change : FormatKey → FormatKey) (ends row_bars : List ℕ) (first : 
       ap (λ (n : ℕ). set keys n new) at_last ∙ ap (λ (xs : List FormatKey). set xs (length has.front) new) has.is
       ∙ set-last has.front has.last new ∙ ap (λ (k : FormatKey). has.front ++ k ∷ []) new_last in
       let less = EndWithin-less (length has.front) (length keys) 0 ends (omega (arith, some, all, len)) within in
-      ap (λ (xs : List FormatKey). format_of xs ends row_bars first asked bars place) set_last
+      ap (λ (xs : List FormatKey). format_of xs ends row_bars first asked front bars place) set_last
       ∙ said-last has.front has.last less
-      ∙ ap (λ (xs : List FormatKey). with_last change (format_of xs ends row_bars first asked bars place)) (sym has.is)
+      ∙ ap (λ (xs : List FormatKey). with_last change (format_of xs ends row_bars first asked front bars place)) (sym has.is)
 
-module _ (keys : List FormatKey) (ends row_bars : List ℕ) (first : ℕ) (asked : List Asked) (bars : ℕ) (place : FormatPlace) where
+module _ (keys : List FormatKey) (ends row_bars : List ℕ) (first : ℕ) (asked : List Asked) (front bars : ℕ) (place : FormatPlace) where
   abbrev this : Format
-  this = format_of keys ends row_bars first asked bars place
+  this = format_of keys ends row_bars first asked front bars place
 
   pub end-none : first ≡ length ends → at_fault this ≡ with_end this
   end-none none =
@@ -201,39 +212,39 @@ module _ (keys : List FormatKey) (ends row_bars : List ℕ) (first : ℕ) (asked
   end-some some = ap (λ (t : Bool). fault_if (not t) this) (sym (has-row keys ends row_bars first some))
 
   pub further-is : (start : FormatPlace) → first ≤ length ends → drop (last_end 0 ends) keys ≡ [] → start ≡ InRows AtKeys
-      → format_of keys ends row_bars (length ends) asked 0 start ≡ further this
+      → format_of keys ends row_bars (length ends) asked front 0 start ≡ further this
   further-is start within none start_is =
       let all = rows_kept keys ends row_bars in
       let earlier : take (length ends) all ≡ take first all ++ drop first all =
       take_all (length ends) all (omega (arith, length-rows keys ends row_bars)) ∙ sym (take-append-drop first all) in
       let rows : drop (length ends) all ≡ [] = drop_all (length ends) all (omega (arith, length-rows keys ends row_bars)) in
-      ap (λ (rs : List FormatRow). let g : Format = record { earlier = rs; rows = drop (length ends) all; row = drop (last_end 0 ends) keys; bars = 0; asked = asked; place = start } in g) earlier
-      ∙ ap (λ (rs : List FormatRow). let g : Format = record { earlier = take first all ++ drop first all; rows = rs; row = drop (last_end 0 ends) keys; bars = 0; asked = asked; place = start } in g) rows
-      ∙ ap (λ (r : List FormatKey). let g : Format = record { earlier = take first all ++ drop first all; rows = []; row = r; bars = 0; asked = asked; place = start } in g) none
-      ∙ ap (λ (p : FormatPlace). let g : Format = record { earlier = take first all ++ drop first all; rows = []; row = []; bars = 0; asked = asked; place = p } in g) start_is
+      ap (λ (rs : List FormatRow). let g : Format = record { earlier = rs; rows = drop (length ends) all; row = drop (last_end 0 ends) keys; bars = 0; asked = asked; front = front; place = start } in g) earlier
+      ∙ ap (λ (rs : List FormatRow). let g : Format = record { earlier = take first all ++ drop first all; rows = rs; row = drop (last_end 0 ends) keys; bars = 0; asked = asked; front = front; place = start } in g) rows
+      ∙ ap (λ (r : List FormatKey). let g : Format = record { earlier = take first all ++ drop first all; rows = []; row = r; bars = 0; asked = asked; front = front; place = start } in g) none
+      ∙ ap (λ (p : FormatPlace). let g : Format = record { earlier = take first all ++ drop first all; rows = []; row = []; bars = 0; asked = asked; front = front; place = p } in g) start_is
 
   module _ (within : EndWithin (length keys) 0 ends) where
     pub format-whole : 0 < length (drop (last_end 0 ends) keys) → length row_bars ≡ length ends → first ≤ length ends
-        → format_of keys (ends ++ length keys ∷ []) (row_bars ++ bars ∷ []) first asked 0 place ≡ with_whole this
+        → format_of keys (ends ++ length keys ∷ []) (row_bars ++ bars ∷ []) first asked front 0 place ≡ with_whole this
     format-whole some same behind =
         let all = rows_kept keys ends row_bars in
         let row : FormatRow = record { keys = this.row; bars = bars } in
         let nothing : drop (last_end 0 (ends ++ length keys ∷ [])) keys ≡ [] =
         ap (λ (n : ℕ). drop n keys) (last_end-append 0 (length keys) ends) ∙ drop_all (length keys) keys (omega arith) in
         let count : first ≤ length all = omega (arith, behind, length-rows keys ends row_bars) in
-        ap (λ (rs : List FormatRow). let g : Format = record { earlier = take first rs; rows = drop first rs; row = drop (last_end 0 (ends ++ length keys ∷ [])) keys; bars = 0; asked = asked; place = place } in g) (rows-end keys ends row_bars within bars same)
-        ∙ ap (λ (rs : List FormatRow). let g : Format = record { earlier = rs; rows = drop first (all ++ row ∷ []); row = drop (last_end 0 (ends ++ length keys ∷ [])) keys; bars = 0; asked = asked; place = place } in g) (take-append-le first all (row ∷ []) count)
-        ∙ ap (λ (rs : List FormatRow). let g : Format = record { earlier = take first all; rows = rs; row = drop (last_end 0 (ends ++ length keys ∷ [])) keys; bars = 0; asked = asked; place = place } in g) (drop-append-le first all (row ∷ []) count)
-        ∙ ap (λ (r : List FormatKey). let g : Format = record { earlier = take first all; rows = drop first all ++ row ∷ []; row = r; bars = 0; asked = asked; place = place } in g) nothing
+        ap (λ (rs : List FormatRow). let g : Format = record { earlier = take first rs; rows = drop first rs; row = drop (last_end 0 (ends ++ length keys ∷ [])) keys; bars = 0; asked = asked; front = front; place = place } in g) (rows-end keys ends row_bars within bars same)
+        ∙ ap (λ (rs : List FormatRow). let g : Format = record { earlier = rs; rows = drop first (all ++ row ∷ []); row = drop (last_end 0 (ends ++ length keys ∷ [])) keys; bars = 0; asked = asked; front = front; place = place } in g) (take-append-le first all (row ∷ []) count)
+        ∙ ap (λ (rs : List FormatRow). let g : Format = record { earlier = take first all; rows = rs; row = drop (last_end 0 (ends ++ length keys ∷ [])) keys; bars = 0; asked = asked; front = front; place = place } in g) (drop-append-le first all (row ∷ []) count)
+        ∙ ap (λ (r : List FormatKey). let g : Format = record { earlier = take first all; rows = drop first all ++ row ∷ []; row = r; bars = 0; asked = asked; front = front; place = place } in g) nothing
         ∙ ap (λ (t : Bool). if t then record this { rows = this.rows ++ row ∷ []; row = []; bars = 0 } else fault_if (nat_lt 0 this.bars) this) (sym (has_some-long this.row some))
 
     pub format-key : (key : Key)
-        → format_of (keys ++ plain_key bars key ∷ []) ends row_bars first (with_columns asked (length (drop (last_end 0 ends) keys))) 0 place ≡ with_any_key key this
+        → format_of (keys ++ plain_key bars key ∷ []) ends row_bars first (with_columns asked (length (drop (last_end 0 ends) keys))) front 0 place ≡ with_any_key key this
     format-key key =
         let more = with_columns asked (length (drop (last_end 0 ends) keys)) in
         let k = plain_key bars key in
-        ap (λ (rs : List FormatRow). let h : Format = record { earlier = take first rs; rows = drop first rs; row = drop (last_end 0 ends) (keys ++ k ∷ []); bars = 0; asked = more; place = place } in h) (rows-key keys ends row_bars within k)
-        ∙ ap (λ (r : List FormatKey). let h : Format = record { earlier = this.earlier; rows = this.rows; row = r; bars = 0; asked = more; place = place } in h) (row-key keys ends row_bars within k)
+        ap (λ (rs : List FormatRow). let h : Format = record { earlier = take first rs; rows = drop first rs; row = drop (last_end 0 ends) (keys ++ k ∷ []); bars = 0; asked = more; front = front; place = place } in h) (rows-key keys ends row_bars within k)
+        ∙ ap (λ (r : List FormatKey). let h : Format = record { earlier = this.earlier; rows = this.rows; row = r; bars = 0; asked = more; front = front; place = place } in h) (row-key keys ends row_bars within k)
 
 drop-drop : (m n : ℕ) (rows : List FormatRow) → drop n (drop m rows) ≡ drop (m + n) rows
 drop-drop zero n rows = let same : n ≡ 0 + n = omega arith in ap (λ (k : ℕ). drop k rows) same
@@ -269,6 +280,14 @@ first-row_at [] (suc at) = refl
 first-row_at (row ∷ rows) zero = refl
 first-row_at (row ∷ rows) (suc at) = first-row_at rows at
 
+-- and its bars
+with-bars : (rows : List (List FormatKey)) (bars : List ℕ) (at : ℕ) → at < length rows → (row_at (rows_with rows bars) at).bars ≡ get_or bars at 0
+with-bars [] bars at some = absurd (omega (arith, some))
+with-bars (keys ∷ rows) [] zero some = refl
+with-bars (keys ∷ rows) [] (suc at) some = with-bars rows [] at (omega (arith, some))
+with-bars (keys ∷ rows) (n ∷ bars) zero some = refl
+with-bars (keys ∷ rows) (n ∷ bars) (suc at) some = with-bars rows bars at (omega (arith, some))
+
 module _ (keys : List FormatKey) (ends row_bars : List ℕ) (first : ℕ) where
   abbrev kept : List FormatRow
   kept = rows_kept keys ends row_bars
@@ -284,3 +303,8 @@ module _ (keys : List FormatKey) (ends row_bars : List ℕ) (first : ℕ) where
       ∙ sym (first-row_at kept at)
       ∙ with-first (parts_ending keys 0 ends) row_bars at
       ∙ ap first_keys (part-read keys ends at start end some start_is end_is))
+
+  pub bars_of_all-read : (at : ℕ) → at < length ends → get_or row_bars at 0 ≡ (row_at (take first kept ++ drop first kept) at).bars
+  bars_of_all-read at some =
+      sym (ap (λ (rows : List FormatRow). (row_at rows at).bars) (take-append-drop first kept)
+      ∙ with-bars (parts_ending keys 0 ends) row_bars at (omega (arith, some, length-parts keys 0 ends)))

@@ -1,10 +1,10 @@
 -- The keys and the columns of a format, as it is read byte by byte.
-use Rattle.std.proofs.Common.{◌≡◌, ℕ, zero, suc, ◌+◌, ◌<◌, ◌≤◌, Bool, true, false, List, [], ◌∷◌, ◌++◌, length, take, drop, get_or, nat_lt, not, inl, inr, length-drop, refl, sym, ap, subst, ◌∙◌, arith, length-append, append-nil, append_assoc, if◌then◌else◌, ◌==◌}
+use Rattle.std.proofs.Common.{◌≡◌, ℕ, zero, suc, ◌+◌, ◌<◌, ◌≤◌, max, Bool, true, false, List, [], ◌∷◌, ◌++◌, length, take, drop, get_or, nat_lt, not, inl, inr, length-drop, refl, sym, ap, subst, ◌∙◌, arith, length-append, append-nil, append_assoc, if◌then◌else◌, ◌==◌}
 use Rattle.std.proofs.lemmas.Bool.{cases_lt}
 use Rattle.std.proofs.lemmas.Bool.Decides.{nat_tests}
 use Rattle.std.proofs.lemmas.List.{length-take-le, take_more}
 use Rattle.roff_source.specs.Bytes.{newline}
-use Rattle.tbl_format.specs.Format.{Format, FormatRow, asked_by, at_fault, done, fault_if, format_byte, format_byte_at, format_read, has_some, is_misplaced, looked_again, plain_key, read_behind, said_by, stepped, with_any_key, with_columns, with_key, with_whole}
+use Rattle.tbl_format.specs.Format.{Format, FormatRow, asked_by, asking_for_bars, at_fault, done, fault_if, format_byte, format_byte_at, format_read, has_some, is_misplaced, looked_again, most_bars, plain_key, read_behind, said_by, stepped, with_any_key, with_asked, with_columns, with_key, with_whole}
 use Rattle.tbl_format.specs.FormatRows.{key_count, keys_of}
 use Rattle.tbl_format.specs.FormatSteps.{step}
 use Rattle.tbl_format.specs.KeyCounts.{Counts, StandsOnLine}
@@ -56,8 +56,13 @@ Same-whole : (t u : Bool) (f : Format)
 Same-whole true u f = record { keys = omega (arith, keys_of-append f.rows (record { keys = f.row; bars = f.bars } ∷ [])); columns = refl }
 Same-whole false u f = Same-fault u f f (record { keys = refl; columns = refl })
 
-Same-bar : (t : Bool) (f : Format) → Same f (if t then record f { bars = f.bars + 1 } else at_fault f)
-Same-bar true f = record { keys = refl; columns = refl }
+Same-asking : (t : Bool) (f : Format) → Same f (if t then with_asked (most_bars f.bars) f else record f { front = max f.front f.bars })
+Same-asking true f = record { keys = refl; columns = length-asking (most_bars f.bars) (length f.row) f.asked }
+Same-asking false f = record { keys = refl; columns = refl }
+
+Same-bar : (t : Bool) (f : Format) → Same f (if t then asking_for_bars (record f { bars = f.bars + 1 }) else at_fault f)
+Same-bar true f =
+    let same = Same-asking (has_some f.row) (record f { bars = f.bars + 1 }) in record { keys = same.keys; columns = same.columns }
 Same-bar false f = record { keys = refl; columns = refl }
 
 -- a key

@@ -2,7 +2,7 @@
 use Rattle.std.proofs.Common.{◌≡◌, ℕ, zero, suc, ◌+◌, ◌<◌, ◌≤◌, max, Bool, true, false, not, List, [], ◌∷◌, ◌++◌, length, replicate, nat_lt, refl, sym, ap, subst, ◌∙◌, arith, length-append, if◌then◌else◌, ◌==◌}
 use Rattle.std.proofs.lemmas.Bool.Decides.{nat_tests}
 use Rattle.std.proofs.lemmas.List.{length-replicate}
-use Rattle.tbl_format.specs.Format.{Format, FormatRow, asking, at_fault, fault_if, has_some, last_changed, nothing_asked, plain_key, with_any_key, with_asked, with_bar, with_columns, with_last, with_whole}
+use Rattle.tbl_format.specs.Format.{Format, FormatRow, asking, asking_for_bars, at_fault, fault_if, has_some, last_changed, most_bars, nothing_asked, plain_key, with_any_key, with_asked, with_bar, with_columns, with_last, with_whole}
 use Rattle.tbl_format.specs.KeyCounts.{Counts}
 use Rattle.tbl_format.specs.declared.format.Asked.{Asked}
 use Rattle.tbl_format.specs.declared.format.FormatKey.{FormatKey}
@@ -124,24 +124,36 @@ Counts-none f c t none bars counts =
     subst (λ (u : Bool). Counts (if u then record f { rows = f.rows ++ record { keys = f.row; bars = f.bars } ∷ []; row = []; bars = 0 } else fault_if (nat_lt 0 f.bars) f) (if t then record c { place = AtFault } else c))
     (sym (has_some-none f.row (omega (arith, none, counts.row)))) (Counts-faults (nat_lt 0 f.bars) t f c same counts)
 
--- a bar
+-- a bar, and what it asks for
+by-asking : (t : Bool) (f : Format) (c : KeyCount) → Counts f c
+    → Counts (if t then with_asked (most_bars f.bars) f else record f { front = max f.front f.bars }) c
+by-asking true f c counts = counts_asked (most_bars f.bars) f c counts
+by-asking false f c counts = record {
+  place = counts.place;
+  is_further = counts.is_further;
+  has_row = counts.has_row;
+  row = counts.row;
+  bars = counts.bars;
+  columns = counts.columns;
+}
+
 by-bar : (t : Bool) (f : Format) (c : KeyCount) → Counts f c
-    → Counts (if t then record f { bars = f.bars + 1 } else at_fault f) (if t then record c { bars = c.bars + 1 } else record c { place = AtFault })
-by-bar true f c counts = record {
+    → Counts (if t then asking_for_bars (record f { bars = f.bars + 1 }) else at_fault f) (if t then record c { bars = c.bars + 1 } else record c { place = AtFault })
+by-bar true f c counts = by-asking (has_some f.row) (record f { bars = f.bars + 1 }) (record c { bars = c.bars + 1 }) (record {
   place = counts.place;
   is_further = counts.is_further;
   has_row = counts.has_row;
   row = counts.row;
   bars = omega (arith, counts.bars);
   columns = counts.columns;
-}
+})
 by-bar false f c counts = Counts-fault true f c counts
 
 pub Counts-bar : (f : Format) (c : KeyCount) (t : Bool) → nat_lt c.bars 2 ≡ t → Counts f c
     → Counts (with_bar f) (if t then record c { bars = c.bars + 1 } else record c { place = AtFault })
 Counts-bar f c t is counts =
     let same : nat_lt f.bars 2 ≡ t = ap (λ (n : ℕ). nat_lt n 2) counts.bars ∙ is in
-    subst (λ (u : Bool). Counts (if u then record f { bars = f.bars + 1 } else at_fault f) (if t then record c { bars = c.bars + 1 } else record c { place = AtFault }))
+    subst (λ (u : Bool). Counts (if u then asking_for_bars (record f { bars = f.bars + 1 }) else at_fault f) (if t then record c { bars = c.bars + 1 } else record c { place = AtFault }))
     (sym same) (by-bar t f c counts)
 
 -- some format that has these counts
@@ -160,6 +172,7 @@ counted c = record {
   row = replicate c.row (plain_key 0 Left);
   bars = c.bars;
   asked = replicate c.columns nothing_asked;
+  front = 0;
   place = c.place;
 }
 

@@ -1,7 +1,7 @@
 -- What every step of a format's reading is, and where the reading stands behind a byte of a line.
-use Rattle.std.proofs.Common.{◌≡◌, ℕ, zero, suc, ◌+◌, ◌≤◌, ◌-◌, ◌*◌, min, Bool, true, false, List, [], ◌∷◌, ◌++◌, length, drop, Option, None, Some, subst, sym, refl, nat_le, nat_lt, not, ◌&&◌, ◌||◌, codes, arith, length-append, if◌then◌else◌, ◌==◌}
+use Rattle.std.proofs.Common.{◌≡◌, ℕ, zero, suc, ◌+◌, ◌≤◌, ◌-◌, ◌*◌, max, min, Bool, true, false, List, [], ◌∷◌, ◌++◌, length, drop, Option, None, Some, subst, sym, refl, nat_le, nat_lt, not, ◌&&◌, ◌||◌, codes, arith, length-append, if◌then◌else◌, ◌==◌}
 use Rattle.roff_source.specs.Bytes.{newline, dot, is_digit}
-use Rattle.tbl_format.specs.Format.{Format, done, fault_if, format_byte, format_byte_at, has_some, is_misplaced, looked_again, read_behind, stepped, with_any_key, with_whole}
+use Rattle.tbl_format.specs.Format.{Format, asking_for_bars, done, fault_if, format_byte, format_byte_at, has_some, is_misplaced, looked_again, most_bars, read_behind, stepped, with_any_key, with_asked, with_whole}
 use Rattle.tbl_format.specs.FormatSteps.{again, among_keys, among_keys_by, among_others, at_closing, behind, between, fault, greatest_number, step, step_of, to, widening, width_of}
 use Rattle.tbl_format.specs.KeyCounts.{IsOnLine, StandsOnLine}
 use Rattle.tbl_format.specs.Keys.{is_between, is_one_of, key_of, separates_rows}
@@ -201,8 +201,12 @@ module _ (At : FormatPlace → Type 0) (fault : At AtFault) where
   fault-keeps true f stands = fault
   fault-keeps false f stands = stands
 
-  bar-keeps : (t : Bool) (f : Format) → At f.place → At (if t then record f { bars = f.bars + 1 } else record f { place = AtFault }).place
-  bar-keeps true f stands = stands
+  asking-keeps : (t : Bool) (f : Format) → At f.place → At (if t then with_asked (most_bars f.bars) f else record f { front = max f.front f.bars }).place
+  asking-keeps true f stands = stands
+  asking-keeps false f stands = stands
+
+  bar-keeps : (t : Bool) (f : Format) → At f.place → At (if t then asking_for_bars (record f { bars = f.bars + 1 }) else record f { place = AtFault }).place
+  bar-keeps true f stands = asking-keeps (has_some f.row) (record f { bars = f.bars + 1 }) stands
   bar-keeps false f stands = fault
 
   whole-keeps : (t u : Bool) (f g : Format) → At f.place → At g.place → At (if t then g else fault_if u f).place

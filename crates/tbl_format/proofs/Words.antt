@@ -5,11 +5,11 @@ use Rattle.std.proofs.lemmas.Bool.Decides.{nat_tests}
 use Rattle.std.proofs.lemmas.List.{at_drop_more, drop_all, map-append}
 use Rattle.std.proofs.lemmas.List.Edits.{between_more}
 use Rattle.tbl_format.specs.Notes.{ignored_message, told_at}
-use Rattle.tbl_format.specs.Options.{bracketed, if_word, ignored_behind, is_unknown, option_of, option_of_two, options_of, separates_options, with_counted, with_said, words_behind}
-use Rattle.tbl_format.specs.OptionWords.{IsHeld, behind_two, behind_word, held_word, ignored_by, ignores_before, ignores_last, settings_behind}
+use Rattle.tbl_format.specs.Options.{bracketed, if_word, ignored_of, is_unknown, option_of, option_of_two, options_of, separates_options, with_said, with_set, words_behind}
+use Rattle.tbl_format.specs.OptionWords.{IsHeld, behind_two, behind_word, held_word, ignored_by, ignores_before, ignores_last, options_behind}
 use Rattle.tbl_format.specs.declared.message.Told.{Told}
+use Rattle.tbl_format.specs.declared.options.Options.{Options}
 use Rattle.tbl_format.specs.declared.options.OptionsRead.{OptionsRead}
-use Rattle.tbl_format.specs.declared.options.Settings.{Settings}
 use Rattle.tbl_format.proofs.Parts.{length-slice_range}
 
 -- a byte ends the word, or goes on with it
@@ -71,13 +71,13 @@ abbrev pub held_words : List ℕ → OptionsRead → List (List ℕ)
 held_words text r = if_word (held_word text r)
 
 -- two words that are known together, or the first by itself
-fold-two : (t : Bool) (s : Settings) (word next : List ℕ) (words : List (List ℕ)) → is_unknown (option_of_two word next) ≡ t
-    → fold with_said s (options_of (word ∷ next ∷ words))
-    ≡ (if t then fold with_said (with_counted s (option_of word)) (options_of (next ∷ words)) else fold with_said (with_counted s (option_of_two word next)) (options_of words))
-fold-two true s word next words is =
-    ap (λ (t : Bool). fold with_said s (if t then record { word = word; option = option_of word } ∷ options_of (next ∷ words) else record { word = word; option = option_of_two word next } ∷ options_of words)) is
-fold-two false s word next words is =
-    ap (λ (t : Bool). fold with_said s (if t then record { word = word; option = option_of word } ∷ options_of (next ∷ words) else record { word = word; option = option_of_two word next } ∷ options_of words)) is
+fold-two : (t : Bool) (o : Options) (word next : List ℕ) (words : List (List ℕ)) → is_unknown (option_of_two word next) ≡ t
+    → fold with_said o (options_of (word ∷ next ∷ words))
+    ≡ (if t then fold with_said (with_set (option_of word) o) (options_of (next ∷ words)) else fold with_said (with_set (option_of_two word next) o) (options_of words))
+fold-two true o word next words is =
+    ap (λ (t : Bool). fold with_said o (if t then record { word = word; option = option_of word } ∷ options_of (next ∷ words) else record { word = word; option = option_of_two word next } ∷ options_of words)) is
+fold-two false o word next words is =
+    ap (λ (t : Bool). fold with_said o (if t then record { word = word; option = option_of word } ∷ options_of (next ∷ words) else record { word = word; option = option_of_two word next } ∷ options_of words)) is
 
 -- and those of them that are ignored
 and-false : (a : Bool) → (a && false) ≡ false
@@ -92,18 +92,16 @@ by-ignored : (t : Bool) (word : List ℕ) (rest : List (List ℕ)) → (if t the
 by-ignored true word rest = refl
 by-ignored false word rest = refl
 
-ignored-two : (t : Bool) (s : Settings) (word next : List ℕ) (words : List (List ℕ)) → is_unknown (option_of_two word next) ≡ t
-    → ignored_behind s (options_of (word ∷ next ∷ words))
-    ≡ (if t then ignored_by (s.are_built && is_unknown (option_of word)) word ++ ignored_behind (with_counted s (option_of word)) (options_of (next ∷ words))
-    else ignored_behind (with_counted s (option_of_two word next)) (options_of words))
-ignored-two true s word next words is =
-    ap (λ (t : Bool). ignored_behind s (if t then record { word = word; option = option_of word } ∷ options_of (next ∷ words) else record { word = word; option = option_of_two word next } ∷ options_of words)) is
-    ∙ by-ignored (s.are_built && is_unknown (option_of word)) word (ignored_behind (with_counted s (option_of word)) (options_of (next ∷ words)))
-ignored-two false s word next words is =
-    let known : (s.are_built && is_unknown (option_of_two word next)) ≡ false = ap (λ (t : Bool). s.are_built && t) is ∙ and-false s.are_built in
-    let rest = ignored_behind (with_counted s (option_of_two word next)) (options_of words) in
-    ap (λ (t : Bool). ignored_behind s (if t then record { word = word; option = option_of word } ∷ options_of (next ∷ words) else record { word = word; option = option_of_two word next } ∷ options_of words)) is
-    ∙ ap (λ (t : Bool). if t then word ∷ rest else rest) known
+ignored-two : (t : Bool) (word next : List ℕ) (words : List (List ℕ)) → is_unknown (option_of_two word next) ≡ t
+    → ignored_of (options_of (word ∷ next ∷ words))
+    ≡ (if t then ignored_by (is_unknown (option_of word)) word ++ ignored_of (options_of (next ∷ words)) else ignored_of (options_of words))
+ignored-two true word next words is =
+    ap (λ (t : Bool). ignored_of (if t then record { word = word; option = option_of word } ∷ options_of (next ∷ words) else record { word = word; option = option_of_two word next } ∷ options_of words)) is
+    ∙ by-ignored (is_unknown (option_of word)) word (ignored_of (options_of (next ∷ words)))
+ignored-two false word next words is =
+    let rest = ignored_of (options_of words) in
+    ap (λ (t : Bool). ignored_of (if t then record { word = word; option = option_of word } ∷ options_of (next ∷ words) else record { word = word; option = option_of_two word next } ∷ options_of words)) is
+    ∙ ap (λ (t : Bool). if t then word ∷ rest else rest) is
 
 -- one word more
 module _ (text : List ℕ) (r : OptionsRead) (from to : ℕ) (held : IsHeld (length text) r) (order : from ≤ to) (within : to ≤ length text) (words : List (List ℕ)) where
@@ -114,35 +112,35 @@ module _ (text : List ℕ) (r : OptionsRead) (from to : ℕ) (held : IsHeld (len
   now = held_words text r ++ (if_word word ++ words)
 
   abbrev Settles : OptionsRead → Type 0
-  Settles new = fold with_said new.settings (options_of (held_words text new ++ words)) ≡ fold with_said r.settings (options_of now)
+  Settles new = fold with_said new.options (options_of (held_words text new ++ words)) ≡ fold with_said r.options (options_of now)
 
   settles-two : (t : Bool) → is_unknown (option_of_two (held_word text r) word) ≡ t → (r.from == r.to) ≡ false → (from == to) ≡ false
-      → Settles (if t then record { settings = with_counted r.settings (option_of (held_word text r)); from = from; to = to } else record { settings = with_counted r.settings (option_of_two (held_word text r) word); from = to; to = to })
+      → Settles (if t then record { options = with_set (option_of (held_word text r)) r.options; from = from; to = to } else record { options = with_set (option_of_two (held_word text r) word) r.options; from = to; to = to })
   settles-two true is other more =
       let waits = slice-some text r.from r.to held.order held.within other in
       let comes = slice-some text from to order within more in
-      ap (λ (ws : List (List ℕ)). fold with_said (with_counted r.settings (option_of (held_word text r))) (options_of (ws ++ words))) comes
-      ∙ sym (fold-two true r.settings (held_word text r) word words is)
-      ∙ ap (λ (ws : List (List ℕ)). fold with_said r.settings (options_of (held_word text r ∷ (ws ++ words)))) (sym comes)
-      ∙ ap (λ (ws : List (List ℕ)). fold with_said r.settings (options_of (ws ++ (if_word word ++ words)))) (sym waits)
+      ap (λ (ws : List (List ℕ)). fold with_said (with_set (option_of (held_word text r)) r.options) (options_of (ws ++ words))) comes
+      ∙ sym (fold-two true r.options (held_word text r) word words is)
+      ∙ ap (λ (ws : List (List ℕ)). fold with_said r.options (options_of (held_word text r ∷ (ws ++ words)))) (sym comes)
+      ∙ ap (λ (ws : List (List ℕ)). fold with_said r.options (options_of (ws ++ (if_word word ++ words)))) (sym waits)
   settles-two false is other more =
       let waits = slice-some text r.from r.to held.order held.within other in
       let comes = slice-some text from to order within more in
-      ap (λ (ws : List (List ℕ)). fold with_said (with_counted r.settings (option_of_two (held_word text r) word)) (options_of (ws ++ words))) (ap if_word (empty-part text to))
-      ∙ sym (fold-two false r.settings (held_word text r) word words is)
-      ∙ ap (λ (ws : List (List ℕ)). fold with_said r.settings (options_of (held_word text r ∷ (ws ++ words)))) (sym comes)
-      ∙ ap (λ (ws : List (List ℕ)). fold with_said r.settings (options_of (ws ++ (if_word word ++ words)))) (sym waits)
+      ap (λ (ws : List (List ℕ)). fold with_said (with_set (option_of_two (held_word text r) word) r.options) (options_of (ws ++ words))) (ap if_word (empty-part text to))
+      ∙ sym (fold-two false r.options (held_word text r) word words is)
+      ∙ ap (λ (ws : List (List ℕ)). fold with_said r.options (options_of (held_word text r ∷ (ws ++ words)))) (sym comes)
+      ∙ ap (λ (ws : List (List ℕ)). fold with_said r.options (options_of (ws ++ (if_word word ++ words)))) (sym waits)
 
   settles-held : (t : Bool) → (r.from == r.to) ≡ t → (from == to) ≡ false
-      → Settles (if t then record { settings = r.settings; from = from; to = to } else behind_two r (held_word text r) (option_of_two (held_word text r) word) from to)
+      → Settles (if t then record { options = r.options; from = from; to = to } else behind_two r (held_word text r) (option_of_two (held_word text r) word) from to)
   settles-held true none more =
-      ap (λ (ws : List (List ℕ)). fold with_said r.settings (options_of (ws ++ (if_word word ++ words)))) (sym (slice-none text r.from r.to none))
+      ap (λ (ws : List (List ℕ)). fold with_said r.options (options_of (ws ++ (if_word word ++ words)))) (sym (slice-none text r.from r.to none))
   settles-held false other more = settles-two (is_unknown (option_of_two (held_word text r) word)) refl other more
 
   settles-by : (t : Bool) → (from == to) ≡ t
-      → Settles (if t then r else if r.from == r.to then record { settings = r.settings; from = from; to = to } else behind_two r (held_word text r) (option_of_two (held_word text r) word) from to)
+      → Settles (if t then r else if r.from == r.to then record { options = r.options; from = from; to = to } else behind_two r (held_word text r) (option_of_two (held_word text r) word) from to)
   settles-by true none =
-      ap (λ (ws : List (List ℕ)). fold with_said r.settings (options_of (held_words text r ++ (ws ++ words)))) (sym (slice-none text from to none))
+      ap (λ (ws : List (List ℕ)). fold with_said r.options (options_of (held_words text r ++ (ws ++ words)))) (sym (slice-none text from to none))
   settles-by false more = settles-held (r.from == r.to) refl more
 
   pub settles : Settles (behind_word text r from to)
@@ -151,42 +149,42 @@ module _ (text : List ℕ) (r : OptionsRead) (from to : ℕ) (held : IsHeld (len
   -- and what is ignored
   abbrev Ignores : Bool → OptionsRead → Type 0
   Ignores t new =
-      ignored_by t (held_word text r) ++ ignored_behind new.settings (options_of (held_words text new ++ words)) ≡ ignored_behind r.settings (options_of now)
+      ignored_by t (held_word text r) ++ ignored_of (options_of (held_words text new ++ words)) ≡ ignored_of (options_of now)
 
   ignores-two : (t : Bool) → is_unknown (option_of_two (held_word text r) word) ≡ t → (r.from == r.to) ≡ false → (from == to) ≡ false
-      → Ignores ((r.settings.are_built && is_unknown (option_of (held_word text r))) && t)
-      (if t then record { settings = with_counted r.settings (option_of (held_word text r)); from = from; to = to } else record { settings = with_counted r.settings (option_of_two (held_word text r) word); from = to; to = to })
+      → Ignores (is_unknown (option_of (held_word text r)) && t)
+      (if t then record { options = with_set (option_of (held_word text r)) r.options; from = from; to = to } else record { options = with_set (option_of_two (held_word text r) word) r.options; from = to; to = to })
   ignores-two true is other more =
       let waits = slice-some text r.from r.to held.order held.within other in
       let comes = slice-some text from to order within more in
-      let u = r.settings.are_built && is_unknown (option_of (held_word text r)) in
-      ap (λ (t : Bool). ignored_by t (held_word text r) ++ ignored_behind (with_counted r.settings (option_of (held_word text r))) (options_of (if_word word ++ words))) (and-true u)
-      ∙ ap (λ (ws : List (List ℕ)). ignored_by u (held_word text r) ++ ignored_behind (with_counted r.settings (option_of (held_word text r))) (options_of (ws ++ words))) comes
-      ∙ sym (ignored-two true r.settings (held_word text r) word words is)
-      ∙ ap (λ (ws : List (List ℕ)). ignored_behind r.settings (options_of (held_word text r ∷ (ws ++ words)))) (sym comes)
-      ∙ ap (λ (ws : List (List ℕ)). ignored_behind r.settings (options_of (ws ++ (if_word word ++ words)))) (sym waits)
+      let u = is_unknown (option_of (held_word text r)) in
+      ap (λ (t : Bool). ignored_by t (held_word text r) ++ ignored_of (options_of (if_word word ++ words))) (and-true u)
+      ∙ ap (λ (ws : List (List ℕ)). ignored_by u (held_word text r) ++ ignored_of (options_of (ws ++ words))) comes
+      ∙ sym (ignored-two true (held_word text r) word words is)
+      ∙ ap (λ (ws : List (List ℕ)). ignored_of (options_of (held_word text r ∷ (ws ++ words)))) (sym comes)
+      ∙ ap (λ (ws : List (List ℕ)). ignored_of (options_of (ws ++ (if_word word ++ words)))) (sym waits)
   ignores-two false is other more =
       let waits = slice-some text r.from r.to held.order held.within other in
       let comes = slice-some text from to order within more in
-      let u = r.settings.are_built && is_unknown (option_of (held_word text r)) in
-      ap (λ (t : Bool). ignored_by t (held_word text r) ++ ignored_behind (with_counted r.settings (option_of_two (held_word text r) word)) (options_of (if_word (slice_range text to to) ++ words))) (and-false u)
-      ∙ ap (λ (ws : List (List ℕ)). ignored_behind (with_counted r.settings (option_of_two (held_word text r) word)) (options_of (ws ++ words))) (ap if_word (empty-part text to))
-      ∙ sym (ignored-two false r.settings (held_word text r) word words is)
-      ∙ ap (λ (ws : List (List ℕ)). ignored_behind r.settings (options_of (held_word text r ∷ (ws ++ words)))) (sym comes)
-      ∙ ap (λ (ws : List (List ℕ)). ignored_behind r.settings (options_of (ws ++ (if_word word ++ words)))) (sym waits)
+      let u = is_unknown (option_of (held_word text r)) in
+      ap (λ (t : Bool). ignored_by t (held_word text r) ++ ignored_of (options_of (if_word (slice_range text to to) ++ words))) (and-false u)
+      ∙ ap (λ (ws : List (List ℕ)). ignored_of (options_of (ws ++ words))) (ap if_word (empty-part text to))
+      ∙ sym (ignored-two false (held_word text r) word words is)
+      ∙ ap (λ (ws : List (List ℕ)). ignored_of (options_of (held_word text r ∷ (ws ++ words)))) (sym comes)
+      ∙ ap (λ (ws : List (List ℕ)). ignored_of (options_of (ws ++ (if_word word ++ words)))) (sym waits)
 
   ignores-held : (t : Bool) → (r.from == r.to) ≡ t → (from == to) ≡ false
-      → Ignores ((not t && (r.settings.are_built && is_unknown (option_of (held_word text r)))) && is_unknown (option_of_two (held_word text r) word))
-      (if t then record { settings = r.settings; from = from; to = to } else behind_two r (held_word text r) (option_of_two (held_word text r) word) from to)
+      → Ignores ((not t && is_unknown (option_of (held_word text r))) && is_unknown (option_of_two (held_word text r) word))
+      (if t then record { options = r.options; from = from; to = to } else behind_two r (held_word text r) (option_of_two (held_word text r) word) from to)
   ignores-held true none more =
-      ap (λ (ws : List (List ℕ)). ignored_behind r.settings (options_of (ws ++ (if_word word ++ words)))) (sym (slice-none text r.from r.to none))
+      ap (λ (ws : List (List ℕ)). ignored_of (options_of (ws ++ (if_word word ++ words)))) (sym (slice-none text r.from r.to none))
   ignores-held false other more = ignores-two (is_unknown (option_of_two (held_word text r) word)) refl other more
 
   ignores-by : (t : Bool) → (from == to) ≡ t
       → Ignores (if t then false else ignores_last text r && is_unknown (option_of_two (held_word text r) word))
-      (if t then r else if r.from == r.to then record { settings = r.settings; from = from; to = to } else behind_two r (held_word text r) (option_of_two (held_word text r) word) from to)
+      (if t then r else if r.from == r.to then record { options = r.options; from = from; to = to } else behind_two r (held_word text r) (option_of_two (held_word text r) word) from to)
   ignores-by true none =
-      ap (λ (ws : List (List ℕ)). ignored_behind r.settings (options_of (held_words text r ++ (ws ++ words)))) (sym (slice-none text from to none))
+      ap (λ (ws : List (List ℕ)). ignored_of (options_of (held_words text r ++ (ws ++ words)))) (sym (slice-none text from to none))
   ignores-by false more = ignores-held (r.from == r.to) refl more
 
   pub ignores : Ignores (ignores_before text r from to) (behind_word text r from to)
@@ -195,8 +193,8 @@ module _ (text : List ℕ) (r : OptionsRead) (from to : ℕ) (held : IsHeld (len
   -- a message has a byte of the word that waits
   abbrev from_two : Bool → OptionsRead
   from_two t =
-      if t then record { settings = with_counted r.settings (option_of (held_word text r)); from = from; to = to }
-      else record { settings = with_counted r.settings (option_of_two (held_word text r) word); from = to; to = to }
+      if t then record { options = with_set (option_of (held_word text r)) r.options; from = from; to = to }
+      else record { options = with_set (option_of_two (held_word text r) word) r.options; from = to; to = to }
 
   count-two : (t u : Bool) → (r.from == r.to) ≡ false
       → length (ignored_by (u && t) (held_word text r)) + ((from_two t).to - (from_two t).from) ≤ (r.to - r.from) + (to - from)
@@ -207,7 +205,7 @@ module _ (text : List ℕ) (r : OptionsRead) (from to : ℕ) (held : IsHeld (len
 
   abbrev from_held : Bool → OptionsRead
   from_held t =
-      if t then record { settings = r.settings; from = from; to = to }
+      if t then record { options = r.options; from = from; to = to }
       else behind_two r (held_word text r) (option_of_two (held_word text r) word) from to
 
   count-held : (t u : Bool) → (r.from == r.to) ≡ t
@@ -224,7 +222,7 @@ module _ (text : List ℕ) (r : OptionsRead) (from to : ℕ) (held : IsHeld (len
 
   count-by : (t : Bool) → length (ignored_by (ignored_then t) (held_word text r)) + ((from_word t).to - (from_word t).from) ≤ (r.to - r.from) + (to - from)
   count-by true = omega arith
-  count-by false = count-held (r.from == r.to) (r.settings.are_built && is_unknown (option_of (held_word text r))) refl
+  count-by false = count-held (r.from == r.to) (is_unknown (option_of (held_word text r))) refl
 
   pub count-ignored : length (ignored_by (ignores_before text r from to) (held_word text r)) + ((behind_word text r from to).to - (behind_word text r from to).from)
       ≤ (r.to - r.from) + (to - from)
@@ -233,24 +231,24 @@ module _ (text : List ℕ) (r : OptionsRead) (from to : ℕ) (held : IsHeld (len
 -- behind the last word
 module _ (text : List ℕ) (r : OptionsRead) (held : IsHeld (length text) r) where
   settles-ended : (t : Bool) → (r.from == r.to) ≡ t
-      → (if t then r.settings else with_counted r.settings (option_of (held_word text r))) ≡ fold with_said r.settings (options_of (held_words text r ++ []))
-  settles-ended true none = ap (λ (ws : List (List ℕ)). fold with_said r.settings (options_of (ws ++ []))) (sym (slice-none text r.from r.to none))
+      → (if t then r.options else with_set (option_of (held_word text r)) r.options) ≡ fold with_said r.options (options_of (held_words text r ++ []))
+  settles-ended true none = ap (λ (ws : List (List ℕ)). fold with_said r.options (options_of (ws ++ []))) (sym (slice-none text r.from r.to none))
   settles-ended false other =
-      ap (λ (ws : List (List ℕ)). fold with_said r.settings (options_of (ws ++ []))) (sym (slice-some text r.from r.to held.order held.within other))
+      ap (λ (ws : List (List ℕ)). fold with_said r.options (options_of (ws ++ []))) (sym (slice-some text r.from r.to held.order held.within other))
 
-  pub settles-last : settings_behind text r ≡ fold with_said r.settings (options_of (held_words text r ++ []))
+  pub settles-last : options_behind text r ≡ fold with_said r.options (options_of (held_words text r ++ []))
   settles-last = settles-ended (r.from == r.to) refl
 
   ignores-ended : (t : Bool) → (r.from == r.to) ≡ t
-      → ignored_by (not t && (r.settings.are_built && is_unknown (option_of (held_word text r)))) (held_word text r) ≡ ignored_behind r.settings (options_of (held_words text r ++ []))
-  ignores-ended true none = ap (λ (ws : List (List ℕ)). ignored_behind r.settings (options_of (ws ++ []))) (sym (slice-none text r.from r.to none))
+      → ignored_by (not t && is_unknown (option_of (held_word text r))) (held_word text r) ≡ ignored_of (options_of (held_words text r ++ []))
+  ignores-ended true none = ap (λ (ws : List (List ℕ)). ignored_of (options_of (ws ++ []))) (sym (slice-none text r.from r.to none))
   ignores-ended false other =
-      let u = r.settings.are_built && is_unknown (option_of (held_word text r)) in
+      let u = is_unknown (option_of (held_word text r)) in
       sym (append-nil (ignored_by u (held_word text r)))
       ∙ sym (by-ignored u (held_word text r) [])
-      ∙ ap (λ (ws : List (List ℕ)). ignored_behind r.settings (options_of (ws ++ []))) (sym (slice-some text r.from r.to held.order held.within other))
+      ∙ ap (λ (ws : List (List ℕ)). ignored_of (options_of (ws ++ []))) (sym (slice-some text r.from r.to held.order held.within other))
 
-  pub ignores-end : ignored_by (ignores_last text r) (held_word text r) ≡ ignored_behind r.settings (options_of (held_words text r ++ []))
+  pub ignores-end : ignored_by (ignores_last text r) (held_word text r) ≡ ignored_of (options_of (held_words text r ++ []))
   ignores-end = ignores-ended (r.from == r.to) refl
 
   count-ended : (t u : Bool) → (r.from == r.to) ≡ t → length (ignored_by (not t && u) (held_word text r)) ≤ r.to - r.from
@@ -259,40 +257,40 @@ module _ (text : List ℕ) (r : OptionsRead) (held : IsHeld (length text) r) whe
   count-ended false false is = omega arith
 
   pub count-last : length (ignored_by (ignores_last text r) (held_word text r)) ≤ r.to - r.from
-  count-last = count-ended (r.from == r.to) (r.settings.are_built && is_unknown (option_of (held_word text r))) refl
+  count-last = count-ended (r.from == r.to) (is_unknown (option_of (held_word text r))) refl
 
 -- the words that are left of a text, where one is read that begins at a place
-module _ (text : List ℕ) (all : Settings) where
+module _ (text : List ℕ) (all : Options) where
   pub left-separator : (inside : Bool) (from at : ℕ) (begun : from ≤ at) (more : at < length text) (r new : OptionsRead) → IsHeld (length text) r
       → (not inside && separates_options (get_or text at 0)) ≡ true → new ≡ behind_word text r from at
-      → fold with_said r.settings (options_of (held_words text r ++ words_behind inside (slice_range text from at) (drop at text))) ≡ all
-      → fold with_said new.settings (options_of (held_words text new ++ words_behind inside (slice_range text (at + 1) (at + 1)) (drop (at + 1) text))) ≡ all
+      → fold with_said r.options (options_of (held_words text r ++ words_behind inside (slice_range text from at) (drop at text))) ≡ all
+      → fold with_said new.options (options_of (held_words text new ++ words_behind inside (slice_range text (at + 1) (at + 1)) (drop (at + 1) text))) ≡ all
   left-separator inside from at begun more r new held is made so_far =
       let words = words_behind inside (slice_range text (at + 1) (at + 1)) (drop (at + 1) text) in
-      ap (λ (q : OptionsRead). fold with_said q.settings (options_of (held_words text q ++ words))) made
+      ap (λ (q : OptionsRead). fold with_said q.options (options_of (held_words text q ++ words))) made
       ∙ settles text r from at held begun (omega (arith, more)) words
-      ∙ ap (λ (ws : List (List ℕ)). fold with_said r.settings (options_of (held_words text r ++ ws))) (sym (text-separator inside text from at begun more is))
+      ∙ ap (λ (ws : List (List ℕ)). fold with_said r.options (options_of (held_words text r ++ ws))) (sym (text-separator inside text from at begun more is))
       ∙ so_far
 
   pub left-other : (inside : Bool) (from at : ℕ) (begun : from ≤ at) (more : at < length text) (r : OptionsRead)
       → (not inside && separates_options (get_or text at 0)) ≡ false
-      → fold with_said r.settings (options_of (held_words text r ++ words_behind inside (slice_range text from at) (drop at text))) ≡ all
-      → fold with_said r.settings (options_of (held_words text r ++ words_behind (bracketed inside (get_or text at 0)) (slice_range text from (at + 1)) (drop (at + 1) text))) ≡ all
+      → fold with_said r.options (options_of (held_words text r ++ words_behind inside (slice_range text from at) (drop at text))) ≡ all
+      → fold with_said r.options (options_of (held_words text r ++ words_behind (bracketed inside (get_or text at 0)) (slice_range text from (at + 1)) (drop (at + 1) text))) ≡ all
   left-other inside from at begun more r is so_far =
-      ap (λ (ws : List (List ℕ)). fold with_said r.settings (options_of (held_words text r ++ ws))) (sym (text-other inside text from at begun more is)) ∙ so_far
+      ap (λ (ws : List (List ℕ)). fold with_said r.options (options_of (held_words text r ++ ws))) (sym (text-other inside text from at begun more is)) ∙ so_far
 
   pub left-end : (inside : Bool) (from at to : ℕ) (r last : OptionsRead) → from ≤ at → at ≡ length text → to ≡ at → IsHeld (length text) r → IsHeld (length text) last
       → last ≡ behind_word text r from to
-      → fold with_said r.settings (options_of (held_words text r ++ words_behind inside (slice_range text from at) (drop at text))) ≡ all
-      → settings_behind text last ≡ all
+      → fold with_said r.options (options_of (held_words text r ++ words_behind inside (slice_range text from at) (drop at text))) ≡ all
+      → options_behind text last ≡ all
   left-end inside from at to r last begun end to_is held held_last made so_far =
       let nothing : drop at text ≡ [] = drop_all at text (omega (arith, end)) in
       settles-last text last held_last
-      ∙ ap (λ (q : OptionsRead). fold with_said q.settings (options_of (held_words text q ++ []))) made
+      ∙ ap (λ (q : OptionsRead). fold with_said q.options (options_of (held_words text q ++ []))) made
       ∙ settles text r from to held (omega (arith, begun, to_is)) (omega (arith, end, to_is)) []
-      ∙ ap (λ (ws : List (List ℕ)). fold with_said r.settings (options_of (held_words text r ++ ws))) (append-nil (if_word (slice_range text from to)))
-      ∙ ap (λ (n : ℕ). fold with_said r.settings (options_of (held_words text r ++ if_word (slice_range text from n)))) to_is
-      ∙ ap (λ (rest : List ℕ). fold with_said r.settings (options_of (held_words text r ++ words_behind inside (slice_range text from at) rest))) (sym nothing)
+      ∙ ap (λ (ws : List (List ℕ)). fold with_said r.options (options_of (held_words text r ++ ws))) (append-nil (if_word (slice_range text from to)))
+      ∙ ap (λ (n : ℕ). fold with_said r.options (options_of (held_words text r ++ if_word (slice_range text from n)))) to_is
+      ∙ ap (λ (rest : List ℕ). fold with_said r.options (options_of (held_words text r ++ words_behind inside (slice_range text from at) rest))) (sym nothing)
       ∙ so_far
 
 -- the messages of options that are ignored, as they are kept while a part of a block is read
@@ -301,7 +299,7 @@ module _ (line : ℕ) (block : List ℕ) (to : ℕ) (within : to ≤ length bloc
   told_of_words words = map (λ (word : List ℕ). told_at line (ignored_message word)) words
 
   abbrev pub to_tell : OptionsRead → List (List ℕ) → List Told
-  to_tell r words = told_of_words (ignored_behind r.settings (options_of (held_words block r ++ words)))
+  to_tell r words = told_of_words (ignored_of (options_of (held_words block r ++ words)))
 
   -- what is left of the part, behind one byte
   part-more : (at : ℕ) → at < to → slice_range block at to ≡ get_or block at 0 ∷ slice_range block (at + 1) to
@@ -318,7 +316,7 @@ module _ (line : ℕ) (block : List ℕ) (to : ℕ) (within : to ≤ length bloc
   told-word r start at words told new_told held begun inside said =
       let kept = ignored_by (ignores_before block r start at) (held_word block r) in
       let new = behind_word block r start at in
-      let rest = ignored_behind new.settings (options_of (held_words block new ++ words)) in
+      let rest = ignored_of (options_of (held_words block new ++ words)) in
       ap (λ (t : List Told). t ++ told_of_words rest) said
       ∙ append_assoc told (told_of_words kept) (told_of_words rest)
       ∙ ap (λ (t : List Told). told ++ t) (sym (map-append (λ (w : List ℕ). told_at line (ignored_message w)) kept rest))

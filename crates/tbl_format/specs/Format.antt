@@ -19,17 +19,19 @@ pub record FormatRow : Type 0 where
   pub bars : ℕ
 
 -- the formats as far as they were read: the rows of those before the last, and those of the last that are whole; the keys of
--- the row begun, and the bars behind them; what the keys of each column ask for it; and where the reading stands
+-- the row begun, and the bars behind them; what the keys of each column ask for it; the most bars in front of a row's first key; and
+-- where the reading stands
 pub record Format : Type 0 where
   pub earlier : List FormatRow
   pub rows : List FormatRow
   pub row : List FormatKey
   pub bars : ℕ
   pub asked : List Asked
+  pub front : ℕ
   pub place : FormatPlace
 
 abbrev pub no_format : Format
-no_format = record { earlier = []; rows = []; row = []; bars = 0; asked = []; place = InRows AtKeys }
+no_format = record { earlier = []; rows = []; row = []; bars = 0; asked = []; front = 0; place = InRows AtKeys }
 
 -- a further format begins, behind `.T&`
 abbrev pub further : Format → Format
@@ -54,7 +56,7 @@ plain_key bars key = record { bars = bars; key = key; standing = Middle; has_no_
 
 -- nothing is asked
 abbrev pub nothing_asked : Asked
-nothing_asked = record { separation = None; least = None; is_equal = false }
+nothing_asked = record { separation = None; least = None; is_equal = false; bars = 0 }
 
 -- one column more, behind a row that has so many keys, if it is the longest
 abbrev pub with_columns : List Asked → ℕ → List Asked
@@ -75,10 +77,6 @@ with_any_key key f = record f { row = f.row ++ plain_key f.bars key ∷ []; bars
 abbrev pub with_key : Key → Format → Format
 with_key key f = fault_if (is_misplaced key f) (with_any_key key f)
 
--- one bar more: at a boundary there are two at the most
-abbrev pub with_bar : Format → Format
-with_bar f = if nat_lt f.bars 2 then record f { bars = f.bars + 1 } else at_fault f
-
 -- what the last of so many keys asks for its column
 abbrev pub asking : (Asked → Asked) → ℕ → List Asked → List Asked
 asking change zero asked = asked
@@ -88,6 +86,17 @@ asking change (suc (suc keys)) (a ∷ asked) = a ∷ asking change (suc keys) as
 
 abbrev pub with_asked : (Asked → Asked) → Format → Format
 with_asked change f = record f { asked = asking change (length f.row) f.asked }
+
+-- bars at the end of the row begun ask for room: behind the column of its last key, or in front of the first column
+abbrev pub most_bars : ℕ → Asked → Asked
+most_bars n a = record a { bars = max a.bars n }
+
+abbrev pub asking_for_bars : Format → Format
+asking_for_bars f = if has_some f.row then with_asked (most_bars f.bars) f else record f { front = max f.front f.bars }
+
+-- one bar more: at a boundary there are two at the most
+abbrev pub with_bar : Format → Format
+with_bar f = if nat_lt f.bars 2 then asking_for_bars (record f { bars = f.bars + 1 }) else at_fault f
 
 -- the greater of what was asked and a number
 abbrev pub greater : Option ℕ → ℕ → ℕ

@@ -42,6 +42,7 @@ kept_by a = record {
     row = drop (last_end 0 a.ends.items) a.keys.items;
     bars = a.bars;
     asked = a.asked.items;
+    front = a.front;
     place = a.place;
   };
   key_room = a.key_room;

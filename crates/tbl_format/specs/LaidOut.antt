@@ -1,12 +1,9 @@
--- What of options and formats is laid out. All else is `bad format` where it stands: what comes to be laid out loses its line
--- here.
+-- What of formats is laid out. All else is `bad format` where it stands: what comes to be laid out loses its line here.
 use Rattle.std.specs.Prelude.{Bool, true, false}
 use Rattle.tbl_format.specs.declared.format.Key.{Key}
 use Rattle.tbl_format.specs.declared.format.Key.TheVariants.{Above, DoubleRule, Rule, Spanned}
 use Rattle.tbl_format.specs.declared.format_step.Does.{Does}
-use Rattle.tbl_format.specs.declared.format_step.Does.TheVariants.{AddBar, AddKey, DropWidth}
-use Rattle.tbl_format.specs.declared.options.TableOption.{TableOption}
-use Rattle.tbl_format.specs.declared.options.TableOption.TheVariants.{DoubleBox}
+use Rattle.tbl_format.specs.declared.format_step.Does.TheVariants.{AddKey, DropWidth}
 
 abbrev pub is_key_laid_out : Key → Bool
 is_key_laid_out Spanned = false
@@ -17,10 +14,5 @@ is_key_laid_out key = true
 
 abbrev pub is_laid_out : Does → Bool
 is_laid_out (AddKey key) = is_key_laid_out key
-is_laid_out AddBar = false
 is_laid_out DropWidth = false
 is_laid_out does = true
-
-abbrev pub is_option_laid_out : TableOption → Bool
-is_option_laid_out DoubleBox = false
-is_option_laid_out option = true

@@ -1,8 +1,8 @@
 -- The words of options, as they come one after another: each waits for the next one, with which it may be known.
 use Rattle.std.specs.Prelude.{ℕ, ◌≤◌, Bool, true, false, not, ◌&&◌, List, [], ◌∷◌, slice_range, if◌then◌else◌, ◌==◌}
-use Rattle.tbl_format.specs.Options.{is_unknown, option_of, option_of_two, with_counted}
+use Rattle.tbl_format.specs.Options.{is_unknown, option_of, option_of_two, with_set}
 use Rattle.tbl_format.specs.declared.options.OptionsRead.{OptionsRead}
-use Rattle.tbl_format.specs.declared.options.Settings.{Settings}
+use Rattle.tbl_format.specs.declared.options.Options.{Options}
 use Rattle.tbl_format.specs.declared.options.TableOption.{TableOption}
 
 -- the word that waits, if it has a byte
@@ -16,24 +16,23 @@ pub record IsHeld (len : ℕ) (r : OptionsRead) : Type 0 where
 -- behind the word that waits and the next one, which say this together
 abbrev pub behind_two : OptionsRead → List ℕ → TableOption → ℕ → ℕ → OptionsRead
 behind_two r held two from to =
-    if is_unknown two then record { settings = with_counted r.settings (option_of held); from = from; to = to }
-    else record { settings = with_counted r.settings two; from = to; to = to }
+    if is_unknown two then record { options = with_set (option_of held) r.options; from = from; to = to }
+    else record { options = with_set two r.options; from = to; to = to }
 
 -- behind one word more, which lies there, if it has a byte
 abbrev pub behind_word : List ℕ → OptionsRead → ℕ → ℕ → OptionsRead
 behind_word text r from to =
     if from == to then r
-    else if r.from == r.to then record { settings = r.settings; from = from; to = to }
+    else if r.from == r.to then record { options = r.options; from = from; to = to }
     else behind_two r (held_word text r) (option_of_two (held_word text r) (slice_range text from to)) from to
 
 -- behind the last word
-abbrev pub settings_behind : List ℕ → OptionsRead → Settings
-settings_behind text r =
-    if r.from == r.to then r.settings else with_counted r.settings (option_of (held_word text r))
+abbrev pub options_behind : List ℕ → OptionsRead → Options
+options_behind text r = if r.from == r.to then r.options else with_set (option_of (held_word text r)) r.options
 
 -- whether the word that waits is ignored as no word comes any more, and as this one comes
 abbrev pub ignores_last : List ℕ → OptionsRead → Bool
-ignores_last text r = not (r.from == r.to) && (r.settings.are_built && is_unknown (option_of (held_word text r)))
+ignores_last text r = not (r.from == r.to) && is_unknown (option_of (held_word text r))
 
 abbrev pub ignores_before : List ℕ → OptionsRead → ℕ → ℕ → Bool
 ignores_before text r from to =

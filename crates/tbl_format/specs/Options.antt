@@ -1,11 +1,8 @@
 -- The options of a table: what its first line says up to a `;` (Lesk, "Tbl": Options).
-use Rattle.std.specs.Prelude.{ℕ, suc, ◌+◌, ◌-◌, Bool, true, false, not, ◌&&◌, ◌||◌, List, [], ◌∷◌, ◌++◌, length, map, fold, take, slice_index, slice_range, nat_le, nat_lt, Option, None, Some, is_some, bytes_eq, codes, if◌then◌else◌, ◌==◌}
+use Rattle.std.specs.Prelude.{ℕ, suc, ◌+◌, ◌-◌, Bool, true, false, not, ◌&&◌, ◌||◌, List, [], ◌∷◌, ◌++◌, length, map, fold, max, take, slice_index, slice_range, nat_le, nat_lt, Option, None, Some, is_some, bytes_eq, codes, if◌then◌else◌, ◌==◌}
 use Rattle.roff_source.specs.Bytes.{tab, blank}
-use Rattle.tbl_format.specs.LaidOut.{is_option_laid_out}
 use Rattle.tbl_format.specs.declared.options.Boxing.{Boxing}
-use Rattle.tbl_format.specs.declared.options.Boxing.TheVariants.{Around, EachField, Nothing as NotBoxed}
 use Rattle.tbl_format.specs.declared.options.Options.{Options}
-use Rattle.tbl_format.specs.declared.options.Settings.{Settings}
 use Rattle.tbl_format.specs.declared.options.TableOption.{TableOption}
 use Rattle.tbl_format.specs.declared.options.TableOption.TheVariants.{AllBox, Box, Center, DoubleBox, Expand, Separator, Unknown, WithoutEffect}
 
@@ -96,10 +93,7 @@ option_words text = words_behind false [] text
 
 -- the options of a table that gives none
 abbrev pub no_options : Options
-no_options = record { separator = tab; centered = false; expanded = false; boxing = NotBoxed }
-
-abbrev pub nothing_set : Settings
-nothing_set = record { options = no_options; are_built = true }
+no_options = record { separator = tab; centered = false; expanded = false; boxing = record { bars = 0; is_inside = false } }
 
 -- an option whose brackets are a word by themselves, by what stands in them
 abbrev pub separating : Option ℕ → TableOption
@@ -133,47 +127,34 @@ options_of (word ∷ next ∷ words) =
     if is_unknown (option_of_two word next) then record { word = word; option = option_of word } ∷ options_of (next ∷ words)
     else record { word = word; option = option_of_two word next } ∷ options_of words
 
--- with a box around the table, at least
-abbrev pub boxed : Boxing → Boxing
-boxed NotBoxed = Around
-boxed Around = Around
-boxed EachField = EachField
+-- with so many bars at its edges, at least
+abbrev pub framed : ℕ → Boxing → Boxing
+framed bars b = record b { bars = max b.bars bars }
 
 -- what an option sets
 abbrev pub with_set : TableOption → Options → Options
 with_set (Separator b) o = record o { separator = b }
 with_set Center o = record o { centered = true }
 with_set Expand o = record o { expanded = true }
-with_set Box o = record o { boxing = boxed o.boxing }
-with_set AllBox o = record o { boxing = EachField }
+with_set Box o = record o { boxing = framed 1 o.boxing }
+with_set AllBox o = record o { boxing = record (framed 1 o.boxing) { is_inside = true } }
+with_set DoubleBox o = record o { boxing = framed 2 o.boxing }
 with_set option o = o
 
-abbrev pub with_option : Settings → TableOption → Settings
-with_option s option = record { options = with_set option s.options; are_built = is_option_laid_out option }
-
--- one option more; behind one that isn't laid out none counts
-abbrev pub with_counted : Settings → TableOption → Settings
-with_counted s option = if s.are_built then with_option s option else s
-
-abbrev pub with_said : Settings → Said → Settings
-with_said s said = with_counted s said.option
+abbrev pub with_said : Options → Said → Options
+with_said o said = with_set said.option o
 
 -- what a text says, all of which is options
-abbrev pub options_read : List ℕ → Settings
-options_read text = fold with_said nothing_set (options_of (option_words text))
+abbrev pub options_read : List ℕ → Options
+options_read text = fold with_said no_options (options_of (option_words text))
 
--- whether an option is ignored, and told
-abbrev pub is_ignored : Settings → Said → Bool
-is_ignored s said = s.are_built && is_unknown said.option
-
--- of these options those that are ignored, as they are written
-abbrev pub ignored_behind : Settings → List Said → List (List ℕ)
-ignored_behind s [] = []
-ignored_behind s (said ∷ more) =
-    if is_ignored s said then said.word ∷ ignored_behind (with_said s said) more else ignored_behind (with_said s said) more
+-- of these options those that are ignored, and told, as they are written
+abbrev pub ignored_of : List Said → List (List ℕ)
+ignored_of [] = []
+ignored_of (said ∷ more) = if is_unknown said.option then said.word ∷ ignored_of more else ignored_of more
 
 abbrev pub ignored_options : List ℕ → List (List ℕ)
-ignored_options text = ignored_behind nothing_set (options_of (option_words text))
+ignored_options text = ignored_of (options_of (option_words text))
 
 -- where the options end, counted from a place on: at the first `;` outside brackets, if there is one
 abbrev pub options_end_from : Bool → ℕ → List ℕ → Option ℕ

@@ -63,6 +63,8 @@ pub struct Asked {
     pub least: Option<u32>,
     /// `e`: whether it is as wide as all such columns.
     pub is_equal: bool,
+    /// The most bars that stand behind it in a row.
+    pub bars: u8,
 }
 
 /// Where the reading of a format stands.
@@ -132,6 +134,7 @@ impl Asked {
         separation: None,
         least: None,
         is_equal: false,
+        bars: 0,
     };
 }
 

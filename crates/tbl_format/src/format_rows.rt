@@ -2,12 +2,13 @@
 
 ghost use Rattle.std.specs.Prelude.{◌≡◌, ◌+◌, ◌<◌, ◌≤◌, ◌++◌, [], ◌∷◌, length, drop, vec_capacity};
 ghost use Rattle.std.specs.Prelude.{IfOk};
-ghost use Rattle.tbl_format.specs.Format.{asked_by, asking, format_byte, format_read, further};
-ghost use Rattle.tbl_format.specs.Format.{greater, is_misplaced, no_format, said_by, with_columns};
+ghost use Rattle.tbl_format.specs.Format.{asked_by, format_byte, format_read, further};
+ghost use Rattle.tbl_format.specs.Format.{is_misplaced, no_format, said_by};
 ghost use Rattle.tbl_format.specs.KeyCounts.{Counts, IsOnLine, StandsOnLine};
 ghost use Rattle.tbl_format.specs.Parts.{last_end};
 ghost use Rattle.tbl_format.specs.RowsServed.{all_rows, first_format, row_at};
 
+use crate::columns_asked::{ask, push_column};
 use crate::format::{Asked, FormatKey, FormatPlace, Key, RowPart};
 use crate::format_step::{Does, FormatStep, step};
 use crate::key_count::KeyCount;
@@ -26,6 +27,8 @@ pub struct FormatRows {
     row_bars: Vec<u8>,
     /// For each column what its keys ask for it.
     asked: Vec<Asked>,
+    /// The most bars in front of a row's first key.
+    front: u8,
     /// How many rows are of formats before this one.
     first: usize,
     /// How many bars stand behind the keys of the row begun.
@@ -46,7 +49,8 @@ impl Model for FormatRows {
 }
 
 impl FormatRows {
-    ghost use Rattle.tbl_format.specs.Format.{done, fault_if, stepped, with_any_key, with_asked};
+    ghost use Rattle.tbl_format.specs.Format.{asking_for_bars, done, fault_if, stepped};
+    ghost use Rattle.tbl_format.specs.Format.{with_any_key, with_asked};
     ghost use Rattle.tbl_format.specs.Format.{with_bar, with_end, with_key, with_last, with_whole};
     ghost use Rattle.tbl_format.specs.FormatRows.{keeping, key_count};
 
@@ -60,6 +64,7 @@ impl FormatRows {
             ends: Vec::with_capacity(alloc, keys)?,
             row_bars: Vec::with_capacity(alloc, keys)?,
             asked: Vec::with_capacity(alloc, columns)?,
+            front: 0,
             first: 0,
             bars: 0,
             place: FormatPlace::InRows(RowPart::AtKeys),
@@ -76,6 +81,7 @@ impl FormatRows {
         self.ends.clear();
         self.row_bars.clear();
         self.asked.clear();
+        self.front = 0;
         self.first = 0;
         self.bars = 0;
         self.place = FormatPlace::InRows(RowPart::AtKeys);
@@ -205,8 +211,22 @@ impl FormatRows {
     {
         if self.bars < 2 {
             self.bars += 1;
+            self.ask_for_bars();
         } else {
             self.place = FormatPlace::AtFault;
+        }
+    }
+
+    /// The bars at the end of the row begun ask for room: behind the column of its last key, or in
+    /// front of the first column.
+    fn ask_for_bars(&mut self)
+        ensures { self.new ≡ keeping self.old (asking_for_bars self.old.format) }
+    {
+        let keys = self.row_len();
+        if keys > 0 {
+            self.asked[keys - 1] = self.asked[keys - 1].with_bars(self.bars);
+        } else {
+            self.front = self.front.max(self.bars);
         }
     }
 
@@ -281,6 +301,13 @@ impl FormatRows {
         self.asked.as_slice()
     }
 
+    /// The most bars in front of a row's first key.
+    pub fn front_bars(&self) -> u8
+        ensures { result ≡ self.now.format.front }
+    {
+        self.front
+    }
+
     /// How many rows of this format are whole.
     pub fn rows(&self) -> usize
         ensures { result ≡ length self.now.format.rows }
@@ -319,6 +346,14 @@ impl FormatRows {
         &self.keys.as_slice()[part_start(self.ends.as_slice(), at)..self.ends[at]]
     }
 
+    /// How many bars stand behind the last of them.
+    pub fn bars_of_all(&self, at: usize) -> u8
+        requires { at < length (all_rows self.now.format) }
+        ensures { result ≡ (row_at (all_rows self.now.format) at).bars }
+    {
+        self.row_bars[at]
+    }
+
     /// What counts of its keys.
     pub fn count(&self) -> KeyCount
         ensures value { Counts self.now.format result }
@@ -349,28 +384,5 @@ fn last_end(ends: &[usize]) -> usize
     match ends.last() {
         Some(end) => *end,
         None => 0,
-    }
-}
-
-/// One column more, behind a row that has so many keys, if it is the longest.
-fn push_column(asked: &mut Vec<Asked>, count: usize)
-    requires few { count ≤ length asked.old.items }
-    requires room { length (with_columns asked.old.items count) ≤ vec_capacity asked.old }
-    ensures items { asked.new.items ≡ with_columns asked.old.items count }
-    ensures capacity { vec_capacity asked.new ≡ vec_capacity asked.old }
-{
-    if count == asked.len() {
-        asked.push_reserved(Asked::NOTHING);
-    }
-}
-
-/// What asks something for the column of the last of so many keys.
-fn ask(asked: &mut Vec<Asked>, keys: usize, does: Does)
-    requires { keys ≤ length asked.old.items }
-    ensures items { asked.new.items ≡ asking (asked_by does) keys asked.old.items }
-    ensures capacity { vec_capacity asked.new ≡ vec_capacity asked.old }
-{
-    if keys > 0 {
-        asked[keys - 1] = asked[keys - 1].asked_by(does);
     }
 }

@@ -8,7 +8,7 @@ ghost use Rattle.tbl_format.specs.FormatSteps.{behind_font, behind_key, behind_m
 ghost use Rattle.tbl_format.specs.FormatSteps.{fault, if_laid_out, in_brackets, in_font};
 ghost use Rattle.tbl_format.specs.FormatSteps.{in_macro, in_number, in_width_digits, signed, sized};
 ghost use Rattle.tbl_format.specs.FormatSteps.{step, step_of, to};
-ghost use Rattle.tbl_format.specs.Format.{asked_by, greater, left_out, said_by};
+ghost use Rattle.tbl_format.specs.Format.{asked_by, greater, left_out, most_bars, said_by};
 ghost use Rattle.tbl_format.specs.KeyCounts.{IsOnLine};
 
 use crate::format::{Asked, FormatKey, FormatPlace, Key, RowPart, Standing};
@@ -112,6 +112,18 @@ impl Does {
 }
 
 impl Asked {
+    /// With so many bars behind a key of the column.
+    pub(crate) fn with_bars(self, bars: u8) -> Asked
+        ensures { result ≡ most_bars bars self }
+    {
+        Asked {
+            separation: self.separation,
+            least: self.least,
+            is_equal: self.is_equal,
+            bars: self.bars.max(bars),
+        }
+    }
+
     /// With what is asked by this, if it asks anything.
     pub(crate) fn asked_by(self, does: Does) -> Asked
         ensures { result ≡ asked_by does self }
@@ -123,6 +135,7 @@ impl Asked {
                 separation: self.separation,
                 least: self.least,
                 is_equal: true,
+                bars: self.bars,
             },
             Does::Nothing => self,
             Does::AddKey(_) => self,
@@ -143,6 +156,7 @@ impl Asked {
             separation: Some(greater(self.separation, number)),
             least: self.least,
             is_equal: self.is_equal,
+            bars: self.bars,
         }
     }
 
@@ -154,6 +168,7 @@ impl Asked {
             separation: self.separation,
             least: Some(greater(self.least, columns)),
             is_equal: self.is_equal,
+            bars: self.bars,
         }
     }
 }

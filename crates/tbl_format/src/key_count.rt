@@ -190,7 +190,8 @@ impl KeyCount {
         ensures row { result.row ≡ self.row }
         ensures few { result.columns ≡ self.columns }
     {
-        if self.bars < 2 {
+        let has_room = self.bars < 2;
+        if has_room {
             KeyCount {
                 place: self.place,
                 is_further: self.is_further,

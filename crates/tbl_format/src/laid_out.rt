@@ -1,11 +1,10 @@
-//! What of options and formats is laid out. All else is `bad format` where it stands.
+//! What of formats is laid out. All else is `bad format` where it stands.
 
 ghost use Rattle.std.specs.Prelude.{◌≡◌};
-ghost use Rattle.tbl_format.specs.LaidOut.{is_key_laid_out, is_laid_out, is_option_laid_out};
+ghost use Rattle.tbl_format.specs.LaidOut.{is_key_laid_out, is_laid_out};
 
 use crate::format::Key;
 use crate::format_step::Does;
-use crate::options::TableOption;
 
 /// Whether a key is laid out.
 fn is_key_laid_out(key: Key) -> bool
@@ -30,7 +29,7 @@ pub fn is_laid_out(does: Does) -> bool
 {
     match does {
         Does::AddKey(key) => is_key_laid_out(key),
-        Does::AddBar => false,
+        Does::AddBar => true,
         Does::DropWidth => false,
         Does::Nothing => true,
         Does::Separate(_) => true,
@@ -40,21 +39,5 @@ pub fn is_laid_out(does: Does) -> bool
         Does::LeaveOut(_) => true,
         Does::EndRow => true,
         Does::EndFormat => true,
-    }
-}
-
-/// Whether an option is laid out.
-pub fn is_option_laid_out(option: TableOption) -> bool
-    ensures { result ≡ is_option_laid_out option }
-{
-    match option {
-        TableOption::Box => true,
-        TableOption::AllBox => true,
-        TableOption::DoubleBox => false,
-        TableOption::Center => true,
-        TableOption::Expand => true,
-        TableOption::Separator(_) => true,
-        TableOption::WithoutEffect => true,
-        TableOption::Unknown => true,
     }
 }

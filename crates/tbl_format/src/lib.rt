@@ -2,6 +2,7 @@
 //! Program to Format Tables").
 #![tactic(auto)]
 
+mod columns_asked;
 pub mod format;
 mod format_parts;
 pub mod format_rows;
@@ -12,6 +13,7 @@ pub mod left_out;
 pub mod limits;
 pub mod message;
 pub mod notes;
+mod option_set;
 pub mod option_words;
 pub mod options;
 pub mod part_starts;

@@ -3,27 +3,24 @@
 ghost use Rattle.std.specs.Prelude.{◌≡◌, ◌+◌, ◌-◌, ◌<◌, ◌≤◌, ◌^◌, ◌++◌, length, map, slice_range};
 ghost use Rattle.std.specs.Prelude.{not, ◌&&◌, ◌||◌, vec_capacity, vec_len};
 ghost use Rattle.tbl_format.specs.Notes.{NotesWithin, ignored_message, told_at, told_of_all};
-ghost use Rattle.tbl_format.specs.Options.{boxed, bracketed, ignored_options, is_unknown};
+ghost use Rattle.tbl_format.specs.Options.{bracketed, ignored_options, is_unknown};
 ghost use Rattle.tbl_format.specs.Options.{options_end};
-ghost use Rattle.tbl_format.specs.Options.{options_read, separates_options, with_counted, with_option};
-ghost use Rattle.tbl_format.specs.Options.{with_set};
+ghost use Rattle.tbl_format.specs.Options.{options_read, separates_options};
 ghost use Rattle.tbl_format.specs.OptionWords.{behind_two, behind_word, held_word, ignored_by};
 ghost use Rattle.tbl_format.specs.OptionWords.{ignores_before, ignores_last, IsHeld};
-ghost use Rattle.tbl_format.specs.OptionWords.{settings_behind};
+ghost use Rattle.tbl_format.specs.OptionWords.{options_behind};
 
-use crate::laid_out::is_option_laid_out;
 use crate::notes::{Cause, KeptNote};
 use crate::option_words::{option_of, option_of_two};
 
 /// How a picture is boxed.
 #[derive(Clone, Copy)]
-pub enum Boxing {
-    /// Not at all.
-    Nothing,
-    /// `box`, `frame`: around the table.
-    Around,
-    /// `allbox`: each field.
-    EachField,
+pub struct Boxing {
+    /// How many bars stand at its edges: one with `box`, `frame` and `allbox`, two with `doublebox`
+    /// and `doubleframe`.
+    pub bars: u8,
+    /// `allbox`: whether each field is boxed.
+    pub is_inside: bool,
 }
 
 /// What of a table's options is laid out.
@@ -60,25 +57,16 @@ pub enum TableOption {
     Unknown,
 }
 
-/// The options that were read, and whether all of them can be laid out.
-#[derive(Clone, Copy)]
-pub struct Settings {
-    /// What was set.
-    pub options: Options,
-    /// Whether all of them can be laid out.
-    pub are_built: bool,
-}
-
 /// The options of a table that gives none.
 pub const NO_OPTIONS: Options = Options {
     separator: b'\t',
     centered: false,
     expanded: false,
-    boxing: Boxing::Nothing,
+    boxing: Boxing::NOTHING,
 };
 
 /// What a text says, all of which is options.
-pub fn read_options(text: &[u8]) -> Settings
+pub fn read_options(text: &[u8]) -> Options
     ensures { result ≡ options_read text.now }
 {
     let mut read = OptionsRead::NOTHING;
@@ -206,7 +194,7 @@ fn push_if(notes: &mut Vec<KeptNote>, is_ignored: bool, read: OptionsRead, block
 /// one: nowhere, if it has no byte.
 #[derive(Clone, Copy)]
 struct OptionsRead {
-    settings: Settings,
+    options: Options,
     from: usize,
     to: usize,
 }
@@ -214,7 +202,7 @@ struct OptionsRead {
 impl OptionsRead {
     /// Nothing.
     const NOTHING: OptionsRead = OptionsRead {
-        settings: Settings::NONE,
+        options: NO_OPTIONS,
         from: 0,
         to: 0,
     };
@@ -232,7 +220,7 @@ impl OptionsRead {
         }
         if self.from == self.to {
             return OptionsRead {
-                settings: self.settings,
+                options: self.options,
                 from,
                 to,
             };
@@ -247,13 +235,13 @@ impl OptionsRead {
     {
         if two.is_unknown() {
             OptionsRead {
-                settings: self.settings.with_counted(option_of(held)),
+                options: self.options.with_set(option_of(held)),
                 from,
                 to,
             }
         } else {
             OptionsRead {
-                settings: self.settings.with_counted(two),
+                options: self.options.with_set(two),
                 from: to,
                 to,
             }
@@ -261,15 +249,14 @@ impl OptionsRead {
     }
 
     /// Behind the last word.
-    fn ended(self, text: &[u8]) -> Settings
+    fn ended(self, text: &[u8]) -> Options
         requires { IsHeld (length text.now) self }
-        ensures { result ≡ settings_behind text.now self }
+        ensures { result ≡ options_behind text.now self }
     {
         if self.from == self.to {
-            return self.settings;
+            return self.options;
         }
-        self.settings
-            .with_counted(option_of(&text[self.from..self.to]))
+        self.options.with_set(option_of(&text[self.from..self.to]))
     }
 
     /// Whether the word that may go on is ignored, and told, as this one comes.
@@ -291,8 +278,7 @@ impl OptionsRead {
         requires { IsHeld (length text.now) self }
         ensures { result ≡ ignores_last text.now self }
     {
-        self.from != self.to
-            && (self.settings.are_built && option_of(&text[self.from..self.to]).is_unknown())
+        self.from != self.to && option_of(&text[self.from..self.to]).is_unknown()
     }
 }
 
@@ -309,93 +295,6 @@ pub fn options_end(line: &[u8]) -> Option<usize>
         inside = bracketed(inside, byte);
     }
     None
-}
-
-impl Settings {
-    /// No option.
-    const NONE: Settings = Settings {
-        options: NO_OPTIONS,
-        are_built: true,
-    };
-
-    /// One option more. Behind one that isn't laid out none counts.
-    fn with_counted(self, option: TableOption) -> Settings
-        ensures { result ≡ with_counted self option }
-    {
-        if self.are_built {
-            self.with_option(option)
-        } else {
-            self
-        }
-    }
-
-    /// One option more.
-    fn with_option(self, option: TableOption) -> Settings
-        ensures { result ≡ with_option self option }
-    {
-        Settings {
-            options: self.options.with_set(option),
-            are_built: is_option_laid_out(option),
-        }
-    }
-}
-
-impl Options {
-    /// The same, boxed so.
-    fn with_boxing(self, boxing: Boxing) -> Options
-        ensures { result ≡ record self { boxing = boxing } }
-    {
-        Options {
-            separator: self.separator,
-            centered: self.centered,
-            expanded: self.expanded,
-            boxing,
-        }
-    }
-
-    /// What an option sets is set.
-    fn with_set(self, option: TableOption) -> Options
-        ensures { result ≡ with_set option self }
-    {
-        match option {
-            TableOption::Separator(separator) => Options {
-                separator,
-                centered: self.centered,
-                expanded: self.expanded,
-                boxing: self.boxing,
-            },
-            TableOption::Center => Options {
-                separator: self.separator,
-                centered: true,
-                expanded: self.expanded,
-                boxing: self.boxing,
-            },
-            TableOption::Expand => Options {
-                separator: self.separator,
-                centered: self.centered,
-                expanded: true,
-                boxing: self.boxing,
-            },
-            TableOption::Box => self.with_boxing(self.boxing.boxed()),
-            TableOption::AllBox => self.with_boxing(Boxing::EachField),
-            TableOption::DoubleBox => self,
-            TableOption::WithoutEffect => self,
-            TableOption::Unknown => self,
-        }
-    }
-}
-
-impl Boxing {
-    /// The same with a box around the table, at least.
-    fn boxed(self) -> Boxing
-        ensures { result ≡ boxed self }
-    {
-        match self {
-            Boxing::Nothing => Boxing::Around,
-            Boxing::Around => Boxing::Around,
-            Boxing::EachField => Boxing::EachField,
-        }
-    }
 }
 
 impl TableOption {

@@ -4,6 +4,7 @@ ghost use Rattle.std.specs.Prelude.{◌≡◌, [], ◌∷◌, None, Some, codes,
 ghost use Rattle.tbl_format.specs.Format.{format_read, further, letters_left_out, no_format};
 ghost use Rattle.tbl_format.specs.Format.{nothing_asked, plain_key};
 ghost use Rattle.tbl_format.specs.FormatWorked.{all_done, does_in};
+ghost use Rattle.tbl_format.specs.Options.{options_read};
 ghost use Rattle.tbl_format.specs.declared.format.FormatPlace.TheVariants.{AtEnd, AtFault, InRows};
 ghost use Rattle.tbl_format.specs.declared.format.Key.TheVariants.{Above, Alphabetic, Center};
 ghost use Rattle.tbl_format.specs.declared.format.Key.TheVariants.{DoubleRule, Left, Numeric, Right};
@@ -94,14 +95,16 @@ pub fn formats()
       } ∷ record { keys = plain_key 0 Center ∷ []; bars = 0 } ∷ [];
       row = [];
       bars = 0;
-      asked = nothing_asked ∷ nothing_asked ∷ [];
+      asked = record nothing_asked { bars = 2 } ∷ record nothing_asked { bars = 1 } ∷ [];
+      front = 1;
       place = InRows AtKeys;
     } }
     ensures columns { (all_done (does_in (codes "l5w4 r, lw3e7,l c2r.")).0 no_format).asked
-        ≡ record { separation = Some 7; least = Some 4; is_equal = true }
-        ∷ record { separation = Some 2; least = None; is_equal = false } ∷ nothing_asked ∷ [] }
+        ≡ record { separation = Some 7; least = Some 4; is_equal = true; bars = 0 }
+        ∷ record { separation = Some 2; least = None; is_equal = false; bars = 0 }
+        ∷ nothing_asked ∷ [] }
     ensures no_width { (all_done (does_in (codes "lw(0)")).0 no_format).asked
-        ≡ record { separation = None; least = Some 0; is_equal = false } ∷ [] }
+        ≡ record { separation = None; least = Some 0; is_equal = false; bars = 0 } ∷ [] }
     ensures further { (all_done (does_in (codes "^ r.")).0
         (further (all_done (does_in (codes "l3.")).0 no_format))).earlier
         ≡ record { keys = plain_key 0 Left ∷ []; bars = 0 } ∷ [] }
@@ -120,8 +123,54 @@ pub fn readings()
     ensures laid_out { (format_read no_format (codes "l xR3,cen,a.")).place ≡ AtEnd }
     ensures left_out { letters_left_out no_format (codes "lxmabr X,c.") ≡ 120 ∷ 109 ∷ 88 ∷ [] }
     ensures behind_a_fault { letters_left_out no_format (codes "lx= x,c.") ≡ 120 ∷ [] }
-    ensures bar { (format_read no_format (codes "l|l.")).place ≡ AtFault }
     ensures key { (format_read no_format (codes "l_.")).place ≡ AtFault }
     ensures counted { (format_read no_format (codes "l=s.")).asked
         ≡ nothing_asked ∷ nothing_asked ∷ [] }
+{}
+
+/// The most bars behind the keys of each column, and in front of a row's first key.
+#[tactic(auto, unfolding(crate::specs::FormatSteps::step))]
+pub fn bars()
+    ensures between { format_read no_format (codes "l | c || r.") ≡ record no_format {
+      rows = record {
+        keys = plain_key 0 Left ∷ plain_key 1 Center ∷ plain_key 2 Right ∷ [];
+        bars = 0;
+      } ∷ [];
+      asked = record nothing_asked { bars = 1 } ∷ record nothing_asked { bars = 2 }
+          ∷ nothing_asked ∷ [];
+      place = AtEnd;
+    } }
+    ensures at_edges { format_read no_format (codes "| l |.") ≡ record no_format {
+      rows = record { keys = plain_key 1 Left ∷ []; bars = 1 } ∷ [];
+      asked = record nothing_asked { bars = 1 } ∷ [];
+      front = 1;
+      place = AtEnd;
+    } }
+    ensures most { format_read no_format (codes "|l|c\n||l|| c|.") ≡ record no_format {
+      rows = record { keys = plain_key 1 Left ∷ plain_key 1 Center ∷ []; bars = 0 }
+          ∷ record { keys = plain_key 2 Left ∷ plain_key 2 Center ∷ []; bars = 1 } ∷ [];
+      asked = record nothing_asked { bars = 2 } ∷ record nothing_asked { bars = 1 } ∷ [];
+      front = 2;
+      place = AtEnd;
+    } }
+    ensures third { (format_read no_format (codes "l|||")).place ≡ AtFault }
+    ensures third_in_front { (format_read no_format (codes "|| |")).place ≡ AtFault }
+{}
+
+/// How the options say that a picture is boxed: the most bars at its edges, and each field.
+pub fn boxes()
+    ensures none { (options_read (codes "center")).boxing
+        ≡ record { bars = 0; is_inside = false } }
+    ensures single { (options_read (codes "box")).boxing
+        ≡ record { bars = 1; is_inside = false } }
+    ensures double { (options_read (codes "doublebox box")).boxing
+        ≡ record { bars = 2; is_inside = false } }
+    ensures double_frame { (options_read (codes "frame,doubleframe")).boxing
+        ≡ record { bars = 2; is_inside = false } }
+    ensures each_field { (options_read (codes "allbox")).boxing
+        ≡ record { bars = 1; is_inside = true } }
+    ensures both { (options_read (codes "allbox doublebox")).boxing
+        ≡ record { bars = 2; is_inside = true } }
+    ensures both_turned { (options_read (codes "doublebox allbox")).boxing
+        ≡ record { bars = 2; is_inside = true } }
 {}

@@ -1,16 +1,14 @@
 -- What columns hold once the blocks of all rows are filled.
-use Rattle.std.proofs.Common.{◌≡◌, ℕ, zero, suc, ◌+◌, max, Bool, true, false, List, [], ◌∷◌, length, map, drop, refl, sym, ap, subst, ◌∙◌, arith, ◌==◌}
-use Rattle.std.specs.Prelude.{Option, None, Some}
+use Rattle.std.proofs.Common.{◌≡◌, ℕ, zero, suc, ◌+◌, max, Bool, List, [], ◌∷◌, length, map, drop, refl, sym, ap, subst, ◌∙◌, arith, ◌==◌}
 use Rattle.std.specs.List.{AllByRecursion, slice_range}
-use Rattle.std.proofs.lemmas.Bool.{eq-eqb, ne_eqb}
 use Rattle.std.proofs.lemmas.List.{drop-drop}
 use Rattle.tbl_format.specs.Format.{FormatRow}
 use Rattle.tbl_format.specs.RowsServed.{row_at}
 use Rattle.tbl_format.specs.declared.format.Asked.{Asked}
 use Rattle.tbl_format.specs.declared.format.Key.{Key}
-use Rattle.tbl_layout.specs.Columns.{alone, columns_from, entries_of, in_strip, left_of, measure_of, needing, needs_of, right_of, split_width, stands, text_stands}
-use Rattle.tbl_layout.specs.Entries.{Block, Text, field_at, is_number, key_at}
-use Rattle.tbl_layout.specs.KeptEntries.{IsKept, IsKeptBy, block_lines, content_by, content_of, kind_with, not_filled, stands_by, stands_of, text_entry}
+use Rattle.tbl_layout.specs.Columns.{alone, columns_from, entries_of, in_strip, left_of, measure_of, needing, needs_of, right_of, split_width, stands}
+use Rattle.tbl_layout.specs.Entries.{Block, Text, field_at, key_at}
+use Rattle.tbl_layout.specs.KeptEntries.{IsKept, IsKeptBy, block_lines, content_by, content_of, not_filled, stands_by, stands_of}
 use Rattle.tbl_layout.specs.declared.columns.Column.{Column}
 use Rattle.tbl_layout.specs.declared.columns.Needs.{Needs}
 use Rattle.tbl_layout.specs.declared.columns.Stands.{Stands}
@@ -20,11 +18,10 @@ use Rattle.tbl_layout.specs.declared.entry.BlockEntry.{BlockEntry}
 use Rattle.tbl_layout.specs.declared.entry.Entry.{Entry}
 use Rattle.tbl_layout.specs.declared.entry.EntryKind.{EntryKind}
 use Rattle.tbl_layout.specs.declared.entry.EntryKind.TheVariants.{Block as BlockKind, Repeated as RepeatedKind, Ruled as RuledKind, Short as ShortKind, Split as SplitKind, Text as TextKind}
-use Rattle.tbl_text.specs.Measuring.{measured}
-use Rattle.tbl_text.specs.declared.measure.Split.{Split}
 use Rattle.tbl_kept.specs.Rows.{AreKept, Command, ElementKept, KeptElement, Row, Rule, columns_holding, elements_of, stands_at, stands_in}
 use Rattle.tbl_kept.specs.RowsLaying.{all_held, block_stands, holding_blocks, with_measures}
 use Rattle.tbl_kept.proofs.ColumnsHeld.{needing-nowhere, needs-same}
+use Rattle.tbl_layout.proofs.TextStands.{text-stands}
 
 -- needs with further entries, one after another, and those of two
 abbrev with_all : Needs → List Stands → Needs
@@ -67,27 +64,6 @@ both-more a b s firsts bs ss joins rest =
     (omega (arith, joins.alone, ap (λ (n : Needs). n.alone) rest)) (omega (arith, joins.strip, ap (λ (n : Needs). n.strip) rest))
     (omega (arith, joins.left, ap (λ (n : Needs). n.left) rest)) (omega (arith, joins.right, ap (λ (n : Needs). n.right) rest))
     (omega (arith, joins.split, ap (λ (n : Needs). n.split) rest))
-
--- a text stands as it measures
-empty-split : (number : Bool) → (measured number []).split ≡ None
-empty-split true = refl
-empty-split false = refl
-
-kind-stands : (key : Key) (from glyphs width : ℕ) (split : Option Split) → stands_by key (kind_with from glyphs width split) false ≡ text_stands key width split
-kind-stands key from glyphs width None = refl
-kind-stands key from glyphs width (Some s) = refl
-
-text-stands : (measure : ℕ) (key : Key) (from : ℕ) (text : List ℕ) → stands_of key (text_entry (is_number key) from text) ≡ stands measure key (Text text)
-text-stands measure key from [] =
-    let m = measured (is_number key) [] in
-    let end : from ≡ from + 0 = omega arith in
-    ap (λ (split : Option Split). stands_by key (kind_with from (from + m.glyphs) m.width split) (from == from + 0)) (empty-split (is_number key))
-    ∙ ap (λ (is_empty : Bool). stands_by key (TextKind (from + m.glyphs) m.width) is_empty) (eq-eqb from (from + 0) end)
-text-stands measure key from (b ∷ text) =
-    let m = measured (is_number key) (b ∷ text) in
-    let some : (from == from + length (b ∷ text)) ≡ false = ne_eqb from (from + length (b ∷ text)) (λ same. omega (arith, same)) in
-    ap (λ (is_empty : Bool). stands_by key (kind_with from (from + m.glyphs) m.width m.split) is_empty) some
-    ∙ kind-stands key from (from + m.glyphs) m.width m.split
 
 -- a field that is kept, and its block once it is filled, need what the text or the block does
 opened-stands : (key : Key) (b : BlockEntry) (is_empty : Bool) → b ≡ not_filled → stands_by key (BlockKind b) is_empty ≡ Nowhere

@@ -114,8 +114,10 @@ fn filled(escapes: &mut OpenEscapes, bytes: &[u8], entry: Entry, measure: u64) -
     requires small { length bytes.now < 2 ^ 32 }
     requires lies { FieldLies bytes.now entry }
     requires narrow { measure < 2 ^ 32 }
-    ensures value { result ≡ record entry
-        { kind = EntryKind.Block (block_filled measure (block_lines bytes.now entry.from entry.to)) } }
+    ensures value { result ≡ record entry {
+      kind = EntryKind.Block
+          (block_filled measure (block_lines bytes.now entry.from entry.to));
+    } }
     ensures narrow { widest
         (lines_of measure (parts_of (block_lines bytes.now entry.from entry.to)))
         < 2 ^ 34 }

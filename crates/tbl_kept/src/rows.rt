@@ -18,7 +18,7 @@ use std::alloc::{AllocError, Global};
 use std::marker::Model;
 use tbl_format::format::{Asked, FormatKey};
 use tbl_format::format_rows::FormatRows;
-use tbl_format::options::Boxing;
+use tbl_layout::bars::Bars;
 use tbl_layout::columns::{Column, set_starts, set_widths};
 use tbl_layout::data_lines::RuleSign;
 use tbl_layout::entry::Entry;
@@ -47,8 +47,8 @@ pub struct KeptRow {
     to: u32,
 }
 
-/// The rows, rules and commands of a table: their texts are parts of its bytes. All memory is reserved as
-/// it is made.
+/// The rows, rules and commands of a table: their texts are parts of its bytes. All memory is
+/// reserved as it is made.
 #[derive(Drop)]
 pub struct TableRows {
     entries: Vec<Entry>,
@@ -88,7 +88,8 @@ impl Model for TableRows {
 impl TableRows {
     ghost use Rattle.tbl_kept.specs.Rows.{cleared, elements_of, entries_of, no_rows};
     ghost use Rattle.tbl_kept.specs.Rows.{with_block_end};
-    ghost use Rattle.tbl_kept.specs.Rows.{with_columns, with_command, with_entry, with_row, with_rule};
+    ghost use Rattle.tbl_kept.specs.Rows.{with_columns, with_command, with_entry, with_row};
+    ghost use Rattle.tbl_kept.specs.Rows.{with_rule};
     ghost use Rattle.tbl_kept.specs.Rows.{RowsKept, RowsLaid, SameRoom, lent};
 
     /// Nothing, with room for so many fields, rows and commands, and columns.
@@ -254,14 +255,14 @@ impl TableRows {
     }
 
     /// Each column has its place: so many columns of the page more are spread over the gaps.
-    pub fn set_starts(&mut self, boxing: Boxing, asked: &[Asked], more: usize)
-        requires { width_of_all boxing self.old.columns asked.now + more < 2 ^ 32 }
+    pub fn set_starts(&mut self, bars: Bars, asked: &[Asked], more: usize)
+        requires { width_of_all bars self.old.columns asked.now + more < 2 ^ 32 }
         ensures value { self.new ≡ record self.old
-            { columns = placed_with boxing more asked.now self.old.columns } }
+            { columns = placed_with bars more asked.now self.old.columns } }
         ensures laid { (bytes : List ℕ) (formats : List FormatRow) → RowsLaid bytes formats self.old
             → RowsLaid bytes formats self.new }
     {
-        self.place(boxing, asked, more);
+        self.place(bars, asked, more);
     }
 
     /// Each column has the measure of its blocks.
@@ -287,12 +288,12 @@ impl TableRows {
     }
 
     /// Each column has its place.
-    fn place(&mut self, boxing: Boxing, asked: &[Asked], more: usize)
-        requires { width_of_all boxing self.old.columns asked.now + more < 2 ^ 32 }
+    fn place(&mut self, bars: Bars, asked: &[Asked], more: usize)
+        requires { width_of_all bars self.old.columns asked.now + more < 2 ^ 32 }
         ensures { self.new ≡ record self.old
-            { columns = placed_with boxing more asked.now self.old.columns } }
+            { columns = placed_with bars more asked.now self.old.columns } }
     {
-        set_starts(self.columns.as_mut_slice(), boxing, asked, more);
+        set_starts(self.columns.as_mut_slice(), bars, asked, more);
     }
 
     /// The blocks of all rows are filled.

@@ -5,3 +5,6 @@ pub mod ColumnsEnd
 pub mod Shares
 pub mod Placing
 pub mod LastField
+pub mod LastBars
+pub mod TextStands
+pub mod LayoutLaws

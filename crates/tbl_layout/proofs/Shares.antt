@@ -5,7 +5,7 @@ use native.Mathlib.Nat.{div-mul-le_self}
 use Rattle.tbl_layout.specs.Columns.{share}
 
 -- where there is a gap
-share-is : (more front all : ℕ) → share more front (suc all) ≡ more * front / suc all
+pub share-is : (more front all : ℕ) → share more front (suc all) ≡ more * front / suc all
 share-is more front all = ap (λ (t : Bool). if t then 0 else more * front / suc all) (ne_eqb (suc all) 0 (λ is. omega (arith, is)))
 
 -- a longer front has no less

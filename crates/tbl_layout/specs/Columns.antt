@@ -1,11 +1,11 @@
 -- The columns of a table: how wide they are, and where they begin (Lesk, "Tbl": Format, Formatting).
-use Rattle.std.specs.Prelude.{ℕ, suc, ◌+◌, ◌-◌, ◌*◌, ◌/◌, ◌≤◌, max, Bool, true, false, not, ◌&&◌, List, [], ◌∷◌, length, map, Contains, Option, None, Some, unwrap_or, if◌then◌else◌, ◌==◌}
+use Rattle.std.specs.Prelude.{ℕ, suc, ◌+◌, ◌-◌, ◌*◌, ◌/◌, ◌≤◌, max, Bool, not, ◌&&◌, List, [], ◌∷◌, length, map, Contains, Option, None, Some, unwrap_or, if◌then◌else◌, ◌==◌}
 use Rattle.tbl_format.specs.declared.format.Asked.{Asked}
 use Rattle.tbl_format.specs.declared.format.Key.{Key}
 use Rattle.tbl_format.specs.declared.format.Key.TheVariants.{Alphabetic, Center, Numeric, Right}
 use Rattle.tbl_layout.specs.Entries.{Block, Command, Content, Element, Row, Rule, Text, field_at, is_number, key_at}
-use Rattle.tbl_layout.specs.Widths.{edge, separation}
-use Rattle.tbl_format.specs.declared.options.Boxing.{Boxing}
+use Rattle.tbl_layout.specs.Widths.{left_edge, right_edge, separation}
+use Rattle.tbl_layout.specs.declared.bars.Bars.{Bars}
 use Rattle.tbl_layout.specs.declared.columns.Column.{Column}
 use Rattle.tbl_layout.specs.declared.columns.Needs.{Needs}
 use Rattle.tbl_layout.specs.declared.columns.Stands.{Stands}
@@ -155,13 +155,13 @@ abbrev pub equalled : List Asked → List Column → List Column
 equalled asked columns = with_equal (greatest (equal_widths asked columns)) asked columns
 
 -- the gaps in front of columns, the first of which is this one: in front of each other one its separation from the one before it
-abbrev pub gaps_from : Boxing → ℕ → List Asked → List ℕ
-gaps_from boxing gap [] = []
-gaps_from boxing gap (a ∷ asked) = gap ∷ gaps_from boxing (separation boxing a.separation) asked
+abbrev pub gaps_from : Bars → ℕ → List Asked → List ℕ
+gaps_from bars gap [] = []
+gaps_from bars gap (a ∷ asked) = gap ∷ gaps_from bars (separation bars a) asked
 
 -- in front of the first column of a table there is none
-abbrev pub gaps : Boxing → List Asked → List ℕ
-gaps boxing asked = gaps_from boxing 0 asked
+abbrev pub gaps : Bars → List Asked → List ℕ
+gaps bars asked = gaps_from bars 0 asked
 
 -- all of some numbers
 abbrev pub total : List ℕ → ℕ
@@ -169,9 +169,9 @@ total [] = 0
 total (n ∷ numbers) = n + total numbers
 
 -- the width of columns with their gaps, and with the edges of the picture
-abbrev pub width_of_all : Boxing → List Column → List Asked → ℕ
-width_of_all boxing columns asked =
-    total (map (λ c. c.width) columns) + total (gaps boxing asked) + (edge boxing + edge boxing)
+abbrev pub width_of_all : Bars → List Column → List Asked → ℕ
+width_of_all bars columns asked =
+    total (map (λ c. c.width) columns) + total (gaps bars asked) + (left_edge bars + right_edge bars asked)
 
 -- the part of so many columns more that falls to a front of all gaps: none where these are nothing
 abbrev pub share : ℕ → ℕ → ℕ → ℕ
@@ -198,17 +198,17 @@ pub record Laid : Type 0 where
   pub width : ℕ
 
 -- so many columns of the page are spread over all gaps; the first column stands behind the edge
-abbrev pub placed_with : Boxing → ℕ → List Asked → List Column → List Column
-placed_with boxing more asked columns =
-    let spaces = gaps boxing asked in placed (edge boxing) (spread more (total spaces) 0 spaces) columns
+abbrev pub placed_with : Bars → ℕ → List Asked → List Column → List Column
+placed_with bars more asked columns =
+    let spaces = gaps bars asked in placed (left_edge bars) (spread more (total spaces) 0 spaces) columns
 
-abbrev pub laid_with : Boxing → ℕ → ℕ → List Asked → List Column → Laid
-laid_with boxing more width asked columns = record { columns = placed_with boxing more asked columns; width = width + more }
+abbrev pub laid_with : Bars → ℕ → ℕ → List Asked → List Column → Laid
+laid_with bars more width asked columns = record { columns = placed_with bars more asked columns; width = width + more }
 
-abbrev pub laid_by : Boxing → Bool → ℕ → List Asked → List Column → Laid
-laid_by boxing is_expanded line_length asked columns =
-    let width = width_of_all boxing columns asked in
-    laid_with boxing (lacking is_expanded line_length width (total (gaps boxing asked))) width asked columns
+abbrev pub laid_by : Bars → Bool → ℕ → List Asked → List Column → Laid
+laid_by bars is_expanded line_length asked columns =
+    let width = width_of_all bars columns asked in
+    laid_with bars (lacking is_expanded line_length width (total (gaps bars asked))) width asked columns
 
 -- the columns of these elements with their widths, by what is asked of each
 abbrev pub columns_laid : ℕ → List Asked → List Element → List Column
@@ -216,13 +216,13 @@ columns_laid line_length asked elements =
     equalled asked (with_widths asked (columns_from line_length (length asked) elements 0 asked))
 
 -- and with their places
-abbrev pub laid : Boxing → Bool → ℕ → List Asked → List Element → Laid
-laid boxing is_expanded line_length asked elements =
-    laid_by boxing is_expanded line_length asked (columns_laid line_length asked elements)
+abbrev pub laid : Bars → Bool → ℕ → List Asked → List Element → Laid
+laid bars is_expanded line_length asked elements =
+    laid_by bars is_expanded line_length asked (columns_laid line_length asked elements)
 
--- where a bar stands between two columns
-abbrev pub bar_place : Column → Column → ℕ
-bar_place c d = let end = c.start + c.width in end + (d.start - end - 1) / 2
+-- where so many bars begin between two columns
+abbrev pub bar_place : ℕ → Column → Column → ℕ
+bar_place count c d = let end = c.start + c.width in end + (d.start - end - count) / 2
 
 -- where an entry begins in its column
 abbrev pub shift : Key → ℕ → ℕ

@@ -3,4 +3,6 @@ pub mod DataLines
 pub mod Entries
 pub mod Columns
 pub mod Widths
+pub mod BarsWorked
+pub mod LayoutLaws
 pub mod KeptEntries

@@ -10,9 +10,9 @@ ghost use Rattle.tbl_layout.specs.Columns.{place_of_rule, placed_with, share, sh
 ghost use Rattle.tbl_layout.specs.Columns.{total, unsplit, widest_entry, width_by};
 ghost use Rattle.tbl_layout.specs.Columns.{width_of_all, with_equal, with_widths};
 
-use crate::widths::{edge, separation};
+use crate::bars::Bars;
+use crate::widths::{left_edge, right_edge, separation};
 use tbl_format::format::{Asked, Key};
-use tbl_format::options::Boxing;
 
 /// How an entry stands in its column. The numbers are columns of the page.
 #[derive(Clone, Copy)]
@@ -179,29 +179,29 @@ fn set_equal(columns: &mut [Column], asked: &[Asked], width: usize)
 }
 
 /// The gaps between columns, or 2^64 - 1 if they are more.
-pub fn all_gaps(boxing: Boxing, asked: &[Asked]) -> usize
-    ensures { result ≡ min (total (gaps boxing asked.now)) (2 ^ 64 - 1) }
+pub fn all_gaps(bars: Bars, asked: &[Asked]) -> usize
+    ensures { result ≡ min (total (gaps bars asked.now)) (2 ^ 64 - 1) }
 {
     let mut all: usize = 0;
     let mut gap = 0;
     for at in 0..asked.len() {
         all = all.saturating_add(gap);
-        gap = separation(boxing, asked[at].separation);
+        gap = separation(bars, asked[at]);
     }
     all
 }
 
 /// The width of columns with the gaps between them and the edges, or 2^64 - 1 if it is greater.
-pub fn width_of_all(boxing: Boxing, columns: &[Column], asked: &[Asked]) -> usize
-    ensures { result ≡ min (width_of_all boxing columns.now asked.now) (2 ^ 64 - 1) }
+pub fn width_of_all(bars: Bars, columns: &[Column], asked: &[Asked]) -> usize
+    ensures { result ≡ min (width_of_all bars columns.now asked.now) (2 ^ 64 - 1) }
 {
     let mut width: usize = 0;
     for column in columns {
         width = width.saturating_add(column.width);
     }
     width
-        .saturating_add(all_gaps(boxing, asked))
-        .saturating_add(edge(boxing) * 2)
+        .saturating_add(all_gaps(bars, asked))
+        .saturating_add(left_edge(bars) + right_edge(bars, asked))
 }
 
 /// How many columns of the page are spread over gaps, so that a picture of a width is as wide as
@@ -219,12 +219,12 @@ pub fn lacking(is_expanded: bool, line_length: u32, width: usize, gaps: usize) -
 
 /// Gives each column its place, the first one behind the edge. So many columns of the page more are
 /// spread over the gaps.
-pub fn set_starts(columns: &mut [Column], boxing: Boxing, asked: &[Asked], more: usize)
-    requires { width_of_all boxing columns.old asked.now + more < 2 ^ 32 }
-    ensures { columns.new ≡ placed_with boxing more asked.now columns.old }
+pub fn set_starts(columns: &mut [Column], bars: Bars, asked: &[Asked], more: usize)
+    requires { width_of_all bars columns.old asked.now + more < 2 ^ 32 }
+    ensures { columns.new ≡ placed_with bars more asked.now columns.old }
 {
-    let all = all_gaps(boxing, asked);
-    let mut place = edge(boxing);
+    let all = all_gaps(bars, asked);
+    let mut place = left_edge(bars);
     let mut front = 0;
     let mut gap = 0;
     for at in 0..columns.len().min(asked.len()) {
@@ -234,7 +234,7 @@ pub fn set_starts(columns: &mut [Column], boxing: Boxing, asked: &[Asked], more:
         column.start = place + (gap + (share(more, front, all).saturating_sub(before)));
         columns[at] = column;
         place = column.start + column.width;
-        gap = separation(boxing, asked[at].separation);
+        gap = separation(bars, asked[at]);
     }
 }
 
@@ -306,13 +306,13 @@ impl Column {
     }
 }
 
-/// Where a bar stands between two columns.
-pub fn bar_place(column: Column, next: Column) -> usize
+/// Where so many bars begin between two columns.
+pub fn bar_place(bars: u8, column: Column, next: Column) -> usize
     requires { column.start + column.width < 2 ^ 63 }
-    ensures { result ≡ bar_place column next }
+    ensures { result ≡ bar_place bars column next }
 {
     let end = column.start + column.width;
-    end + next.start.saturating_sub(end).saturating_sub(1) / 2
+    end + next.start.saturating_sub(end).saturating_sub(bars as usize) / 2
 }
 
 /// How far a rule is moved that is as wide as its column's widest entry, by the key and the columns

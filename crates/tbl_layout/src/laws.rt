@@ -1,12 +1,36 @@
-//! What holds of the widths of columns, as contracts of functions that do nothing.
+//! What holds of columns and of the bars between them, as contracts of functions that do nothing.
 
-ghost use Rattle.std.specs.Prelude.{List};
+ghost use Rattle.std.specs.Prelude.{◌≡◌, ℕ, Bool, List, length};
 ghost use Rattle.tbl_format.specs.declared.format.Asked.{Asked};
-ghost use Rattle.tbl_layout.specs.Columns.{IsLeast};
+ghost use Rattle.tbl_layout.specs.Columns.{IsLeast, laid_by};
+ghost use Rattle.tbl_layout.specs.LayoutLaws.{AreInOrder, HaveRoom, IsAsWide};
+ghost use Rattle.tbl_layout.specs.declared.bars.Bars.{Bars};
+ghost use Rattle.tbl_layout.specs.declared.columns.Column.{Column};
 ghost use Rattle.tbl_layout.specs.declared.columns.Stands.{Stands};
 
 /// A column is wide enough for what is asked of it and for all its entries, and no wider than it
 /// has to be.
 pub fn least_widths()
     ensures { (asked : Asked) (entries : List Stands) → IsLeast asked entries }
+{}
+
+/// With `expand` a picture is as wide as the line, if it isn't wider and its columns are apart.
+/// Any other is as wide as its columns, their separations and its edges.
+pub fn expanded()
+    ensures { (bars : Bars) (line_length : ℕ) (asked : List Asked) (columns : List Column)
+        → IsAsWide bars line_length asked columns }
+{}
+
+/// Columns keep their widths and stand in order, each behind the one before it by its separation
+/// at least; the first begins at the left edge, and the last ends at the right one.
+pub fn in_order()
+    ensures { (bars : Bars) (is_expanded : Bool) (line_length : ℕ) (asked : List Asked)
+        (columns : List Column) → length columns ≡ length asked
+        → AreInOrder bars asked columns (laid_by bars is_expanded line_length asked columns) }
+{}
+
+/// Bars between two columns have a blank at each side, where the columns are as far apart as these
+/// bars ask. One bar stands at one of the two places of two.
+pub fn bars_apart()
+    ensures { (bars : Bars) (a : Asked) (c d : Column) → HaveRoom bars a c d }
 {}

@@ -2,6 +2,7 @@
 //! A Program to Format Tables").
 #![tactic(auto)]
 
+pub mod bars;
 pub mod columns;
 pub mod data;
 pub mod data_lines;

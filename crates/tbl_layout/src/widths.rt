@@ -1,11 +1,13 @@
 //! How wide the texts and the columns of a table are (Lesk, "Tbl": Formatting).
 
 ghost use Rattle.std.specs.Prelude.{◌≡◌, ◌<◌, ◌≤◌, ◌^◌};
-ghost use Rattle.tbl_layout.specs.Widths.{edge, separation, separation_asked, width_in_text};
+ghost use Rattle.tbl_layout.specs.Widths.{left_edge, right_edge, separation, separation_asked};
+ghost use Rattle.tbl_layout.specs.Widths.{width_in_text};
 
+use crate::bars::{Bars, edge_bars, edge_width, inner_bars, last_bars, least_separation};
 use roff_num::width_of_byte;
 use roff_source::{is_dropped, is_silent};
-use tbl_format::options::Boxing;
+use tbl_format::format::Asked;
 
 /// The width of a byte of a text, in columns: of one that is dropped there is nothing.
 #[inline(always)]
@@ -42,24 +44,27 @@ fn separation_asked(asked: Option<u32>) -> usize
     }
 }
 
-/// The separation behind a column, in columns: where a bar stands in it, at least 3.
-pub fn separation(boxing: Boxing, asked: Option<u32>) -> usize
-    ensures value { result ≡ separation boxing asked }
+/// The separation behind a column, in columns: it has room for the bars there.
+pub fn separation(bars: Bars, asked: Asked) -> usize
+    ensures value { result ≡ separation bars asked }
     ensures most { result < 2 ^ 32 }
 {
-    match boxing {
-        Boxing::EachField => separation_asked(asked).max(3),
-        _ => separation_asked(asked),
-    }
+    let least = least_separation(inner_bars(bars.boxing, asked.bars));
+    separation_asked(asked.separation).max(least)
 }
 
-/// The columns of an edge of the picture: a bar, and one blank inside.
-pub fn edge(boxing: Boxing) -> usize
-    ensures value { result ≡ edge boxing }
-    ensures most { result ≤ 2 }
+/// The columns of the left edge of the picture.
+pub fn left_edge(bars: Bars) -> usize
+    ensures value { result ≡ left_edge bars }
+    ensures most { result < 1024 }
 {
-    match boxing {
-        Boxing::Nothing => 0,
-        _ => 2,
-    }
+    edge_width(edge_bars(bars.boxing, bars.front))
+}
+
+/// The columns of its right edge.
+pub fn right_edge(bars: Bars, asked: &[Asked]) -> usize
+    ensures value { result ≡ right_edge bars asked.now }
+    ensures most { result < 1024 }
+{
+    edge_width(edge_bars(bars.boxing, last_bars(asked)))
 }

@@ -4,6 +4,7 @@ ghost use Rattle.std.specs.Prelude.{◌≡◌, [], ◌∷◌, Some, None, true, 
 ghost use Rattle.tbl_format.specs.Format.{nothing_asked, plain_key};
 ghost use Rattle.tbl_format.specs.declared.format.Key.TheVariants.{Alphabetic, Center, Left};
 ghost use Rattle.tbl_format.specs.declared.format.Key.TheVariants.{Numeric, Right};
+ghost use Rattle.tbl_layout.specs.BarsWorked.{all_boxed, behind_column, boxed, edges, separations};
 ghost use Rattle.tbl_layout.specs.Columns.{needs_of, stands, widest_entry, width_of};
 ghost use Rattle.tbl_layout.specs.DataLines.{block_line_kind, ends_in_block, ends_row};
 ghost use Rattle.tbl_layout.specs.DataLines.{field_kind, is_laid_out, line_kind, without_opening};
@@ -59,4 +60,24 @@ pub fn entries()
     ensures widest { widest_entry (needs_of (Apart 1 3 ∷ InStrip 5 ∷ Alone 2 ∷ [])) ≡ 5 }
     ensures widest_split { widest_entry (needs_of (Apart 1 3 ∷ Apart 2 0 ∷ [])) ≡ 4 }
     ensures sides { width_of nothing_asked (Apart 1 3 ∷ Apart 2 0 ∷ Alone 4 ∷ []) ≡ 5 }
+{}
+
+/// The room that bars have, and where they stand.
+#[tactic(auto, unfolding(roff_num::specs::Expressions::folded_onto, roff_num::specs::Expressions::operand_within, roff_num::specs::Expressions::value_at))]
+pub fn bars()
+    ensures least { separations (boxed 0) (codes "lb2 | l.") ≡ 3 ∷ 3 ∷ [] }
+    ensures least_of_two { separations (boxed 0) (codes "l2 || l || l1.") ≡ 4 ∷ 4 ∷ 1 ∷ [] }
+    ensures wide { separations (boxed 0) (codes "l7 | l7 || l.") ≡ 7 ∷ 7 ∷ 3 ∷ [] }
+    ensures most { separations (boxed 0) (codes "l0 l0, l | l, l || l.") ≡ 4 ∷ 0 ∷ [] }
+    ensures inside { separations all_boxed (codes "l0 l1 || l.") ≡ 3 ∷ 4 ∷ 3 ∷ [] }
+    ensures outside { separations (boxed 2) (codes "l0 l1 l.") ≡ 0 ∷ 1 ∷ 3 ∷ [] }
+    ensures no_edge { edges (boxed 0) (codes "l | l.") ≡ 0 ∷ 0 ∷ [] }
+    ensures format_edges { edges (boxed 0) (codes "| l || l ||, l.") ≡ 2 ∷ 3 ∷ [] }
+    ensures later_edges { edges (boxed 0) (codes "l l, || l |, l l |.") ≡ 3 ∷ 2 ∷ [] }
+    ensures around { edges (boxed 1) (codes "l || l ||.") ≡ 2 ∷ 3 ∷ [] }
+    ensures twice_around { edges (boxed 2) (codes "| l.") ≡ 3 ∷ 3 ∷ [] }
+    ensures places_of_one { map (λ places. behind_column places 1) (1 ∷ 2 ∷ 3 ∷ 4 ∷ 5 ∷ [])
+        ≡ 0 ∷ 0 ∷ 1 ∷ 1 ∷ 2 ∷ [] }
+    ensures places_of_two { map (λ places. behind_column places 2) (3 ∷ 4 ∷ 5 ∷ 6 ∷ [])
+        ≡ 0 ∷ 1 ∷ 1 ∷ 2 ∷ [] }
 {}

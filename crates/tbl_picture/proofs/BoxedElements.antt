@@ -1,93 +1,114 @@
 -- The elements of a boxed picture, with the rules that its box adds.
-use Rattle.std.proofs.Common.{◌≡◌, ℕ, Bool, true, false, ◌&&◌, List, [], ◌∷◌, ◌++◌, refl, ap, ◌∙◌}
+use Rattle.std.proofs.Common.{◌≡◌, ℕ, Bool, true, false, ◌-◌, ◌&&◌, List, [], ◌∷◌, ◌++◌, length, refl, ap, ◌∙◌, if◌then◌else◌, ◌==◌}
 use Rattle.tbl_format.specs.Format.{FormatRow}
 use Rattle.tbl_format.specs.declared.options.Boxing.{Boxing}
-use Rattle.tbl_format.specs.declared.options.Boxing.TheVariants.{Around, EachField, Nothing as NotBoxed}
 use Rattle.tbl_layout.specs.Entries.{Command, Content, Element, Row, Rule}
-use Rattle.tbl_layout.specs.declared.columns.Column.{Column}
 use Rattle.tbl_layout.specs.declared.data_lines.RuleSign.{RuleSign}
 use Rattle.tbl_layout.specs.declared.data_lines.RuleSign.TheVariants.{Single}
 use Rattle.tbl_picture.specs.ElementsWalked.{boxed_from, lines_on}
-use Rattle.tbl_picture.specs.PictureLines.{Neighbour, NoRow, Sheet, crossings, line_below, lines_behind, rule_line, ruled_between}
-use Rattle.tbl_picture.specs.RulesWalked.{boxes_each, is_boxed}
+use Rattle.tbl_picture.specs.PictureLines.{Neighbour, NoRow, Sheet, crossed_at_edge, crossings, crossings_from, frame_rules, frame_sign, line_below, lines_behind, places_from, rule_line, ruled_between}
+
+-- elements with a rule in front of each row behind another, or without
+abbrev pub inside : Bool → Bool → List Element → List Element
+inside is_inside behind_row elements = if is_inside then ruled_between behind_row elements else elements
 
 -- what comes first of them
-pub boxed-rule : (boxing : Boxing) (behind_row : Bool) (sign : RuleSign) (elements : List Element)
-    → boxed_from boxing behind_row (Rule sign ∷ elements) ≡ Rule sign ∷ boxed_from boxing false elements
-boxed-rule NotBoxed behind_row sign elements = refl
-boxed-rule Around behind_row sign elements = refl
-boxed-rule EachField true sign elements = refl
-boxed-rule EachField false sign elements = refl
+inside-rule : (is_inside behind_row : Bool) (sign : RuleSign) (elements : List Element)
+    → inside is_inside behind_row (Rule sign ∷ elements) ≡ Rule sign ∷ inside is_inside false elements
+inside-rule true true sign elements = refl
+inside-rule true false sign elements = refl
+inside-rule false behind_row sign elements = refl
 
-pub boxed-command : (boxing : Boxing) (behind_row : Bool) (bytes : List ℕ) (elements : List Element)
-    → boxed_from boxing behind_row (Command bytes ∷ elements) ≡ Command bytes ∷ boxed_from boxing behind_row elements
-boxed-command NotBoxed behind_row bytes elements = refl
-boxed-command Around behind_row bytes elements = refl
-boxed-command EachField true bytes elements = refl
-boxed-command EachField false bytes elements = refl
+inside-command : (is_inside behind_row : Bool) (bytes : List ℕ) (elements : List Element)
+    → inside is_inside behind_row (Command bytes ∷ elements) ≡ Command bytes ∷ inside is_inside behind_row elements
+inside-command true true bytes elements = refl
+inside-command true false bytes elements = refl
+inside-command false behind_row bytes elements = refl
 
-pub boxed-row : (boxing : Boxing) (behind_row : Bool) (format : FormatRow) (fields : List Content) (elements : List Element)
-    → (boxes_each boxing && behind_row) ≡ false
-    → boxed_from boxing behind_row (Row format fields ∷ elements) ≡ Row format fields ∷ boxed_from boxing true elements
-boxed-row NotBoxed behind_row format fields elements none = refl
-boxed-row Around behind_row format fields elements none = refl
-boxed-row EachField true format fields elements none = absurd (cc)
-boxed-row EachField false format fields elements none = refl
+inside-row : (is_inside behind_row : Bool) (format : FormatRow) (fields : List Content) (elements : List Element) → (is_inside && behind_row) ≡ false
+    → inside is_inside behind_row (Row format fields ∷ elements) ≡ Row format fields ∷ inside is_inside true elements
+inside-row true true format fields elements none = absurd (cc)
+inside-row true false format fields elements none = refl
+inside-row false behind_row format fields elements none = refl
 
--- a rule in front of a row behind another
-pub boxed-between : (boxing : Boxing) (behind_row : Bool) (format : FormatRow) (fields : List Content) (elements : List Element)
-    → (boxes_each boxing && behind_row) ≡ true
-    → boxed_from boxing behind_row (Row format fields ∷ elements) ≡ Rule Single ∷ boxed_from boxing false (Row format fields ∷ elements)
-boxed-between NotBoxed behind_row format fields elements some = absurd (cc)
-boxed-between Around behind_row format fields elements some = absurd (cc)
-boxed-between EachField true format fields elements some = refl
-boxed-between EachField false format fields elements some = absurd (cc)
+inside-between : (is_inside behind_row : Bool) (format : FormatRow) (fields : List Content) (elements : List Element) → (is_inside && behind_row) ≡ true
+    → inside is_inside behind_row (Row format fields ∷ elements) ≡ Rule Single ∷ inside is_inside false (Row format fields ∷ elements)
+inside-between true true format fields elements some = refl
+inside-between true false format fields elements some = absurd (cc)
+inside-between false behind_row format fields elements some = absurd (cc)
 
--- behind all of them
-pub boxed-none : (boxing : Boxing) (behind_row : Bool) → is_boxed boxing ≡ true → boxed_from boxing behind_row [] ≡ Rule Single ∷ []
-boxed-none NotBoxed behind_row boxed = absurd (cc)
-boxed-none Around behind_row boxed = refl
-boxed-none EachField true boxed = refl
-boxed-none EachField false boxed = refl
-
-pub unboxed-none : (boxing : Boxing) (behind_row : Bool) → is_boxed boxing ≡ false → boxed_from boxing behind_row [] ≡ []
-unboxed-none NotBoxed behind_row none = refl
-unboxed-none Around behind_row none = absurd (cc)
-unboxed-none EachField behind_row none = absurd (cc)
-
-pub each-boxed : (boxing : Boxing) (behind_row : Bool) → (boxes_each boxing && behind_row) ≡ true → is_boxed boxing ≡ true
-each-boxed NotBoxed behind_row some = absurd (cc)
-each-boxed Around behind_row some = absurd (cc)
-each-boxed EachField behind_row some = refl
+inside-none : (is_inside behind_row : Bool) → inside is_inside behind_row [] ≡ []
+inside-none true true = refl
+inside-none true false = refl
+inside-none false behind_row = refl
 
 -- no rule that is added stands in front of the first of them, so the line below is the same
-below-around : (elements : List Element) → line_below (elements ++ Rule Single ∷ []) ≡ line_below elements
-below-around [] = refl
-below-around (Row format fields ∷ elements) = refl
-below-around (Rule sign ∷ elements) = refl
-below-around (Command bytes ∷ elements) = below-around elements
+below-plain : (frame elements : List Element) → line_below frame ≡ NoRow → line_below (elements ++ frame) ≡ line_below elements
+below-plain frame [] none = none
+below-plain frame (Row format fields ∷ elements) none = refl
+below-plain frame (Rule sign ∷ elements) none = refl
+below-plain frame (Command bytes ∷ elements) none = below-plain frame elements none
 
-below-each : (elements : List Element) → line_below (ruled_between false elements ++ Rule Single ∷ []) ≡ line_below elements
-below-each [] = refl
-below-each (Row format fields ∷ elements) = refl
-below-each (Rule sign ∷ elements) = refl
-below-each (Command bytes ∷ elements) = below-each elements
+below-each : (frame elements : List Element) → line_below frame ≡ NoRow → line_below (ruled_between false elements ++ frame) ≡ line_below elements
+below-each frame [] none = none
+below-each frame (Row format fields ∷ elements) none = refl
+below-each frame (Rule sign ∷ elements) none = refl
+below-each frame (Command bytes ∷ elements) none = below-each frame elements none
 
-pub below-boxed : (boxing : Boxing) (elements : List Element) → line_below (boxed_from boxing false elements) ≡ line_below elements
-below-boxed NotBoxed elements = refl
-below-boxed Around elements = below-around elements
-below-boxed EachField elements = below-each elements
+below-inside : (is_inside : Bool) (frame elements : List Element) → line_below frame ≡ NoRow
+    → line_below (inside is_inside false elements ++ frame) ≡ line_below elements
+below-inside true frame elements none = below-each frame elements none
+below-inside false frame elements none = below-plain frame elements none
+
+below-frame : (t : Bool) (sign : RuleSign) → line_below (if t then [] else Rule sign ∷ []) ≡ NoRow
+below-frame true sign = refl
+below-frame false sign = refl
+
+module _ (boxing : Boxing) where
+  abbrev pub with-frame : List Element → List Element
+  with-frame elements = elements ++ frame_rules boxing
+
+  pub boxed-rule : (behind_row : Bool) (sign : RuleSign) (elements : List Element)
+      → boxed_from boxing behind_row (Rule sign ∷ elements) ≡ Rule sign ∷ boxed_from boxing false elements
+  boxed-rule behind_row sign elements = ap with-frame (inside-rule boxing.is_inside behind_row sign elements)
+
+  pub boxed-command : (behind_row : Bool) (bytes : List ℕ) (elements : List Element)
+      → boxed_from boxing behind_row (Command bytes ∷ elements) ≡ Command bytes ∷ boxed_from boxing behind_row elements
+  boxed-command behind_row bytes elements = ap with-frame (inside-command boxing.is_inside behind_row bytes elements)
+
+  pub boxed-row : (behind_row : Bool) (format : FormatRow) (fields : List Content) (elements : List Element) → (boxing.is_inside && behind_row) ≡ false
+      → boxed_from boxing behind_row (Row format fields ∷ elements) ≡ Row format fields ∷ boxed_from boxing true elements
+  boxed-row behind_row format fields elements none = ap with-frame (inside-row boxing.is_inside behind_row format fields elements none)
+
+  -- a rule in front of a row behind another
+  pub boxed-between : (behind_row : Bool) (format : FormatRow) (fields : List Content) (elements : List Element) → (boxing.is_inside && behind_row) ≡ true
+      → boxed_from boxing behind_row (Row format fields ∷ elements) ≡ Rule Single ∷ boxed_from boxing false (Row format fields ∷ elements)
+  boxed-between behind_row format fields elements some = ap with-frame (inside-between boxing.is_inside behind_row format fields elements some)
+
+  -- behind all of them
+  pub boxed-none : (behind_row t : Bool) → (boxing.bars == 0) ≡ t
+      → boxed_from boxing behind_row [] ≡ (if t then [] else Rule (frame_sign boxing.bars) ∷ [])
+  boxed-none behind_row t is =
+      ap with-frame (inside-none boxing.is_inside behind_row) ∙ ap (λ (u : Bool). if u then [] else Rule (frame_sign boxing.bars) ∷ []) is
+
+  below-boxed : (elements : List Element) → line_below (boxed_from boxing false elements) ≡ line_below elements
+  below-boxed elements =
+      below-inside boxing.is_inside (frame_rules boxing) elements (below-frame (boxing.bars == 0) (frame_sign boxing.bars))
 
 -- a rule in front of elements
 pub rule-lines : (s : Sheet) (above : Neighbour) (sign : RuleSign) (elements : List Element)
-    → lines_behind s above (Rule sign ∷ boxed_from s.boxing false elements)
-    ≡ rule_line s.width sign (crossings s.boxing s.width s.columns above (line_below elements)) ++ lines_on s false NoRow elements
+    → lines_behind s above (Rule sign ∷ boxed_from s.bars.boxing false elements)
+    ≡ rule_line s.width sign (crossings s above (line_below elements)) ++ lines_on s false NoRow elements
 rule-lines s above sign elements =
-    ap (λ (below : Neighbour). rule_line s.width sign (crossings s.boxing s.width s.columns above below) ++ lines_on s false NoRow elements)
-    (below-boxed s.boxing elements)
+    ap (λ (below : Neighbour). rule_line s.width sign (crossings s above below) ++ lines_on s false NoRow elements) (below-boxed s.bars.boxing elements)
 
-pub unboxed-crossings : (boxing : Boxing) (width : ℕ) (columns : List Column) (above below : Neighbour) → is_boxed boxing ≡ false
-    → crossings boxing width columns above below ≡ []
-unboxed-crossings NotBoxed width columns above below none = refl
-unboxed-crossings Around width columns above below none = absurd (cc)
-unboxed-crossings EachField width columns above below none = absurd (cc)
+pub unbarred-crossings : (s : Sheet) (above below : Neighbour) → s.bars.has_any ≡ false → crossings s above below ≡ []
+unbarred-crossings s above below none =
+    let boxing = s.bars.boxing in
+    let right = crossed_at_edge boxing above below (length s.columns) in
+    ap (λ (t : Bool).
+    if t then
+    places_from 0 (crossed_at_edge boxing above below 0)
+    ++ (crossings_from boxing above below 0 s.columns ++ places_from (s.width - right) right)
+    else [])
+    none

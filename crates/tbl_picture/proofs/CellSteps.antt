@@ -28,7 +28,7 @@ module _ (row : WalkedRow) (w : KeptWalk) (r : RowColumn) (at : AtColumn row w r
       → cell_left row.bytes (suc w.line) (record r { place = r.place }) ≡ behind_first (cell_left row.bytes w.line r)
       → gap ≡ begins_at r - w.place → reached ≡ begins_at r + run.columns
       → Adds row.bytes frame 4 before after (if_given w.count (replicate gap blank) ++ last_given w.count run)
-      → RowSteps frame row w (passed row.boxing r.place reached w) before after
+      → RowSteps frame row w (passed row.bars.has_any r.place reached w) before after
   run-steps frame before after run gap reached first moved gap_is reached_is adds =
       let cell = cell_left row.bytes w.line r in
       let cells = cells_behind row w r at in
@@ -43,7 +43,7 @@ module _ (row : WalkedRow) (w : KeptWalk) (r : RowColumn) (at : AtColumn row w r
   pub none-steps : (frame : List ℕ) (pieces : KeptPieces) (p : BlockPlace) → first_of (cell_left row.bytes w.line r) ≡ []
       → cell_left row.bytes (suc w.line) (record r { place = p }) ≡ behind_first (cell_left row.bytes w.line r)
       → IsWithin (block_text row.bytes r.entry) p
-      → RowSteps frame row w (passed row.boxing p w.place w) pieces pieces
+      → RowSteps frame row w (passed row.bars.has_any p w.place w) pieces pieces
   none-steps frame pieces p first moved within =
       cell-passed row w r at frame pieces pieces p w.place [] next
       (adds-fewer row.bytes frame 0 4 pieces pieces [] (omega arith) (adds-none row.bytes frame pieces)) within moved

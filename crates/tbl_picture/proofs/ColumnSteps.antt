@@ -1,18 +1,16 @@
 -- What a step does that gives a column of a row, or begins a word of it.
-use Rattle.std.proofs.Common.{◌≡◌, ℕ, suc, ◌+◌, ◌-◌, ◌<◌, ◌≤◌, List, [], ◌∷◌, ◌++◌, length, take, drop, map, refl, sym, ap, subst, ◌∙◌, arith, append_assoc, length-append, length-drop}
+use Rattle.std.proofs.Common.{◌≡◌, ℕ, suc, ◌+◌, ◌-◌, ◌<◌, ◌≤◌, Bool, true, false, List, [], ◌∷◌, ◌++◌, length, take, drop, map, refl, sym, ap, subst, ◌∙◌, arith, append_assoc, length-append, length-drop}
 use Rattle.std.proofs.lemmas.List.{drop-map, map-append}
 use Rattle.tbl_layout.specs.declared.entry.Entry.{Entry}
-use Rattle.tbl_format.specs.declared.options.Boxing.{Boxing}
-use Rattle.tbl_format.specs.declared.options.Boxing.TheVariants.{Around, EachField, Nothing as NotBoxed}
 use Rattle.tbl_picture.specs.PictureLines.{Cell, with_fronts}
 use Rattle.tbl_picture.specs.PieceQueue.{Adds, KeptPieces}
-use Rattle.tbl_picture.specs.RowsLeft.{behind_first, block_text, cell_left, from_line, fronts_by, given, one_less, row_columns, then_fronts}
+use Rattle.tbl_picture.specs.RowsLeft.{behind_first, block_text, cell_left, fronts_by, given, one_less, row_columns, then_fronts}
 use Rattle.tbl_picture.specs.RowsWalked.{LastHasGlyph, PlacesLie, StandsInFirst, StandsNext, front_count, most_steps, steps_of_cells, steps_of_columns}
 use Rattle.tbl_picture.specs.Walks.{AtColumn, InLine, IsOn, IsUnderWay, KeptWalk, OnLine, RowSteps, WalkedRow, at_word, cells_in_front, cells_left, columns_left, columns_walked, fields_left, fields_now, fronts_of, further_lines, next_column, passed, row_left, row_steps, steps_of_rest}
 use Rattle.tbl_picture.specs.declared.row_columns.RowColumn.{RowColumn}
 use Rattle.tbl_picture.specs.declared.walk.Next.{Next}
 use Rattle.tbl_picture.specs.declared.walk.Next.TheVariants.{AtCell, AtFront, AtWord}
-use Rattle.tbl_picture.proofs.FrontCells.{many-fronts}
+use Rattle.tbl_picture.proofs.FrontCells.{many-fronts, no-fronts}
 use Rattle.tbl_picture.proofs.RowColumns.{column-lies, places-push, row_columns-push, take-next}
 use Rattle.tbl_picture.proofs.RunsGiven.{last-behind}
 use Rattle.tbl_text.specs.BlockPlaces.{IsWithin}
@@ -27,7 +25,7 @@ pub at-column : (row : WalkedRow) (w : KeptWalk) (r : RowColumn) → InLine row 
     → columns_left row w ≡ r ∷ drop (suc (length w.behind)) (columns_walked row w) → AtColumn row w r
 at-column row w r line few first =
     let before = line.on.before in
-    let stands = column-lies row.bytes row.boxing row.keys 0 (length w.behind) row.columns row.entries w.places r
+    let stands = column-lies row.bytes row.bars.boxing row.format 0 (length w.behind) row.columns row.entries w.places r
     (drop (suc (length w.behind)) (columns_walked row w)) first before.lie before.narrow before.places in
     record {
       line = line;
@@ -94,13 +92,13 @@ module _ (row : WalkedRow) (w : KeptWalk) (r : RowColumn) (at : AtColumn row w r
       ∙ ap (map behind_first) (drop-map (cell_left row.bytes w.line) (length w.behind) (columns_walked row w) ∙ fields-first)
 
   moved-passed : (p : BlockPlace) → cell_left row.bytes (suc w.line) (record r { place = p }) ≡ behind_first (cell_left row.bytes w.line r)
-      → map (cell_left row.bytes (suc w.line)) (row_columns row.boxing row.keys 0 row.columns row.entries (w.behind ++ p ∷ []))
+      → map (cell_left row.bytes (suc w.line)) (row_columns row.bars.boxing row.format 0 row.columns row.entries (w.behind ++ p ∷ []))
       ≡ take (length (w.behind ++ p ∷ [])) (map behind_first (fields_now row w))
   moved-passed p moved =
       let f = cell_left row.bytes (suc w.line) in
-      let before = row_columns row.boxing row.keys 0 row.columns row.entries w.behind in
+      let before = row_columns row.bars.boxing row.format 0 row.columns row.entries w.behind in
       let cells = map behind_first (fields_now row w) in
-      ap (map f) (row_columns-push row.boxing row.keys 0 row.columns row.entries w.places w.behind p r columns_behind at.first)
+      ap (map f) (row_columns-push row.bars.boxing row.format 0 row.columns row.entries w.places w.behind p r columns_behind at.first)
       ∙ map-append f before (record r { place = p } ∷ [])
       ∙ ap (λ (front : List Cell). front ++ f (record r { place = p }) ∷ []) at.line.on.moved
       ∙ ap (λ (c : Cell). take (length w.behind) cells ++ c ∷ []) moved
@@ -110,7 +108,7 @@ module _ (row : WalkedRow) (w : KeptWalk) (r : RowColumn) (at : AtColumn row w r
   -- the walk is on this line behind it
   on-passed : (p : BlockPlace) (reached : ℕ) → IsWithin (block_text row.bytes r.entry) p
       → cell_left row.bytes (suc w.line) (record r { place = p }) ≡ behind_first (cell_left row.bytes w.line r)
-      → OnLine row (passed row.boxing p reached w)
+      → OnLine row (passed row.bars.has_any p reached w)
   on-passed p reached within moved =
       let b = at.line.on.before in
       record {
@@ -122,19 +120,21 @@ module _ (row : WalkedRow) (w : KeptWalk) (r : RowColumn) (at : AtColumn row w r
       }
 
   -- what is left behind it: where nothing stands in front of columns, and where something does
-  cells-plain : (p : BlockPlace) (reached : ℕ) → row.boxing ≡ NotBoxed → cells_left row (passed row.boxing p reached w) ≡ cells_behind
+  cells-plain : (p : BlockPlace) (reached : ℕ) → row.bars.has_any ≡ false → cells_left row (passed row.bars.has_any p reached w)
+      ≡ cells_behind
   cells-plain p reached is =
-      let none : fronts_of row w.line ≡ [] = ap (λ (b : Boxing). map (from_line w.line) (fronts_by b row.width row.columns row.entries)) is in
-      let fields = fields_left row (passed row.boxing p reached w) in
+      let none : fronts_of row w.line ≡ [] = no-fronts row w.line is in
+      let fields = fields_left row (passed row.bars.has_any p reached w) in
       ap (λ (fronts : List Cell). then_fronts (drop (suc (length (w.behind ++ p ∷ []))) fronts) fields) none
       ∙ then-none fields
       ∙ ap (map (cell_left row.bytes w.line)) (left-passed p)
       ∙ ap (λ (fronts : List Cell). with_fronts (drop (suc (length w.behind)) fronts) fields_behind) (sym none)
 
   cells-boxed : (p : BlockPlace) (reached : ℕ)
-      → cells_in_front (length (w.behind ++ p ∷ [])) row (passed row.boxing p reached w) ≡ cells_behind
+      → cells_in_front (length (w.behind ++ p ∷ [])) row (passed row.bars.has_any p reached w) ≡ cells_behind
   cells-boxed p reached =
-      ap (λ (n : ℕ). with_fronts (drop n (fronts_of row w.line)) (fields_left row (passed row.boxing p reached w))) (length-push w.behind p)
+      ap (λ (n : ℕ). with_fronts (drop n (fronts_of row w.line)) (fields_left row (passed row.bars.has_any p reached w)))
+      (length-push w.behind p)
       ∙ ap (λ (columns : List RowColumn). with_fronts fronts_behind (map (cell_left row.bytes w.line) columns)) (left-passed p)
 
   -- the last cell that is given has a glyph
@@ -143,13 +143,13 @@ module _ (row : WalkedRow) (w : KeptWalk) (r : RowColumn) (at : AtColumn row w r
 
   -- what is known behind it
   record Passed (p : BlockPlace) (reached : ℕ) (next : Next) : Type 0 where
-    can : IsUnderWay next row (passed row.boxing p reached w)
+    can : IsUnderWay next row (passed row.bars.has_any p reached w)
     on : IsOn next
-    left : row_left next row (passed row.boxing p reached w) ≡ given (one_less w.count) reached cells_behind ++ further_lines row w
-    few : row_steps next row (passed row.boxing p reached w) ≤ steps_behind
+    left : row_left next row (passed row.bars.has_any p reached w) ≡ given (one_less w.count) reached cells_behind ++ further_lines row w
+    few : row_steps next row (passed row.bars.has_any p reached w) ≤ steps_behind
 
-  boxed-passed : (p : BlockPlace) (reached : ℕ) → OnLine row (passed row.boxing p reached w)
-      → suc (length w.behind) < length (fronts_by row.boxing row.width row.columns row.entries)
+  boxed-passed : (p : BlockPlace) (reached : ℕ) → OnLine row (passed row.bars.has_any p reached w)
+      → suc (length w.behind) < length (fronts_by row.bars row.width row.format row.columns row.entries)
       → Passed p reached (AtFront (length (w.behind ++ p ∷ [])))
   boxed-passed p reached on many = record {
     can = record {
@@ -163,9 +163,9 @@ module _ (row : WalkedRow) (w : KeptWalk) (r : RowColumn) (at : AtColumn row w r
     few = omega (arith, length-push w.behind p, ap (steps_of_columns (most_steps row.bytes)) (entries-passed p));
   }
 
-  next-passed : (b : Boxing) (p : BlockPlace) (reached : ℕ) → row.boxing ≡ b → OnLine row (passed row.boxing p reached w)
-      → Passed p reached (next_column b (length (w.behind ++ p ∷ [])))
-  next-passed NotBoxed p reached is on =
+  next-passed : (t : Bool) (p : BlockPlace) (reached : ℕ) → row.bars.has_any ≡ t → OnLine row (passed row.bars.has_any p reached w)
+      → Passed p reached (next_column t (length (w.behind ++ p ∷ [])))
+  next-passed false p reached is on =
       let entries = drop (length (w.behind ++ p ∷ [])) row.entries in
       record {
         can = record { on = on; last = subst (LastHasGlyph (one_less w.count)) (sym (cells-plain p reached is)) last-passed };
@@ -178,10 +178,9 @@ module _ (row : WalkedRow) (w : KeptWalk) (r : RowColumn) (at : AtColumn row w r
           ap (steps_of_columns (most_steps row.bytes)) (entries-passed p),
         );
       }
-  next-passed Around p reached is on =
-      boxed-passed p reached on (many-fronts Around row.boxing row.width row.columns row.entries (length w.behind) tt is few-behind at.line.on.before.short)
-  next-passed EachField p reached is on =
-      boxed-passed p reached on (many-fronts EachField row.boxing row.width row.columns row.entries (length w.behind) tt is few-behind at.line.on.before.short)
+  next-passed true p reached is on =
+      boxed-passed p reached on
+      (many-fronts row.bars row.width row.format row.columns row.entries is (length w.behind) few-behind at.line.on.before.short)
 
   -- a step that passes it
   pub steps-passed : (frame : List ℕ) (before after : KeptPieces) (p : BlockPlace) (reached : ℕ) (added : List ℕ)
@@ -189,9 +188,9 @@ module _ (row : WalkedRow) (w : KeptWalk) (r : RowColumn) (at : AtColumn row w r
       → cell_left row.bytes (suc w.line) (record r { place = p }) ≡ behind_first (cell_left row.bytes w.line r)
       → row_left w.next row w ≡ (added ++ given (one_less w.count) reached cells_behind) ++ further_lines row w
       → steps_behind < row_steps w.next row w
-      → RowSteps frame row w (passed row.boxing p reached w) before after
+      → RowSteps frame row w (passed row.bars.has_any p reached w) before after
   steps-passed frame before after p reached added adds within moved left less =
-      let next = next-passed row.boxing p reached refl (on-passed p reached within moved) in
+      let next = next-passed row.bars.has_any p reached refl (on-passed p reached within moved) in
       record {
         added = added;
         adds = adds;
@@ -202,7 +201,7 @@ module _ (row : WalkedRow) (w : KeptWalk) (r : RowColumn) (at : AtColumn row w r
         less = omega (arith, less, next.few);
         element = refl;
         above = refl;
-        boxing = refl;
+        bars = refl;
         width = refl;
         room = refl;
       }
@@ -224,7 +223,7 @@ module _ (row : WalkedRow) (w : KeptWalk) (r : RowColumn) (at : AtColumn row w r
       → Adds row.bytes frame 4 before after added → IsWithin (block_text row.bytes r.entry) p
       → cell_left row.bytes (suc w.line) (record r { place = p }) ≡ behind_first (cell_left row.bytes w.line r)
       → given w.count w.place (cell_left row.bytes w.line r ∷ cells_behind) ≡ added ++ given (one_less w.count) reached cells_behind
-      → RowSteps frame row w (passed row.boxing p reached w) before after
+      → RowSteps frame row w (passed row.bars.has_any p reached w) before after
   cell-passed frame before after p reached added next adds within moved split =
       let left : row_left w.next row w ≡ (added ++ given (one_less w.count) reached cells_behind) ++ further_lines row w =
       ap (λ (n : Next). row_left n row w) next
@@ -261,7 +260,7 @@ module _ (row : WalkedRow) (w : KeptWalk) (r : RowColumn) (at : AtColumn row w r
         less = less;
         element = refl;
         above = refl;
-        boxing = refl;
+        bars = refl;
         width = refl;
         room = refl;
       }

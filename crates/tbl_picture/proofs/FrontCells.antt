@@ -1,52 +1,137 @@
 -- What stands in front of the columns of a row: how much it is, one of it, and what it is on further lines.
-use Rattle.std.proofs.Common.{◌≡◌, ◌≢◌, ℕ, zero, suc, ◌+◌, ◌-◌, ◌<◌, ◌≤◌, max, List, [], ◌∷◌, ◌++◌, length, drop, get_or, map, refl, sym, ap, subst, ◌∙◌, arith, length-append, None}
-use Rattle.std.proofs.lemmas.List.{drop-drop, length-map, map-append}
+use Rattle.std.proofs.Common.{◌≡◌, ◌≢◌, ℕ, zero, suc, ◌+◌, ◌*◌, ◌-◌, ◌<◌, ◌≤◌, max, Bool, true, false, List, [], ◌∷◌, ◌++◌, length, drop, get_or, map, refl, sym, ap, subst, ◌∙◌, arith, length-append, None, if◌then◌else◌}
+use Rattle.std.proofs.lemmas.List.{drop-drop}
+use Rattle.tbl_format.specs.Format.{FormatRow}
 use Rattle.tbl_format.specs.declared.options.Boxing.{Boxing}
-use Rattle.tbl_format.specs.declared.options.Boxing.TheVariants.{Around, EachField, Nothing as NotBoxed}
-use Rattle.tbl_layout.specs.Entries.{Run}
+use Rattle.tbl_layout.specs.DataLines.{sign_byte}
+use Rattle.tbl_layout.specs.Entries.{Run, up_to_last_glyph}
+use Rattle.tbl_layout.specs.declared.bars.Bars.{Bars}
 use Rattle.tbl_layout.specs.declared.columns.Column.{Column}
+use Rattle.tbl_layout.specs.declared.data_lines.RuleSign.{RuleSign}
 use Rattle.tbl_layout.specs.declared.entry.Entry.{Entry}
-use Rattle.tbl_picture.specs.PictureLines.{Cell, bar_at, with_fronts}
-use Rattle.tbl_picture.specs.RowsLeft.{all_between_by, behind_first, between_by, first_of, from_line, fronts_by, joined_first}
-use Rattle.tbl_picture.specs.RowsWalked.{HasGlyph, LastHasGlyph, front_count}
+use Rattle.tbl_picture.specs.PictureLines.{Cell, bar, bars_at, bars_at_edge, bars_between, bars_by, crossed_at, crossing, repeated, right_bars, with_fronts}
+use Rattle.tbl_picture.specs.RowsLeft.{all_between_by, behind_first, cell_of_front, first_cell, first_of, from_line, fronts_by, is_there, joined_first}
+use Rattle.tbl_picture.specs.RowsWalked.{HasBars, HasGlyph, front_count}
+use Rattle.tbl_picture.specs.Walks.{WalkedRow, fronts_of}
+use Rattle.tbl_picture.specs.declared.fronts.Front.{Front}
+use Rattle.tbl_picture.specs.declared.fronts.Front.TheVariants.{Bars as SomeBars, Crossed, Nothing as NoFront}
+use Rattle.tbl_picture.proofs.RowColumns.{drop-none}
+use Rattle.tbl_picture.proofs.RunsGiven.{glyph-before}
 
 -- how many there are
-between-count : (b : Boxing) (columns : List Column) (entries : List Entry) → suc (length (all_between_by b columns entries)) ≡ max 1 (length columns)
-between-count b [] entries = refl
-between-count b (c ∷ []) entries = refl
-between-count b (c ∷ d ∷ columns) entries = omega (arith, between-count b (d ∷ columns) (drop 1 entries))
+between-count : (b : Boxing) (format : FormatRow) (k : ℕ) (columns : List Column) (entries : List Entry)
+    → suc (length (all_between_by b format k columns entries)) ≡ max 1 (length columns)
+between-count b format k [] entries = refl
+between-count b format k (c ∷ []) entries = refl
+between-count b format k (c ∷ d ∷ columns) entries = omega (arith, between-count b format (suc k) (d ∷ columns) (drop 1 entries))
 
-module _ (width : ℕ) (columns : List Column) (entries : List Entry) where
-  abbrev all : Boxing → List Cell
-  all b = bar_at 0 ∷ all_between_by b columns entries ++ bar_at (width - 1) ∷ []
+-- where there is one the picture may have bars
+some-if : (t : Bool) (xs : List Cell) (at : ℕ) → at < length (if t then xs else []) → t ≡ true
+some-if true xs at some = refl
+some-if false xs at some = absurd (omega (arith, some))
 
-  all-count : (b : Boxing) → length (all b) ≡ front_count columns
-  all-count b = omega (arith, between-count b columns entries, length-append (all_between_by b columns entries) (bar_at (width - 1) ∷ []))
+-- between two columns
+drop-one : (n : ℕ) (entries : List Entry) → drop n (drop 1 entries) ≡ drop (suc n) entries
+drop-one zero [] = refl
+drop-one (suc n) [] = refl
+drop-one n (e ∷ entries) = refl
 
--- in a boxed picture as many as columns, and one more
-abbrev pub IsBoxed : Boxing → Type 0
-IsBoxed NotBoxed = ⊥
-IsBoxed Around = Unit {0}
-IsBoxed EachField = Unit {0}
+between-at : (b : Boxing) (format : FormatRow) (k : ℕ) (columns : List Column) (entries : List Entry) (rest : List Cell) (n : ℕ)
+    (d : Column)
+    → suc n < length columns
+    → drop n (all_between_by b format k columns entries ++ rest)
+    ≡ bars_by (joined_first (drop n entries)) (bars_between b format (suc (k + n))) (get_or columns n d) (get_or columns (suc n) d)
+    ∷ drop (suc n) (all_between_by b format k columns entries ++ rest)
+between-at b format k [] entries rest n d few = absurd (omega (arith, few))
+between-at b format k (x ∷ []) entries rest n d few = absurd (omega (arith, few))
+between-at b format k (x ∷ y ∷ columns) entries rest zero d few =
+    let same : k ≡ k + 0 = omega arith in
+    ap (λ (i : ℕ). bars_by (joined_first entries) (bars_between b format (suc i)) x y
+    ∷ (all_between_by b format (suc k) (y ∷ columns) (drop 1 entries) ++ rest)) same
+between-at b format k (x ∷ y ∷ columns) entries rest (suc n) d few =
+    let same : suc k + n ≡ k + suc n = omega arith in
+    let behind = drop (suc n) (all_between_by b format (suc k) (y ∷ columns) (drop 1 entries) ++ rest) in
+    let one : List Entry → ℕ → Cell = λ es i.
+    bars_by (joined_first es) (bars_between b format (suc i)) (get_or (y ∷ columns) n d) (get_or columns n d) in
+    between-at b format (suc k) (y ∷ columns) (drop 1 entries) rest n d (omega (arith, few))
+    ∙ ap (λ (es : List Entry). one es (suc k + n) ∷ behind) (drop-one n entries)
+    ∙ ap (λ (i : ℕ). one (drop (suc n) entries) i ∷ behind) same
 
-pub front-count : (b : Boxing) (width : ℕ) (columns : List Column) (entries : List Entry) → IsBoxed b
-    → length (fronts_by b width columns entries) ≡ front_count columns
-front-count NotBoxed width columns entries is = absurd is
-front-count Around width columns entries is = all-count width columns entries Around
-front-count EachField width columns entries is = all-count width columns entries EachField
+-- behind the last one
+at-last : (xs : List Cell) (x : Cell) (n : ℕ) → n ≡ length xs → drop n (xs ++ x ∷ []) ≡ x ∷ drop (suc n) (xs ++ x ∷ [])
+at-last [] x zero is = refl
+at-last [] x (suc n) is = absurd (omega (arith, is))
+at-last (y ∷ xs) x zero is = absurd (omega (arith, is))
+at-last (y ∷ xs) x (suc n) is = at-last xs x n (omega (arith, is))
 
--- where there is one the picture is boxed
-pub boxed-some : (b : Boxing) (width : ℕ) (columns : List Column) (entries : List Entry) (at : ℕ)
-    → at < length (fronts_by b width columns entries) → IsBoxed b
-boxed-some NotBoxed width columns entries at some = absurd (omega (arith, some))
-boxed-some Around width columns entries at some = tt
-boxed-some EachField width columns entries at some = tt
+module _ (bars : Bars) (width : ℕ) (format : FormatRow) (columns : List Column) (entries : List Entry) where
+  abbrev at-left : Cell
+  at-left = bars_at 0 (bars_at_edge bars.boxing format 0)
 
--- behind each field of a row there is one more
-pub many-fronts : (b : Boxing) (boxing : Boxing) (width : ℕ) (columns : List Column) (entries : List Entry) (n : ℕ) → IsBoxed b → boxing ≡ b
-    → suc n ≤ length entries → length entries ≤ length columns → suc n < length (fronts_by boxing width columns entries)
-many-fronts b boxing width columns entries n is same few short =
-    omega (arith, few, short, front-count boxing width columns entries (subst IsBoxed (sym same) is))
+  abbrev at-right : Cell
+  at-right = right_bars width (bars_at_edge bars.boxing format (length columns))
+
+  abbrev all : List Cell
+  all = at-left ∷ all_between_by bars.boxing format 0 columns entries ++ at-right ∷ []
+
+  abbrev these : List Cell
+  these = fronts_by bars width format columns entries
+
+  pub any-some : (at : ℕ) → at < length these → bars.has_any ≡ true
+  any-some at some = some-if bars.has_any all at some
+
+  module _ (any : bars.has_any ≡ true) where
+    fronts-are : these ≡ all
+    fronts-are = ap (λ (t : Bool). if t then all else []) any
+
+    -- as many as columns, and one more
+    pub front-count : length these ≡ front_count columns
+    front-count =
+        omega (
+          arith,
+          ap length fronts-are,
+          between-count bars.boxing format 0 columns entries,
+          length-append (all_between_by bars.boxing format 0 columns entries) (at-right ∷ []),
+        )
+
+    -- behind each field of a row there is one more
+    pub many-fronts : (n : ℕ) → suc n ≤ length entries → length entries ≤ length columns → suc n < length these
+    many-fronts n few short = omega (arith, few, short, front-count)
+
+    -- one of them: behind the last column
+    past-edge : (at : ℕ) → at ≢ 0 → length columns ≤ at → at < front_count columns → drop at all ≡ at-right ∷ drop (suc at) all
+    past-edge zero other past few = absurd (other refl)
+    past-edge (suc n) other past few =
+        at-last (all_between_by bars.boxing format 0 columns entries) at-right n
+        (omega (arith, past, few, between-count bars.boxing format 0 columns entries))
+
+    pub front-edge : (at : ℕ) → at ≢ 0 → length columns ≤ at → at < front_count columns → drop at these ≡ at-right ∷ drop (suc at) these
+    front-edge at other past few =
+        ap (drop at) fronts-are ∙ past-edge at other past few ∙ ap (λ (xs : List Cell). at-right ∷ drop (suc at) xs) (sym fronts-are)
+
+    -- and between two
+    pub front-between : (n : ℕ) (d : Column) → suc n < length columns
+        → drop (suc n) these
+        ≡ bars_by (joined_first (drop n entries)) (bars_between bars.boxing format (suc n)) (get_or columns n d) (get_or columns (suc n) d)
+        ∷ drop (suc (suc n)) these
+    front-between n d few =
+        let same : 0 + n ≡ n = omega arith in
+        let behind : List Cell → List Cell = λ xs. drop (suc (suc n)) xs in
+        let one : ℕ → Cell = λ i.
+        bars_by (joined_first (drop n entries)) (bars_between bars.boxing format (suc i)) (get_or columns n d) (get_or columns (suc n) d) in
+        ap (drop (suc n)) fronts-are
+        ∙ between-at bars.boxing format 0 columns entries (at-right ∷ []) n d few
+        ∙ ap (λ (i : ℕ). one i ∷ behind all) same
+        ∙ ap (λ (xs : List Cell). one n ∷ behind xs) (sym fronts-are)
+
+-- where the picture has no bars there is none
+pub no-fronts : (row : WalkedRow) (line : ℕ) → row.bars.has_any ≡ false → fronts_of row line ≡ []
+no-fronts row line none =
+    let b = row.bars.boxing in
+    let right = bars_at_edge b row.format (length row.columns) in
+    let all = bars_at 0 (bars_at_edge b row.format 0)
+    ∷ all_between_by b row.format 0 row.columns row.entries ++ right_bars row.width right ∷ [] in
+    ap (λ (t : Bool). map (from_line line) (if t then all else [])) none
 
 -- on further lines
 from-next : (line : ℕ) (c : Cell) → behind_first (from_line line c) ≡ from_line (suc line) c
@@ -72,97 +157,72 @@ length-fronts [] cells = omega arith
 length-fronts (f ∷ fronts) [] = omega (arith, length-fronts fronts [])
 length-fronts (f ∷ fronts) (c ∷ cells) = omega (arith, length-fronts fronts cells)
 
--- the last of them is the bar at the edge
-edge-first : (line at : ℕ) → HasGlyph (first_of (from_line line (bar_at at)))
-edge-first zero at = omega arith
-edge-first (suc line) at = omega arith
+-- some bars have a glyph on each line
+bars-glyph : (n at line : ℕ) → 0 < n → HasGlyph (first_of (from_line line (bars_at at n)))
+bars-glyph zero at line some = absurd (omega (arith, some))
+bars-glyph (suc n) at zero some = omega arith
+bars-glyph (suc n) at (suc line) some = omega arith
 
-last-fronts : (fs cells : List Cell) (e : Cell) → length cells ≤ length fs → HasGlyph (first_of e)
-    → LastHasGlyph (suc (length fs + length cells)) (with_fronts (fs ++ e ∷ []) cells)
-last-fronts [] [] e few has = has
-last-fronts [] (c ∷ cells) e few has = absurd (omega (arith, few))
-last-fronts (f ∷ fs) [] e few has =
-    let same : suc (suc (length fs + 0)) ≡ suc (suc (length fs) + 0) = omega arith in
-    subst (λ (n : ℕ). LastHasGlyph n (f ∷ with_fronts (fs ++ e ∷ []) [])) same (last-fronts fs [] e (omega arith) has)
-last-fronts (f ∷ fs) (c ∷ cells) e few has =
-    let same : suc (suc (suc (length fs + length cells))) ≡ suc (suc (length fs) + suc (length cells)) = omega arith in
-    subst (λ (n : ℕ). LastHasGlyph n (f ∷ c ∷ with_fronts (fs ++ e ∷ []) cells)) same (last-fronts fs cells e (omega (arith, few)) has)
+crossed-glyph : (n at line : ℕ) (sign : RuleSign) (end : ℕ) → 0 < n → HasGlyph (first_of (from_line line (crossed_at at n sign end)))
+crossed-glyph zero at line sign end some = absurd (omega (arith, some))
+crossed-glyph (suc n) at zero sign end some =
+    glyph-before (repeated crossing (suc n) ∷ []) (repeated (sign_byte sign) (end - (at + suc n)) ∷ []) (omega arith)
+crossed-glyph (suc n) at (suc line) sign end some =
+    subst (λ (lines : List (List Run)). HasGlyph (get_or lines 0 (repeated bar (suc n) ∷ []))) (sym (drop-none line)) (omega arith)
 
-all-last : (line : ℕ) (b : Boxing) (width : ℕ) (columns : List Column) (entries : List Entry) (cells : List Cell) → length cells ≤ length columns
-    → LastHasGlyph (front_count columns + length cells)
-    (with_fronts (map (from_line line) (bar_at 0 ∷ all_between_by b columns entries ++ bar_at (width - 1) ∷ [])) cells)
-all-last line b width columns entries cells few =
-    let front = bar_at 0 ∷ all_between_by b columns entries in
-    let fs = map (from_line line) front in
-    let edge = bar_at (width - 1) in
-    let long : length fs ≡ max 1 (length columns) = omega (arith, length-map front (from_line line), between-count b columns entries) in
-    let count : suc (length fs + length cells) ≡ front_count columns + length cells = omega (arith, long) in
-    subst (λ (all : List Cell). LastHasGlyph (front_count columns + length cells) (with_fronts all cells))
-    (sym (map-append (from_line line) front (edge ∷ [])))
-    (subst (λ (n : ℕ). LastHasGlyph n (with_fronts (fs ++ from_line line edge ∷ []) cells)) count
-    (last-fronts fs cells (from_line line edge) (omega (arith, few, long)) (edge-first line (width - 1))))
+-- whether what stands there has a glyph on a line
+pub front-glyph : (f : Front) (line : ℕ) → HasBars f → is_there f ≡ true → HasGlyph (first_of (from_line line (cell_of_front f)))
+front-glyph NoFront line has is = absurd (cc)
+front-glyph (SomeBars at n) line has is = bars-glyph n at line has
+front-glyph (Crossed at n sign end) line has is = crossed-glyph n at line sign end has
 
-pub boxed-last : (line : ℕ) (b : Boxing) (width : ℕ) (columns : List Column) (entries : List Entry) (cells : List Cell) → IsBoxed b
-    → length cells ≤ length columns
-    → LastHasGlyph (front_count columns + length cells) (with_fronts (map (from_line line) (fronts_by b width columns entries)) cells)
-boxed-last line NotBoxed width columns entries cells is few = absurd is
-boxed-last line Around width columns entries cells is few = all-last line Around width columns entries cells few
-boxed-last line EachField width columns entries cells is few = all-last line EachField width columns entries cells few
+pub front-glyphless : (f : Front) (line : ℕ) → is_there f ≡ false → up_to_last_glyph (first_of (from_line line (cell_of_front f))) ≡ []
+front-glyphless NoFront line is = ap (λ (lines : List (List Run)). up_to_last_glyph (get_or lines 0 [])) (drop-none line)
+front-glyphless (SomeBars at n) line is = absurd (cc)
+front-glyphless (Crossed at n sign end) line is = absurd (cc)
 
-pub boxed-other : (b : Boxing) → b ≢ NotBoxed → IsBoxed b
-boxed-other NotBoxed other = absurd (other refl)
-boxed-other Around other = tt
-boxed-other EachField other = tt
+-- which of them, or of the cells, stands at a place
+with-none : (fs : List Cell) → with_fronts fs [] ≡ fs
+with-none [] = refl
+with-none (f ∷ fs) = ap (λ (xs : List Cell). f ∷ xs) (with-none fs)
 
--- one of them: in front of the first column
-pub front-begins : (b : Boxing) (width : ℕ) (columns : List Column) (entries : List Entry) → IsBoxed b
-    → fronts_by b width columns entries ≡ bar_at 0 ∷ drop 1 (fronts_by b width columns entries)
-front-begins NotBoxed width columns entries is = absurd is
-front-begins Around width columns entries is = refl
-front-begins EachField width columns entries is = refl
+pub with-past : (fs cs : List Cell) (n at : ℕ) → length cs ≤ length fs → n ≡ length cs + at → length cs ≤ at
+    → drop n (with_fronts fs cs) ≡ drop at fs
+with-past fs [] n at few is past =
+    let same : n ≡ at = omega (arith, is) in ap (drop n) (with-none fs) ∙ ap (λ (i : ℕ). drop i fs) same
+with-past [] (c ∷ cs) n at few is past = absurd (omega (arith, few))
+with-past (f ∷ fs) (c ∷ cs) n zero few is past = absurd (omega (arith, past))
+with-past (f ∷ fs) (c ∷ cs) n (suc at) few is past =
+    let same : n ≡ suc (suc (length cs + at)) = omega (arith, is) in
+    ap (λ (i : ℕ). drop i (f ∷ c ∷ with_fronts fs cs)) same
+    ∙ with-past fs cs (length cs + at) at (omega (arith, few)) refl (omega (arith, past))
 
--- behind the last one
-at-last : (xs : List Cell) (x : Cell) (n : ℕ) → n ≡ length xs → drop n (xs ++ x ∷ []) ≡ x ∷ drop (suc n) (xs ++ x ∷ [])
-at-last [] x zero is = refl
-at-last [] x (suc n) is = absurd (omega (arith, is))
-at-last (y ∷ xs) x zero is = absurd (omega (arith, is))
-at-last (y ∷ xs) x (suc n) is = at-last xs x n (omega (arith, is))
+begins-with : (f : Cell) (fs cs : List Cell) → first_cell (with_fronts (f ∷ fs) cs) ≡ f
+begins-with f fs [] = refl
+begins-with f fs (c ∷ cs) = refl
 
-pub front-edge : (b : Boxing) (width : ℕ) (columns : List Column) (entries : List Entry) (at : ℕ) → IsBoxed b
-    → at ≢ 0 → length columns ≤ at → at < front_count columns
-    → drop at (fronts_by b width columns entries) ≡ bar_at (width - 1) ∷ drop (suc at) (fronts_by b width columns entries)
-front-edge NotBoxed width columns entries at is other past few = absurd is
-front-edge Around width columns entries zero is other past few = absurd (other refl)
-front-edge Around width columns entries (suc n) is other past few =
-    at-last (all_between_by Around columns entries) (bar_at (width - 1)) n (omega (arith, past, few, between-count Around columns entries))
-front-edge EachField width columns entries zero is other past few = absurd (other refl)
-front-edge EachField width columns entries (suc n) is other past few =
-    at-last (all_between_by EachField columns entries) (bar_at (width - 1)) n (omega (arith, past, few, between-count EachField columns entries))
+pub with-even : (fs cs : List Cell) (n at : ℕ) → length cs < length fs → n ≡ 2 * at → at ≤ length cs
+    → first_cell (drop n (with_fronts fs cs)) ≡ first_cell (drop at fs)
+with-even [] cs n at few is within = absurd (omega (arith, few))
+with-even (f ∷ fs) cs n zero few is within =
+    let same : n ≡ 0 = omega (arith, is) in
+    ap (λ (i : ℕ). first_cell (drop i (with_fronts (f ∷ fs) cs))) same ∙ begins-with f fs cs
+with-even (f ∷ fs) [] n (suc at) few is within = absurd (omega (arith, within))
+with-even (f ∷ fs) (c ∷ cs) n (suc at) few is within =
+    let same : n ≡ suc (suc (2 * at)) = omega (arith, is) in
+    ap (λ (i : ℕ). first_cell (drop i (f ∷ c ∷ with_fronts fs cs))) same
+    ∙ with-even fs cs (2 * at) at (omega (arith, few)) refl (omega (arith, within))
 
--- and between two
-drop-one : (n : ℕ) (entries : List Entry) → drop n (drop 1 entries) ≡ drop (suc n) entries
-drop-one zero [] = refl
-drop-one (suc n) [] = refl
-drop-one n (e ∷ entries) = refl
-
-between-at : (b : Boxing) (columns : List Column) (entries : List Entry) (rest : List Cell) (n : ℕ) (d : Column) → suc n < length columns
-    → drop n (all_between_by b columns entries ++ rest)
-    ≡ between_by b (get_or columns n d) (get_or columns (suc n) d) (drop n entries) ∷ drop (suc n) (all_between_by b columns entries ++ rest)
-between-at b [] entries rest n d few = absurd (omega (arith, few))
-between-at b (x ∷ []) entries rest n d few = absurd (omega (arith, few))
-between-at b (x ∷ y ∷ columns) entries rest zero d few = refl
-between-at b (x ∷ y ∷ columns) entries rest (suc n) d few =
-    between-at b (y ∷ columns) (drop 1 entries) rest n d (omega (arith, few))
-    ∙ ap (λ (es : List Entry). between_by b (get_or (y ∷ columns) n d) (get_or columns n d) es
-    ∷ drop (suc n) (all_between_by b (y ∷ columns) (drop 1 entries) ++ rest)) (drop-one n entries)
-
-pub front-between : (b : Boxing) (width : ℕ) (columns : List Column) (entries : List Entry) (n : ℕ) (d : Column) → IsBoxed b
-    → suc n < length columns
-    → drop (suc n) (fronts_by b width columns entries)
-    ≡ between_by b (get_or columns n d) (get_or columns (suc n) d) (drop n entries) ∷ drop (suc (suc n)) (fronts_by b width columns entries)
-front-between NotBoxed width columns entries n d is few = absurd is
-front-between Around width columns entries n d is few = between-at Around columns entries (bar_at (width - 1) ∷ []) n d few
-front-between EachField width columns entries n d is few = between-at EachField columns entries (bar_at (width - 1) ∷ []) n d few
+pub with-odd : (fs cs : List Cell) (n at : ℕ) → length cs < length fs → n ≡ 2 * at + 1 → at < length cs
+    → first_cell (drop n (with_fronts fs cs)) ≡ first_cell (drop at cs)
+with-odd [] cs n at few is within = absurd (omega (arith, few))
+with-odd (f ∷ fs) [] n at few is within = absurd (omega (arith, within))
+with-odd (f ∷ fs) (c ∷ cs) n zero few is within =
+    let same : n ≡ 1 = omega (arith, is) in ap (λ (i : ℕ). first_cell (drop i (f ∷ c ∷ with_fronts fs cs))) same
+with-odd (f ∷ fs) (c ∷ cs) n (suc at) few is within =
+    let same : n ≡ suc (suc (2 * at + 1)) = omega (arith, is) in
+    ap (λ (i : ℕ). first_cell (drop i (f ∷ c ∷ with_fronts fs cs))) same
+    ∙ with-odd fs cs (2 * at + 1) at (omega (arith, few)) refl (omega (arith, within))
 
 -- no two fields are left
 pub joined-few : (entries : List Entry) → length entries ≤ 1 → joined_first entries ≡ None

@@ -2,13 +2,13 @@
 use Rattle.std.proofs.Common.{◌≡◌, ◌≢◌, ℕ, zero, suc, ◌+◌, ◌-◌, ◌<◌, max, Bool, true, false, List, [], ◌∷◌, ◌++◌, length, drop, replicate, get_or, refl, sym, ap, subst, ◌∙◌, arith, append_assoc, length-drop}
 use Rattle.std.specs.Prelude.{nat_lt}
 use Rattle.std.proofs.lemmas.Bool.{ltb-true, ltb-false}
-use Rattle.std.proofs.lemmas.List.{drop_all, length-map}
+use Rattle.std.proofs.lemmas.List.{append-nil, drop_all, length-map}
 use Rattle.roff_source.specs.Bytes.{blank}
 use Rattle.tbl_layout.specs.DataLines.{sign_byte}
 use Rattle.tbl_layout.specs.Entries.{Run, blanks, columns_of}
 use Rattle.tbl_layout.specs.declared.data_lines.RuleSign.{RuleSign}
 use Rattle.tbl_layout.specs.declared.data_lines.RuleSign.TheVariants.{Double, Single}
-use Rattle.tbl_picture.specs.PictureLines.{Cell, at_column, bar, bar_at, crossed_at, crossing, end_of, no_bar, one, repeated, with_fronts}
+use Rattle.tbl_picture.specs.PictureLines.{Cell, at_column, bar, bars_at, crossed_at, crossing, end_of, nothing_there, repeated, with_fronts}
 use Rattle.tbl_picture.specs.PieceQueue.{Adds, KeptPieces}
 use Rattle.tbl_picture.specs.RowsLeft.{cell_left, first_of, from_line, fronts_by, given, given_of, if_given, one_less, then_fronts}
 use Rattle.tbl_picture.specs.RowsWalked.{HasGlyph, LastHasGlyph, front_count, most_steps, steps_of_cells, steps_of_columns}
@@ -18,9 +18,9 @@ use Rattle.tbl_picture.specs.declared.walk.Next.TheVariants.{AtCell, AtFront}
 use Rattle.tbl_picture.proofs.Adding.{adds-fewer, adds-none}
 use Rattle.tbl_picture.proofs.CellsGiven.{none-given, repeated-last, run-given}
 use Rattle.tbl_picture.proofs.ColumnSteps.{steps-cells}
-use Rattle.tbl_picture.proofs.FrontCells.{boxed-some, front-count}
+use Rattle.tbl_picture.proofs.FrontCells.{any-some, front-count}
 use Rattle.tbl_picture.proofs.RowColumns.{drop-none, length-row_columns, map-at}
-use Rattle.tbl_picture.proofs.RunsGiven.{given-before, given-last, last-behind}
+use Rattle.tbl_picture.proofs.RunsGiven.{given-before, given-last, glyph-before, last-behind}
 
 -- cells behind what stands in front of the first of them
 abbrev pub behind_front : List Cell → List Cell → List Cell
@@ -41,11 +41,12 @@ none-long (x ∷ xs) is = absurd (omega (arith, is))
 
 -- what stands in front of a column
 pub front-stands : (row : WalkedRow) (w : KeptWalk) (at : ℕ) (f : Cell) → InFront row at w
-    → drop at (fronts_by row.boxing row.width row.columns row.entries) ≡ f ∷ drop (suc at) (fronts_by row.boxing row.width row.columns row.entries)
+    → drop at (fronts_by row.bars row.width row.format row.columns row.entries)
+    ≡ f ∷ drop (suc at) (fronts_by row.bars row.width row.format row.columns row.entries)
     → FrontStands row at f w
 front-stands row w at f front is = record {
   front = front;
-  first = map-at (from_line w.line) at (fronts_by row.boxing row.width row.columns row.entries) f is;
+  first = map-at (from_line w.line) at (fronts_by row.bars row.width row.format row.columns row.entries) f is;
 }
 
 module _ (row : WalkedRow) (w : KeptWalk) (at : ℕ) (f : Cell) (stands : FrontStands row at f w) (reached : ℕ) where
@@ -66,10 +67,10 @@ module _ (row : WalkedRow) (w : KeptWalk) (at : ℕ) (f : Cell) (stands : FrontS
   last-front : LastHasGlyph (one_less w.count) behind_now
   last-front = last-behind w.count front_now behind_now (subst (LastHasGlyph w.count) front-first stands.front.last)
 
-  all-fronts : length (fronts_by row.boxing row.width row.columns row.entries) ≡ front_count row.columns
+  all-fronts : length (fronts_by row.bars row.width row.format row.columns row.entries) ≡ front_count row.columns
   all-fronts =
-      front-count row.boxing row.width row.columns row.entries
-      (boxed-some row.boxing row.width row.columns row.entries at stands.front.within)
+      front-count row.bars row.width row.format row.columns row.entries
+      (any-some row.bars row.width row.format row.columns row.entries at stands.front.within)
 
   many-left : length (fields_left row w) ≡ length row.entries - length w.behind
   many-left =
@@ -78,7 +79,7 @@ module _ (row : WalkedRow) (w : KeptWalk) (at : ℕ) (f : Cell) (stands : FrontS
         arith,
         length-map (columns_left row w) (cell_left row.bytes w.line),
         length-drop (length w.behind) (columns_walked row w),
-        length-row_columns row.boxing row.keys row.bytes 0 row.columns row.entries w.places b.short b.places,
+        length-row_columns row.bars.boxing row.format row.bytes 0 row.columns row.entries w.places b.short b.places,
       )
 
   on-front : OnLine row new_walk
@@ -155,7 +156,7 @@ module _ (row : WalkedRow) (w : KeptWalk) (at : ℕ) (f : Cell) (stands : FrontS
   next-by false false is_field is =
       let past = ltb-false (length w.behind) (length row.entries) is_field in
       let edge = ltb-false at (max 1 (length row.columns)) is in
-      let all = fronts_by row.boxing row.width row.columns row.entries in
+      let all = fronts_by row.bars row.width row.format row.columns row.entries in
       let none : fields_left row w ≡ [] = none-long (fields_left row w) (omega (arith, many-left, past)) in
       let no_entry : drop (length w.behind) row.entries ≡ [] = drop_all (length w.behind) row.entries (omega (arith, past)) in
       let no_front : drop (suc at) (fronts_of row w.line) ≡ [] =
@@ -193,89 +194,108 @@ module _ (row : WalkedRow) (w : KeptWalk) (at : ℕ) (f : Cell) (stands : FrontS
         less = omega (arith, behind.less, ap (λ (n : Next). row_steps n row w) next);
         element = refl;
         above = refl;
-        boxing = refl;
+        bars = refl;
         width = refl;
         room = refl;
       }
 
--- a line of a bar
-bar-first : (line place : ℕ) → first_of (from_line line (bar_at place)) ≡ one bar ∷ []
-bar-first line place = ap (λ (lines : List (List Run)). get_or lines 0 (one bar ∷ [])) (drop-none line)
+-- a line of bars
+bar-first : (line place n : ℕ) → first_of (from_line line (bars_at place (suc n))) ≡ repeated bar (suc n) ∷ []
+bar-first line place n = ap (λ (lines : List (List Run)). get_or lines 0 (repeated bar (suc n) ∷ [])) (drop-none line)
 
-no-first : (line : ℕ) → first_of (from_line line no_bar) ≡ []
-no-first line = ap (λ (lines : List (List Run)). get_or lines 0 []) (drop-none line)
+nothing-first : (line : ℕ) → first_of (from_line line nothing_there) ≡ []
+nothing-first line = ap (λ (lines : List (List Run)). get_or lines 0 []) (drop-none line)
 
--- on further lines a bar isn't crossed
-pub crossed-late : (line place end : ℕ) (sign : RuleSign) → line ≢ 0 → from_line line (crossed_at place sign end) ≡ from_line line (bar_at place)
-crossed-late zero place end sign other = absurd (other refl)
-crossed-late (suc n) place end sign other =
-    ap (λ (lines : List (List Run)). record { at = place; lines = lines; below = one bar ∷ [] }) (drop-none n)
+-- on further lines bars aren't crossed
+crossed-late : (line place n end : ℕ) (sign : RuleSign) → 0 < n → line ≢ 0
+    → from_line line (crossed_at place n sign end) ≡ from_line line (bars_at place n)
+crossed-late line place zero end sign some other = absurd (omega (arith, some))
+crossed-late zero place (suc n) end sign some other = absurd (other refl)
+crossed-late (suc k) place (suc n) end sign some other =
+    ap (λ (lines : List (List Run)). record { at = place; lines = lines; below = repeated bar (suc n) ∷ [] }) (drop-none k)
 
-pub stands-late : (row : WalkedRow) (w : KeptWalk) (at place end : ℕ) (sign : RuleSign) → w.line ≢ 0
-    → FrontStands row at (crossed_at place sign end) w → FrontStands row at (bar_at place) w
-stands-late row w at place end sign other stands = record {
+pub stands-late : (row : WalkedRow) (w : KeptWalk) (at place n end : ℕ) (sign : RuleSign) → 0 < n → w.line ≢ 0
+    → FrontStands row at (crossed_at place n sign end) w → FrontStands row at (bars_at place n) w
+stands-late row w at place n end sign some other stands = record {
   front = stands.front;
   first = stands.first
-      ∙ ap (λ (c : Cell). c ∷ drop (suc at) (fronts_of row w.line)) (crossed-late w.line place end sign other);
+      ∙ ap (λ (c : Cell). c ∷ drop (suc at) (fronts_of row w.line)) (crossed-late w.line place n end sign some other);
 }
 
--- what is given of a bar that is crossed
-crossing-given : (count gap k : ℕ) (sign : RuleSign) → given_of count (blanks gap ∷ one crossing ∷ repeated (sign_byte sign) k ∷ [])
-    ≡ if_given count (replicate gap blank) ++ (if_given count (replicate 1 crossing) ++ if_given count (replicate k (sign_byte sign)))
-crossing-given zero gap k sign = refl
-crossing-given (suc zero) gap zero Single = refl
-crossing-given (suc zero) gap zero Double = refl
-crossing-given (suc zero) gap (suc k) Single = refl
-crossing-given (suc zero) gap (suc k) Double = refl
-crossing-given (suc (suc n)) gap k sign =
+-- what is given of bars that are crossed
+crossing-two : (count n k : ℕ) (sign : RuleSign) → given_of count (repeated crossing (suc n) ∷ repeated (sign_byte sign) k ∷ [])
+    ≡ if_given count (replicate (suc n) crossing) ++ if_given count (replicate k (sign_byte sign))
+crossing-two zero n k sign = refl
+crossing-two (suc zero) n zero Single = sym (append-nil (replicate (suc n) crossing))
+crossing-two (suc zero) n zero Double = sym (append-nil (replicate (suc n) crossing))
+crossing-two (suc zero) n (suc k) Single = refl
+crossing-two (suc zero) n (suc k) Double = refl
+crossing-two (suc (suc m)) n k sign =
     let rest = repeated (sign_byte sign) k in
-    given-before (suc (suc n)) (blanks gap) (one crossing ∷ rest ∷ []) (λ is. absurd (omega (arith, is)))
-    ∙ ap (λ (more : List ℕ). replicate gap blank ++ more)
-    (given-before (suc (suc n)) (one crossing) (rest ∷ []) (λ is. absurd (omega (arith, is)))
-    ∙ ap (λ (more : List ℕ). replicate 1 crossing ++ more) (given-last (suc (suc n)) rest))
+    given-before (suc (suc m)) (repeated crossing (suc n)) (rest ∷ []) (λ is. absurd (omega (arith, is)))
+    ∙ ap (λ (more : List ℕ). replicate (suc n) crossing ++ more) (given-last (suc (suc m)) rest)
+
+crossing-given : (count gap n k : ℕ) (sign : RuleSign)
+    → given_of count (blanks gap ∷ repeated crossing (suc n) ∷ repeated (sign_byte sign) k ∷ [])
+    ≡ if_given count (replicate gap blank) ++ (if_given count (replicate (suc n) crossing) ++ if_given count (replicate k (sign_byte sign)))
+crossing-given count gap n k sign =
+    let crossed = repeated crossing (suc n) in
+    let rest = repeated (sign_byte sign) k in
+    given-before count (blanks gap) (crossed ∷ rest ∷ []) (λ _. glyph-before (crossed ∷ []) (rest ∷ []) (omega arith))
+    ∙ ap (λ (more : List ℕ). if_given count (replicate gap blank) ++ more) (crossing-two count n k sign)
 
 module _ (row : WalkedRow) (w : KeptWalk) (at : ℕ) (next : w.next ≡ AtFront at) (frame : List ℕ) where
-  -- a bar
-  pub bar-steps : (before after : KeptPieces) (place gap reached : ℕ) → FrontStands row at (bar_at place) w
-      → gap ≡ place - w.place → reached ≡ place + 1
-      → Adds row.bytes frame 4 before after (if_given w.count (replicate gap blank) ++ if_given w.count (replicate 1 bar))
+  -- some bars
+  pub bars-steps : (n : ℕ) (before after : KeptPieces) (place gap reached : ℕ) → 0 < n → FrontStands row at (bars_at place n) w
+      → gap ≡ place - w.place → reached ≡ place + n
+      → Adds row.bytes frame 4 before after (if_given w.count (replicate gap blank) ++ if_given w.count (replicate n bar))
       → RowSteps frame row w (front_passed row at reached w) before after
-  bar-steps before after place gap reached stands gap_is reached_is adds =
-      let behind = behind_now row w at (bar_at place) stands reached in
-      let first = bar-first w.line place in
-      let has : HasGlyph (one bar ∷ []) = omega arith in
-      let text = if_given w.count (replicate 1 bar) in
-      front-passed row w at (bar_at place) stands reached frame before after (if_given w.count (replicate gap blank) ++ text) next adds
-      (run-given w.count w.place (from_line w.line (bar_at place)) (one bar) behind first (λ _. subst HasGlyph (sym first) has)
-      ∙ ap (λ (last : List ℕ). (if_given w.count (replicate (place - w.place) blank) ++ last) ++ given (one_less w.count) (place + 1) behind)
-      (repeated-last w.count bar 1 (λ _. has))
-      ∙ ap (λ (n : ℕ). (if_given w.count (replicate n blank) ++ text) ++ given (one_less w.count) (place + 1) behind) (sym gap_is)
+  bars-steps zero before after place gap reached some stands gap_is reached_is adds = absurd (omega (arith, some))
+  bars-steps (suc m) before after place gap reached some stands gap_is reached_is adds =
+      let f = bars_at place (suc m) in
+      let run = repeated bar (suc m) in
+      let behind = behind_now row w at f stands reached in
+      let first = bar-first w.line place m in
+      let has : HasGlyph (run ∷ []) = omega arith in
+      let text = if_given w.count (replicate (suc m) bar) in
+      front-passed row w at f stands reached frame before after (if_given w.count (replicate gap blank) ++ text) next adds
+      (run-given w.count w.place (from_line w.line f) run behind first (λ _. subst HasGlyph (sym first) has)
+      ∙ ap (λ (last : List ℕ). (if_given w.count (replicate (place - w.place) blank) ++ last) ++ given (one_less w.count)
+      (place + suc m) behind)
+      (repeated-last w.count bar (suc m) (λ _. has))
+      ∙ ap (λ (n : ℕ). (if_given w.count (replicate n blank) ++ text) ++ given (one_less w.count) (place + suc m) behind) (sym gap_is)
       ∙ ap (λ (n : ℕ). (if_given w.count (replicate gap blank) ++ text) ++ given (one_less w.count) n behind) (sym reached_is))
 
-  -- no bar
-  pub no-bar-steps : (pieces : KeptPieces) → FrontStands row at no_bar w → RowSteps frame row w (front_passed row at w.place w) pieces pieces
-  no-bar-steps pieces stands =
-      front-passed row w at no_bar stands w.place frame pieces pieces [] next
+  -- nothing
+  pub nothing-steps : (pieces : KeptPieces) → FrontStands row at nothing_there w
+      → RowSteps frame row w (front_passed row at w.place w) pieces pieces
+  nothing-steps pieces stands =
+      front-passed row w at nothing_there stands w.place frame pieces pieces [] next
       (adds-fewer row.bytes frame 0 4 pieces pieces [] (omega arith) (adds-none row.bytes frame pieces))
-      (none-given w.count w.place (from_line w.line no_bar) (behind_now row w at no_bar stands w.place) (no-first w.line))
+      (none-given w.count w.place (from_line w.line nothing_there) (behind_now row w at nothing_there stands w.place)
+      (nothing-first w.line))
 
-  -- a bar that is crossed
-  pub crossing-steps : (before after : KeptPieces) (place end gap rest reached : ℕ) (sign : RuleSign)
-      → FrontStands row at (crossed_at place sign end) w → w.line ≡ 0
-      → gap ≡ place - w.place → rest ≡ end - (place + 1) → reached ≡ place + (rest + 1)
+  -- bars that are crossed
+  pub crossing-steps : (n : ℕ) (before after : KeptPieces) (place end gap rest reached : ℕ) (sign : RuleSign) → 0 < n
+      → FrontStands row at (crossed_at place n sign end) w → w.line ≡ 0
+      → gap ≡ place - w.place → rest ≡ end - (place + n) → reached ≡ place + (n + rest)
       → Adds row.bytes frame 4 before after
-      (if_given w.count (replicate gap blank) ++ (if_given w.count (replicate 1 crossing) ++ if_given w.count (replicate rest (sign_byte sign))))
+      (if_given w.count (replicate gap blank) ++ (if_given w.count (replicate n crossing) ++ if_given w.count
+      (replicate rest (sign_byte sign))))
       → RowSteps frame row w (front_passed row at reached w) before after
-  crossing-steps before after place end gap rest reached sign stands line gap_is rest_is reached_is adds =
-      let f = crossed_at place sign end in
+  crossing-steps zero before after place end gap rest reached sign some stands line gap_is rest_is reached_is adds =
+      absurd (omega (arith, some))
+  crossing-steps (suc m) before after place end gap rest reached sign some stands line gap_is rest_is reached_is adds =
+      let f = crossed_at place (suc m) sign end in
       let behind = behind_now row w at f stands reached in
-      let runs : ℕ → List Run = λ n. one crossing ∷ repeated (sign_byte sign) n ∷ [] in
-      let more = if_given w.count (replicate 1 crossing) ++ if_given w.count (replicate rest (sign_byte sign)) in
+      let runs : ℕ → List Run = λ n. repeated crossing (suc m) ∷ repeated (sign_byte sign) n ∷ [] in
+      let more = if_given w.count (replicate (suc m) crossing) ++ if_given w.count (replicate rest (sign_byte sign)) in
       let g : List Run → List ℕ = λ text. given_of w.count (at_column place w.place text) ++ given (one_less w.count) (end_of place w.place text) behind in
       let wide : place + columns_of (runs rest) ≡ reached = omega (arith, reached_is) in
       front-passed row w at f stands reached frame before after (if_given w.count (replicate gap blank) ++ more) next adds
       (ap (λ (n : ℕ). g (first_of (from_line n f))) line
       ∙ ap (λ (n : ℕ). g (runs n)) (sym rest_is)
       ∙ ap (λ (n : ℕ). given_of w.count (blanks n ∷ runs rest) ++ given (one_less w.count) (place + columns_of (runs rest)) behind) (sym gap_is)
-      ∙ ap (λ (front : List ℕ). front ++ given (one_less w.count) (place + columns_of (runs rest)) behind) (crossing-given w.count gap rest sign)
+      ∙ ap (λ (front : List ℕ). front ++ given (one_less w.count) (place + columns_of (runs rest)) behind)
+      (crossing-given w.count gap m rest sign)
       ∙ ap (λ (n : ℕ). (if_given w.count (replicate gap blank) ++ more) ++ given (one_less w.count) n behind) wide)

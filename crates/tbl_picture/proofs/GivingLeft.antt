@@ -6,16 +6,15 @@ use Rattle.roff_source.specs.Bytes.{backslash, newline}
 use Rattle.tbl_format.specs.Format.{has_some}
 use Rattle.tbl_format.specs.Parts.{IsFront}
 use Rattle.tbl_format.specs.FormatRows.{KeptFormat}
-use Rattle.tbl_format.specs.declared.options.Boxing.{Boxing}
 use Rattle.tbl_kept.specs.Joined.{RiseWithin, unjoined}
 use Rattle.tbl_kept.specs.Rows.{KeptRows}
 use Rattle.tbl_kept.specs.TableText.{KeptText, block_of}
 use Rattle.tbl_kept.specs.declared.table_text.Joint.{Joint as JointAt}
+use Rattle.tbl_layout.specs.declared.bars.Bars.{Bars}
 use Rattle.tbl_picture.specs.Giving.{CanGive, IsLast, KeptGiving, coming, following, last_piece, lines_laid, lines_left, with_newline}
-use Rattle.tbl_picture.specs.PieceQueue.{KeptPieces, bytes_left}
+use Rattle.tbl_picture.specs.PieceQueue.{bytes_left}
 use Rattle.tbl_picture.specs.Frame.{before_lines, behind_lines, picture}
 use Rattle.tbl_picture.specs.Pieces.{AreWithin, bytes_of, bytes_of_all, piece_len, some_piece}
-use Rattle.tbl_picture.specs.Walks.{KeptWalk}
 use Rattle.tbl_picture.specs.declared.giving.Rest.{Rest}
 use Rattle.tbl_picture.specs.declared.giving.Rest.TheVariants.{Lines, Nothing, Read}
 use Rattle.tbl_picture.specs.declared.picture.Piece.{Piece}
@@ -169,12 +168,12 @@ module _ (t : KeptText) (r : KeptRows) (k : KeptFormat) (g : KeptGiving) where
   }
 
   -- the picture
-  module _ (indent : ℕ) (boxing : Boxing) (width : ℕ) (front : take g.frame_end g.frame ≡ before_lines indent) (behind : drop g.frame_end g.frame ≡ behind_lines indent) where
-    picture-bytes : lines_left t r k g.walk ≡ lines_laid boxing width t r k
+  module _ (indent : ℕ) (bars : Bars) (width : ℕ) (front : take g.frame_end g.frame ≡ before_lines indent) (behind : drop g.frame_end g.frame ≡ behind_lines indent) where
+    picture-bytes : lines_left t r k g.walk ≡ lines_laid bars width t r k
         → bytes_of_all (block_of t) g.frame (some_piece (Frame 0 g.frame_end)) ++ (lines_left t r k g.walk ++ (drop g.frame_end g.frame ++ t.line))
-        ≡ picture indent (lines_laid boxing width t r k) ++ t.line
+        ≡ picture indent (lines_laid bars width t r k) ++ t.line
     picture-bytes walk =
-        let lines = lines_laid boxing width t r k in
+        let lines = lines_laid bars width t r k in
         let whole : g.frame_end - 0 ≡ g.frame_end = omega arith in
         ap (λ (bytes : List ℕ). bytes ++ (lines_left t r k g.walk ++ (drop g.frame_end g.frame ++ t.line)))
         (frame-alone (block_of t) g.frame 0 g.frame_end ∙ ap (λ (n : ℕ). take n g.frame) whole ∙ front)
@@ -183,9 +182,9 @@ module _ (t : KeptText) (r : KeptRows) (k : KeptFormat) (g : KeptGiving) where
         ∙ ap (λ (bytes : List ℕ). before_lines indent ++ bytes) (sym (append_assoc lines (behind_lines indent) t.line))
         ∙ sym (append_assoc (before_lines indent) (lines ++ behind_lines indent) t.line)
 
-    pub coming-picture : lines_left t r k g.walk ≡ lines_laid boxing width t r k
+    pub coming-picture : lines_left t r k g.walk ≡ lines_laid bars width t r k
         → coming t r k (giving_of (some_piece (Frame 0 g.frame_end)) g Lines)
-        ≡ with_newline g.has_newline (picture indent (lines_laid boxing width t r k) ++ t.line)
+        ≡ with_newline g.has_newline (picture indent (lines_laid bars width t r k) ++ t.line)
     coming-picture walk =
         newline-append g.has_newline (bytes_of_all (block_of t) g.frame (some_piece (Frame 0 g.frame_end))) (lines_left t r k g.walk ++ (drop g.frame_end g.frame ++ t.line))
         ∙ ap (with_newline g.has_newline) (picture-bytes walk)

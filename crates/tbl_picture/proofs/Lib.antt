@@ -5,6 +5,7 @@ pub mod CellsGiven
 pub mod FrontCells
 pub mod FrontSteps
 pub mod ColumnSteps
+pub mod RowMarks
 pub mod LineSteps
 pub mod RowCells
 pub mod RowColumns
@@ -19,6 +20,7 @@ pub mod RuleLines
 pub mod BoxedElements
 pub mod RowsOn
 pub mod RuleSteps
+pub mod RowSteps
 pub mod PictureSteps
 pub mod PiecesWithin
 pub mod PiecesLeft

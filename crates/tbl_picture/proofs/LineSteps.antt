@@ -6,55 +6,53 @@ use Rattle.std.proofs.lemmas.List.{drop_all, length-map, take_all}
 use Rattle.roff_source.specs.Bytes.{newline}
 use Rattle.tbl_layout.specs.Entries.{up_to_last_glyph}
 use Rattle.tbl_layout.specs.declared.entry.Entry.{Entry}
-use Rattle.tbl_format.specs.declared.options.Boxing.{Boxing}
-use Rattle.tbl_format.specs.declared.options.Boxing.TheVariants.{Around, EachField, Nothing as NotBoxed}
 use Rattle.tbl_picture.specs.PictureLines.{Cell, lines_from, with_fronts, written}
 use Rattle.tbl_picture.specs.PieceQueue.{Adds, KeptPieces}
-use Rattle.tbl_picture.specs.RowsLeft.{behind_first, cell_left, from_line, fronts_by, given, row_columns, then_fronts}
+use Rattle.tbl_picture.specs.RowsLeft.{behind_first, cell_left, fronts_by, given, row_columns, then_fronts}
 use Rattle.tbl_picture.specs.RowsWalked.{AreGlyphless, LastHasGlyph, PlacesLie, front_count, most_steps, steps_of_cells, steps_of_columns}
 use Rattle.tbl_picture.specs.Walks.{BeforeLine, InLine, IsOn, IsUnderWay, KeptWalk, OnLine, RowEndsOrGoesOn, RowSteps, WalkedRow, cells_left, cells_now, columns_left, columns_walked, fields_now, fronts_of, further_lines, line_cells, next_column, row_left, row_steps, steps_of_rest}
 use Rattle.tbl_picture.specs.declared.row_columns.RowColumn.{RowColumn}
 use Rattle.tbl_picture.specs.declared.walk.Next.{Next}
 use Rattle.tbl_picture.specs.declared.walk.Next.TheVariants.{AtCell, AtFront, AtLine}
 use Rattle.tbl_picture.proofs.ColumnSteps.{steps-cells, then-none}
-use Rattle.tbl_picture.proofs.FrontCells.{IsBoxed, front-count, fronts-next, map-fronts}
+use Rattle.tbl_picture.proofs.FrontCells.{front-count, fronts-next, map-fronts, no-fronts}
 use Rattle.tbl_picture.proofs.RowColumns.{length-row_columns, none-left}
 use Rattle.tbl_picture.proofs.RunsGiven.{line-given, lines-behind}
 
 -- a line begins, of which so many cells are given
-abbrev pub line_begun : Boxing → ℕ → KeptWalk → KeptWalk
-line_begun boxing count w = record w { count = count; place = 0; next = next_column boxing 0; behind = [] }
+abbrev pub line_begun : Bool → ℕ → KeptWalk → KeptWalk
+line_begun has_bars count w = record w { count = count; place = 0; next = next_column has_bars 0; behind = [] }
 
 module _ (row : WalkedRow) (w : KeptWalk) (count : ℕ) (b : BeforeLine row w) (last : LastHasGlyph count (cells_now row w)) where
-  on-begun : OnLine row (line_begun row.boxing count w)
+  on-begun : OnLine row (line_begun row.bars.has_any count w)
   on-begun = record {
     before = record { line = b.line; short = b.short; room = b.room; narrow = b.narrow; lie = b.lie; places = b.places };
     column = omega arith;
     places = tt;
-    moved = ap (map (cell_left row.bytes (suc w.line))) (none-left row.boxing row.keys 0 row.columns row.entries);
+    moved = ap (map (cell_left row.bytes (suc w.line))) (none-left row.bars.boxing row.format 0 row.columns row.entries);
   }
 
   -- nothing stands in front of columns
-  cells-plain : row.boxing ≡ NotBoxed → cells_left row (line_begun row.boxing count w) ≡ cells_now row w
+  cells-plain : row.bars.has_any ≡ false → cells_left row (line_begun row.bars.has_any count w) ≡ cells_now row w
   cells-plain is =
-      let none : fronts_of row w.line ≡ [] = ap (λ (x : Boxing). map (from_line w.line) (fronts_by x row.width row.columns row.entries)) is in
+      let none : fronts_of row w.line ≡ [] = no-fronts row w.line is in
       ap (λ (fronts : List Cell). then_fronts (drop 1 fronts) (fields_now row w)) none
       ∙ then-none (fields_now row w)
       ∙ ap (λ (fronts : List Cell). with_fronts fronts (fields_now row w)) (sym none)
 
   -- what is known of the line
   record Begun (next : Next) : Type 0 where
-    can : IsUnderWay next row (line_begun row.boxing count w)
+    can : IsUnderWay next row (line_begun row.bars.has_any count w)
     on : IsOn next
-    left : row_left next row (line_begun row.boxing count w) ≡ given count 0 (cells_now row w) ++ further_lines row w
-    few : row_steps next row (line_begun row.boxing count w)
+    left : row_left next row (line_begun row.bars.has_any count w) ≡ given count 0 (cells_now row w) ++ further_lines row w
+    few : row_steps next row (line_begun row.bars.has_any count w)
         ≤ front_count row.columns + steps_of_columns (most_steps row.bytes) row.entries + steps_of_rest row (row.height - suc w.line)
 
-  boxed-begun : IsBoxed row.boxing → Begun (AtFront 0)
+  boxed-begun : row.bars.has_any ≡ true → Begun (AtFront 0)
   boxed-begun is = record {
     can = record {
       on = on-begun;
-      within = omega (arith, front-count row.boxing row.width row.columns row.entries is);
+      within = omega (arith, front-count row.bars row.width row.format row.columns row.entries is);
       first = λ _. refl;
       last = last;
     };
@@ -63,28 +61,27 @@ module _ (row : WalkedRow) (w : KeptWalk) (count : ℕ) (b : BeforeLine row w) (
     few = omega arith;
   }
 
-  next-begun : (x : Boxing) → row.boxing ≡ x → Begun (next_column x 0)
-  next-begun NotBoxed is = record {
+  next-begun : (t : Bool) → row.bars.has_any ≡ t → Begun (next_column t 0)
+  next-begun false is = record {
     can = record { on = on-begun; last = subst (LastHasGlyph count) (sym (cells-plain is)) last };
     on = tt;
     left = ap (λ (cells : List Cell). given count 0 cells ++ further_lines row w) (cells-plain is);
     few = omega (arith, steps-cells (most_steps row.bytes) (front_count row.columns - 1) row.entries);
   }
-  next-begun Around is = boxed-begun (subst IsBoxed (sym is) tt)
-  next-begun EachField is = boxed-begun (subst IsBoxed (sym is) tt)
+  next-begun true is = boxed-begun is
 
 module _ (row : WalkedRow) (w : KeptWalk) (frame : List ℕ) (before after : KeptPieces) where
   pub begun-line : (count : ℕ) → w.next ≡ AtLine → BeforeLine row w → count ≤ length (cells_now row w)
       → LastHasGlyph count (cells_now row w) → AreGlyphless (drop count (cells_now row w))
       → Adds row.bytes frame 4 before after (codes "\\&")
-      → RowSteps frame row w (line_begun row.boxing count w) before after
+      → RowSteps frame row w (line_begun row.bars.has_any count w) before after
   begun-line count next b many last none adds =
       let cells = cells_now row w in
       let n = row.height - suc w.line in
       let more : row.height - w.line ≡ suc n = omega (arith, b.line) in
       let line = up_to_last_glyph (written 0 0 cells) in
       let rest = lines_from 0 n (map behind_first cells) in
-      let begun = next-begun row w count b last row.boxing refl in
+      let begun = next-begun row w count b last row.bars.has_any refl in
       let old_steps : row_steps w.next row w
       ≡ suc (front_count row.columns + steps_of_columns (most_steps row.bytes) row.entries) + steps_of_rest row n =
       ap (λ (x : Next). row_steps x row w) next ∙ ap (steps_of_rest row) more in
@@ -103,7 +100,7 @@ module _ (row : WalkedRow) (w : KeptWalk) (frame : List ℕ) (before after : Kep
         less = omega (arith, old_steps, begun.few);
         element = refl;
         above = refl;
-        boxing = refl;
+        bars = refl;
         width = refl;
         room = refl;
       }
@@ -112,7 +109,7 @@ module _ (row : WalkedRow) (w : KeptWalk) (frame : List ℕ) (before after : Kep
   module _ (next : w.next ≡ AtCell) (l : InLine row w) (all : length w.behind ≡ length row.entries)
       (adds : Adds row.bytes frame 4 before after (newline ∷ [])) where
     many-columns : length (columns_walked row w) ≡ length row.entries
-    many-columns = length-row_columns row.boxing row.keys row.bytes 0 row.columns row.entries w.places l.on.before.short l.on.before.places
+    many-columns = length-row_columns row.bars.boxing row.format row.bytes 0 row.columns row.entries w.places l.on.before.short l.on.before.places
 
     none-left-now : columns_left row w ≡ []
     none-left-now = drop_all (length w.behind) (columns_walked row w) (omega (arith, all, many-columns))
@@ -126,7 +123,7 @@ module _ (row : WalkedRow) (w : KeptWalk) (frame : List ℕ) (before after : Kep
     entries-all : take (length w.behind) row.entries ≡ row.entries
     entries-all = take_all (length w.behind) row.entries (omega (arith, all))
 
-    fields-all : map (cell_left row.bytes (suc w.line)) (row_columns row.boxing row.keys 0 row.columns row.entries w.behind)
+    fields-all : map (cell_left row.bytes (suc w.line)) (row_columns row.bars.boxing row.format 0 row.columns row.entries w.behind)
         ≡ map behind_first (fields_now row w)
     fields-all = l.on.moved ∙ take_all (length w.behind) (map behind_first (fields_now row w))
         (omega (arith, all, many-columns, length-map (fields_now row w) behind_first, length-map (columns_walked row w) (cell_left row.bytes w.line)))
@@ -136,7 +133,7 @@ module _ (row : WalkedRow) (w : KeptWalk) (frame : List ℕ) (before after : Kep
     moved-all =
         map-fronts behind_first (fronts_of row w.line) (fields_now row w)
         ∙ ap (λ (fronts : List Cell). with_fronts fronts (map behind_first (fields_now row w)))
-        (fronts-next w.line (fronts_by row.boxing row.width row.columns row.entries))
+        (fronts-next w.line (fronts_by row.bars row.width row.format row.columns row.entries))
         ∙ ap (with_fronts (fronts_of row (suc w.line))) (sym fields-all)
 
     next-is : w.line + 1 ≡ suc w.line
@@ -152,7 +149,7 @@ module _ (row : WalkedRow) (w : KeptWalk) (frame : List ℕ) (before after : Kep
           all = left-now ∙ ap (λ (n : ℕ). newline ∷ lines_from 0 n (map behind_first (cells_now row w))) none;
           element = refl;
           above = refl;
-          boxing = refl;
+          bars = refl;
           width = refl;
           room = refl;
         }
@@ -185,7 +182,7 @@ module _ (row : WalkedRow) (w : KeptWalk) (frame : List ℕ) (before after : Kep
           less = omega (arith, old_steps, ap (λ (k : ℕ). steps_of_rest row (row.height - k)) next-is);
           element = refl;
           above = refl;
-          boxing = refl;
+          bars = refl;
           width = refl;
           room = refl;
         }

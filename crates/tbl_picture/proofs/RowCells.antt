@@ -5,15 +5,14 @@ use Rattle.std.specs.Prelude.{nat_lt}
 use Rattle.std.proofs.lemmas.Bool.{eq-eqb, ltb-true, ltb-false, ne_eqb}
 use Rattle.std.proofs.lemmas.List.{length-map}
 use Rattle.tbl_format.specs.declared.format.Key.{Key}
-use Rattle.tbl_layout.specs.Columns.{place_in, stands, text_stands}
+use Rattle.tbl_layout.specs.Columns.{place_in, stands}
 use Rattle.tbl_layout.specs.Entries.{Block, Content, Run, Text, block_line, is_number, lines_of_field, run_of}
-use Rattle.tbl_layout.specs.KeptEntries.{IsFilled, IsLaidBy, IsText, block_lines, content_by, content_of, kind_with, lines_by, stands_by, stands_of, text_entry}
+use Rattle.tbl_layout.specs.KeptEntries.{IsFilled, IsLaidBy, IsText, block_lines, content_by, content_of, kind_with, lines_by, stands_by, stands_of}
 use Rattle.tbl_layout.specs.declared.columns.Column.{Column}
 use Rattle.tbl_layout.specs.declared.columns.Stands.{Stands}
 use Rattle.tbl_layout.specs.declared.entry.Entry.{Entry}
 use Rattle.tbl_layout.specs.declared.entry.EntryKind.{EntryKind}
 use Rattle.tbl_layout.specs.declared.entry.EntryKind.TheVariants.{Block as BlockKind, Repeated as RepeatedKind, Ruled as RuledKind, Short as ShortKind, Split as SplitKind, Text as TextKind}
-use Rattle.tbl_format.specs.declared.options.Boxing.{Boxing}
 use Rattle.tbl_picture.specs.PictureLines.{Cell, cell_of, is_ruled, one_run, repeated, rule_end}
 use Rattle.tbl_picture.specs.RowsLeft.{begins_at, begins_by, block_text, cell_left, end_by, is_ruled_by, lines_left_by, rule_end_by, text_lines, text_run}
 use Rattle.tbl_picture.specs.Walks.{first_place}
@@ -22,6 +21,7 @@ use Rattle.tbl_layout.specs.DataLines.{sign_byte}
 use Rattle.tbl_layout.specs.declared.data_lines.RuleSign.{RuleSign}
 use Rattle.tbl_picture.proofs.RowColumns.{drop-none}
 use Rattle.tbl_picture.proofs.RowsBegun.{split-is, text-run}
+use Rattle.tbl_layout.proofs.TextStands.{empty-split, text-stands}
 use Rattle.tbl_text.proofs.BlockSlices.{length-slice_range}
 use Rattle.tbl_text.specs.BlockLines.{lines_of}
 use Rattle.tbl_text.specs.BlockPlaces.{parts_at}
@@ -47,27 +47,7 @@ drop-past n [] is = refl
 drop-past zero (y ∷ xs) is = absurd (cc)
 drop-past (suc n) (y ∷ xs) is = drop-past n xs is
 
--- a text stands as it measures
-empty-split : (number : Bool) → (measured number []).split ≡ None
-empty-split true = refl
-empty-split false = refl
-
-kind-stands : (key : Key) (from glyphs width : ℕ) (split : Option Split) → stands_by key (kind_with from glyphs width split) false ≡ text_stands key width split
-kind-stands key from glyphs width None = refl
-kind-stands key from glyphs width (Some s) = refl
-
-text-stands : (measure : ℕ) (key : Key) (from : ℕ) (all : List ℕ) → stands_of key (text_entry (is_number key) from all) ≡ stands measure key (Text all)
-text-stands measure key from [] =
-    let m = measured (is_number key) [] in
-    let end : from ≡ from + 0 = omega arith in
-    ap (λ (split : Option Split). stands_by key (kind_with from (from + m.glyphs) m.width split) (from == from + 0)) (empty-split (is_number key))
-    ∙ ap (λ (is_empty : Bool). stands_by key (TextKind (from + m.glyphs) m.width) is_empty) (eq-eqb from (from + 0) end)
-text-stands measure key from (b ∷ all) =
-    let m = measured (is_number key) (b ∷ all) in
-    let some : (from == from + length (b ∷ all)) ≡ false = ne_eqb from (from + length (b ∷ all)) (λ same. omega (arith, same)) in
-    ap (λ (is_empty : Bool). stands_by key (kind_with from (from + m.glyphs) m.width m.split) is_empty) some
-    ∙ kind-stands key from (from + m.glyphs) m.width m.split
-
+-- a text has one line
 lines-one : (from glyphs width : ℕ) (split : Option Split) → lines_by (kind_with from glyphs width split) ≡ 1
 lines-one from glyphs width None = refl
 lines-one from glyphs width (Some s) = refl
@@ -157,50 +137,61 @@ ruled-same sign ShortKind bytes from to = refl
 ruled-same sign (RepeatedKind b) bytes from to = refl
 
 -- what is left of a field that begins is the field, in front of these columns and these fields
-module _ (boxing : Boxing) (bytes : List ℕ) (c : Column) (columns : List Column) (key : Key) (e : Entry) (next : Content) (entries : List Entry) where
+module _ (bars : ℕ) (bytes : List ℕ) (c : Column) (columns : List Column) (key : Key) (e : Entry) (next : Content)
+    (entries : List Entry) where
   abbrev pub held : RowColumn
-  held = record { column = c; key = key; entry = e; place = first_place e; end = end_by boxing e.kind c columns entries }
+  held = record { column = c; key = key; entry = e; place = first_place e; end = end_by bars e.kind c columns entries }
 
   pub record CellSame : Type 0 where
-    pub cell : cell_of boxing key c columns next (content_of bytes e) ≡ cell_left bytes 0 held
+    pub cell : cell_of bars key c columns next (content_of bytes e) ≡ cell_left bytes 0 held
     pub high : max 1 (length (cell_left bytes 0 held).lines) ≡ max 1 (lines_by e.kind)
 
   -- what a field of a kind would be
   abbrev cell_by : EntryKind → Cell
-  cell_by k = record { at = begins_by k c key e; lines = lines_left_by k bytes 0 c (end_by boxing k c columns entries) e (first_place e); below = [] }
+  cell_by k = record {
+    at = begins_by k c key e;
+    lines = lines_left_by k bytes 0 c (end_by bars k c columns entries) e
+        (first_place e);
+    below = [];
+  }
 
-  field-cell : (f : Content) → FieldSame bytes c (end_by boxing e.kind c columns entries) key e f → content_of bytes e ≡ f
-      → cell_of boxing key c columns next f ≡ record { at = c.start + place_in c key (stands c.measure key f); lines = lines_of_field c.measure key f; below = [] }
+  field-cell : (f : Content) → FieldSame bytes c (end_by bars e.kind c columns entries) key e f → content_of bytes e ≡ f
+      → cell_of bars key c columns next f ≡ record {
+        at = c.start + place_in c key
+            (stands c.measure key f);
+        lines = lines_of_field c.measure key f;
+        below = [];
+      }
       → CellSame
   field-cell f same content is =
       let cell : ℕ → List (List Run) → Cell = λ at lines. record { at = at; lines = lines; below = [] } in
       let lines = lines_of_field c.measure key f in
       record {
         cell =
-            ap (cell_of boxing key c columns next) content ∙ is
+            ap (cell_of bars key c columns next) content ∙ is
             ∙ ap (λ (s : Stands). cell (c.start + place_in c key s) lines) (sym same.stands)
             ∙ ap (λ (n : ℕ). cell n lines) (sym same.begins)
             ∙ ap (cell (begins_at held)) (sym same.lines);
         high = ap (λ (ls : List (List Run)). max 1 (length ls)) same.lines ∙ same.high;
       }
 
-  rule-cell : (k : EntryKind) → k ≡ e.kind → cell_of boxing key c columns next (content_by k bytes e.from e.to) ≡ cell_by k
+  rule-cell : (k : EntryKind) → k ≡ e.kind → cell_of bars key c columns next (content_by k bytes e.from e.to) ≡ cell_by k
       → max 1 (length (cell_by k).lines) ≡ max 1 (lines_by k) → CellSame
   rule-cell k is cell high = record {
-    cell = ap (λ (x : EntryKind). cell_of boxing key c columns next (content_by x bytes e.from e.to)) (sym is) ∙ cell ∙ ap cell_by is;
+    cell = ap (λ (x : EntryKind). cell_of bars key c columns next (content_by x bytes e.from e.to)) (sym is) ∙ cell ∙ ap cell_by is;
     high = ap (λ (x : EntryKind). max 1 (length (cell_by x).lines)) (sym is) ∙ high ∙ ap (λ (x : EntryKind). max 1 (lines_by x)) is;
   }
 
   pub cell-same : (k : EntryKind) → k ≡ e.kind → IsLaidBy k bytes c.measure key e
-      → ((sign : RuleSign) → rule_end boxing sign c columns next ≡ rule_end_by boxing sign c columns entries) → CellSame
+      → ((sign : RuleSign) → rule_end bars sign c columns next ≡ rule_end_by bars sign c columns entries) → CellSame
   cell-same (TextKind glyphs width) is laid ends =
-      field-cell (Text (slice_range bytes e.from e.to)) (text-field bytes c (end_by boxing e.kind c columns entries) key e laid)
+      field-cell (Text (slice_range bytes e.from e.to)) (text-field bytes c (end_by bars e.kind c columns entries) key e laid)
       (ap (λ (k : EntryKind). content_by k bytes e.from e.to) (sym is)) refl
   cell-same (SplitKind s) is laid ends =
-      field-cell (Text (slice_range bytes e.from e.to)) (text-field bytes c (end_by boxing e.kind c columns entries) key e laid)
+      field-cell (Text (slice_range bytes e.from e.to)) (text-field bytes c (end_by bars e.kind c columns entries) key e laid)
       (ap (λ (k : EntryKind). content_by k bytes e.from e.to) (sym is)) refl
   cell-same (BlockKind b) is laid ends =
-      field-cell (Block (block_lines bytes e.from e.to)) (block-field bytes c (end_by boxing e.kind c columns entries) key e laid)
+      field-cell (Block (block_lines bytes e.from e.to)) (block-field bytes c (end_by bars e.kind c columns entries) key e laid)
       (ap (λ (k : EntryKind). content_by k bytes e.from e.to) (sym is)) refl
   cell-same (RuledKind sign) is laid ends =
       rule-cell (RuledKind sign) is (ap (λ (end : ℕ). one_run c.start (repeated (sign_byte sign) (end - c.start))) (ends sign)) refl

@@ -2,13 +2,14 @@
 use Rattle.std.proofs.Common.{◌≡◌, ℕ, zero, suc, ◌+◌, ◌<◌, ◌≤◌, List, [], ◌∷◌, ◌++◌, length, take, drop, get_or, map, refl, sym, ap, subst, ◌∙◌, arith, if◌then◌else◌}
 use Rattle.std.specs.List.{AllByRecursion}
 use Rattle.std.proofs.lemmas.List.{drop-map, drop_more}
+use Rattle.tbl_format.specs.Format.{FormatRow}
 use Rattle.tbl_format.specs.declared.format.FormatKey.{FormatKey}
 use Rattle.tbl_format.specs.declared.options.Boxing.{Boxing}
 use Rattle.tbl_layout.specs.declared.columns.Column.{Column}
 use Rattle.tbl_layout.specs.declared.data_lines.RuleSign.{RuleSign}
 use Rattle.tbl_layout.specs.declared.entry.Entry.{Entry}
 use Rattle.tbl_layout.specs.KeptEntries.{Lies}
-use Rattle.tbl_picture.specs.PictureLines.{joint}
+use Rattle.tbl_picture.specs.PictureLines.{bars_among, bars_between, joint}
 use Rattle.tbl_picture.specs.RowsLeft.{block_text, end_by, is_ruled_by, key_of, row_columns, rule_end_by}
 use Rattle.tbl_picture.specs.RowsWalked.{IsNarrow, PlacesLie}
 use Rattle.tbl_picture.specs.declared.row_columns.RowColumn.{RowColumn}
@@ -33,40 +34,69 @@ take-next {A = A} zero (y ∷ xs) x rest is = let same : y ≡ x = cc in ap (λ 
 take-next (suc n) [] x rest is = absurd (cc)
 take-next {A = A} (suc n) (y ∷ xs) x rest is = ap (λ (zs : List A). y ∷ zs) (take-next n xs x rest is)
 
-module _ (boxing : Boxing) (keys : List FormatKey) where
+-- the bars of a row of the formats: in front of a key, behind the last one, and none further on
+pub among-keys : (keys : List FormatKey) (last at : ℕ) (k : FormatKey) → at < length keys
+    → bars_among keys last at ≡ (get_or keys at k).bars
+among-keys [] last at k few = absurd (omega (arith, few))
+among-keys (x ∷ keys) last zero k few = refl
+among-keys (x ∷ keys) last (suc at) k few = among-keys keys last at k (omega (arith, few))
+
+pub among-last : (keys : List FormatKey) (last at : ℕ) → at ≡ length keys → bars_among keys last at ≡ last
+among-last [] last zero is = refl
+among-last [] last (suc at) is = absurd (omega (arith, is))
+among-last (x ∷ keys) last zero is = absurd (omega (arith, is))
+among-last (x ∷ keys) last (suc at) is = among-last keys last at (omega (arith, is))
+
+pub among-past : (keys : List FormatKey) (last at : ℕ) → length keys < at → bars_among keys last at ≡ 0
+among-past [] last zero past = absurd (omega (arith, past))
+among-past [] last (suc at) past = refl
+among-past (x ∷ keys) last zero past = absurd (omega (arith, past))
+among-past (x ∷ keys) last (suc at) past = among-past keys last at (omega (arith, past))
+
+module _ (boxing : Boxing) (format : FormatRow) where
   -- the column at a place
   pub row-column : (k at : ℕ) (columns : List Column) (entries : List Entry) (places : List BlockPlace) (c : Column) (e : Entry) (p : BlockPlace)
       → at < length entries → length entries ≤ length columns → at < length places
-      → drop at (row_columns boxing keys k columns entries places)
+      → drop at (row_columns boxing format k columns entries places)
       ≡ record {
         column = get_or columns at c;
-        key = key_of keys (k + at);
+        key = key_of format.keys (k + at);
         entry = get_or entries at e;
         place = get_or places at p;
-        end = end_by boxing (get_or entries at e).kind (get_or columns at c) (drop (suc at) columns) (drop (suc at) entries);
+        end = end_by (bars_between boxing format (suc (k + at))) (get_or entries at e).kind (get_or columns at c) (drop (suc at) columns)
+            (drop (suc at) entries);
       }
-      ∷ drop (suc at) (row_columns boxing keys k columns entries places)
+      ∷ drop (suc at) (row_columns boxing format k columns entries places)
   row-column k at [] [] places c e p entry short place = absurd (omega (arith, entry))
   row-column k at [] (x ∷ entries) places c e p entry short place = absurd (omega (arith, short))
   row-column k at (d ∷ columns) [] places c e p entry short place = absurd (omega (arith, entry))
   row-column k at (d ∷ columns) (x ∷ entries) [] c e p entry short place = absurd (omega (arith, place))
   row-column k zero (d ∷ columns) (x ∷ entries) (q ∷ places) c e p entry short place =
       let same : k ≡ k + 0 = omega arith in
-      ap (λ (i : ℕ). record { column = d; key = key_of keys i; entry = x; place = q; end = end_by boxing x.kind d columns entries } ∷ row_columns boxing keys (suc k) columns entries places) same
+      ap (λ (i : ℕ). record {
+        column = d;
+        key = key_of format.keys i;
+        entry = x;
+        place = q;
+        end = end_by
+            (bars_between boxing format (suc i)) x.kind d columns entries;
+      } ∷ row_columns boxing format (suc k) columns entries places) same
   row-column k (suc at) (d ∷ columns) (x ∷ entries) (q ∷ places) c e p entry short place =
       let same : suc k + at ≡ k + suc at = omega arith in
       row-column (suc k) at columns entries places c e p (omega (arith, entry)) (omega (arith, short)) (omega (arith, place))
       ∙ ap (λ (i : ℕ). record {
         column = get_or columns at c;
-        key = key_of keys i;
+        key = key_of format.keys i;
         entry = get_or entries at e;
         place = get_or places at p;
-        end = end_by boxing (get_or entries at e).kind (get_or columns at c) (drop (suc at) columns) (drop (suc at) entries);
+        end = end_by (bars_between boxing format (suc i)) (get_or entries at e).kind (get_or columns at c) (drop (suc at) columns)
+            (drop (suc at) entries);
       }
-      ∷ drop (suc at) (row_columns boxing keys (suc k) columns entries places)) same
+      ∷ drop (suc at) (row_columns boxing format (suc k) columns entries places)) same
 
   pub length-row_columns : (bytes : List ℕ) (k : ℕ) (columns : List Column) (entries : List Entry) (places : List BlockPlace)
-      → length entries ≤ length columns → PlacesLie bytes entries places → length (row_columns boxing keys k columns entries places) ≡ length entries
+      → length entries ≤ length columns → PlacesLie bytes entries places → length (row_columns boxing format k columns entries places)
+      ≡ length entries
   length-row_columns bytes k [] [] places short lie = refl
   length-row_columns bytes k [] (e ∷ entries) places short lie = absurd (omega (arith, short))
   length-row_columns bytes k (c ∷ columns) [] places short lie = refl
@@ -75,40 +105,56 @@ module _ (boxing : Boxing) (keys : List FormatKey) where
       ap suc (length-row_columns bytes (suc k) columns entries places (omega (arith, short)) lie.1)
 
   -- no column has no place
-  pub none-left : (k : ℕ) (columns : List Column) (entries : List Entry) → row_columns boxing keys k columns entries [] ≡ []
+  pub none-left : (k : ℕ) (columns : List Column) (entries : List Entry) → row_columns boxing format k columns entries [] ≡ []
   none-left k [] entries = refl
   none-left k (c ∷ columns) [] = refl
   none-left k (c ∷ columns) (e ∷ entries) = refl
 
   -- a place more
   pub row_columns-push : (k : ℕ) (columns : List Column) (entries : List Entry) (places behind : List BlockPlace) (p : BlockPlace) (r : RowColumn)
-      (rest : List RowColumn) → drop (length behind) (row_columns boxing keys k columns entries places) ≡ r ∷ rest
-      → row_columns boxing keys k columns entries (behind ++ p ∷ []) ≡ row_columns boxing keys k columns entries behind ++ record r { place = p } ∷ []
+      (rest : List RowColumn) → drop (length behind) (row_columns boxing format k columns entries places) ≡ r ∷ rest
+      → row_columns boxing format k columns entries (behind ++ p ∷ [])
+      ≡ row_columns boxing format k columns entries behind ++ record r { place = p } ∷ []
   row_columns-push k [] entries places behind p r rest is = absurd (let no = sym (drop-none (length behind)) ∙ is in cc)
   row_columns-push k (c ∷ columns) [] places behind p r rest is = absurd (let no = sym (drop-none (length behind)) ∙ is in cc)
   row_columns-push k (c ∷ columns) (e ∷ entries) [] behind p r rest is = absurd (let no = sym (drop-none (length behind)) ∙ is in cc)
   row_columns-push k (c ∷ columns) (e ∷ entries) (q ∷ places) [] p r rest is =
-      let first : RowColumn = record { column = c; key = key_of keys k; entry = e; place = q; end = end_by boxing e.kind c columns entries } in
+      let first : RowColumn = record {
+        column = c;
+        key = key_of format.keys k;
+        entry = e;
+        place = q;
+        end = end_by
+            (bars_between boxing format (suc k)) e.kind c columns entries;
+      } in
       let same : first ≡ r = cc in
       ap (λ (more : List RowColumn). record first { place = p } ∷ more) (none-left (suc k) columns entries)
       ∙ ap (λ (x : RowColumn). record x { place = p } ∷ []) same
   row_columns-push k (c ∷ columns) (e ∷ entries) (q ∷ places) (b ∷ behind) p r rest is =
-      ap (λ (more : List RowColumn). record { column = c; key = key_of keys k; entry = e; place = b; end = end_by boxing e.kind c columns entries } ∷ more)
+      ap (λ (more : List RowColumn). record {
+        column = c;
+        key = key_of format.keys k;
+        entry = e;
+        place = b;
+        end = end_by
+            (bars_between boxing format (suc k)) e.kind c columns entries;
+      } ∷ more)
       (row_columns-push (suc k) columns entries places behind p r rest is)
 
 -- where a rule ends in front of a field, and in the last one
-pub rule_end-next : (boxing : Boxing) (sign : RuleSign) (c : Column) (at : ℕ) (columns : List Column) (entries : List Entry) (d : Column) (e : Entry)
+pub rule_end-next : (bars : ℕ) (sign : RuleSign) (c : Column) (at : ℕ) (columns : List Column) (entries : List Entry) (d : Column)
+    (e : Entry)
     → at < length columns → at < length entries
-    → rule_end_by boxing sign c (drop at columns) (drop at entries)
-    ≡ (if is_ruled_by sign (get_or entries at e).kind then joint boxing c (get_or columns at d) else c.start + c.width)
-rule_end-next boxing sign c at columns entries d e column entry =
-    ap (λ (cs : List Column). rule_end_by boxing sign c cs (drop at entries)) (drop_more columns at d column)
-    ∙ ap (rule_end_by boxing sign c (get_or columns at d ∷ drop (at + 1) columns)) (drop_more entries at e entry)
+    → rule_end_by bars sign c (drop at columns) (drop at entries)
+    ≡ (if is_ruled_by sign (get_or entries at e).kind then joint bars c (get_or columns at d) else c.start + c.width)
+rule_end-next bars sign c at columns entries d e column entry =
+    ap (λ (cs : List Column). rule_end_by bars sign c cs (drop at entries)) (drop_more columns at d column)
+    ∙ ap (rule_end_by bars sign c (get_or columns at d ∷ drop (at + 1) columns)) (drop_more entries at e entry)
 
-pub rule_end-last : (boxing : Boxing) (sign : RuleSign) (c : Column) (columns : List Column) (entries : List Entry) → entries ≡ []
-    → rule_end_by boxing sign c columns entries ≡ c.start + c.width
-rule_end-last boxing sign c [] entries none = refl
-rule_end-last boxing sign c (d ∷ columns) entries none = ap (rule_end_by boxing sign c (d ∷ columns)) none
+pub rule_end-last : (bars : ℕ) (sign : RuleSign) (c : Column) (columns : List Column) (entries : List Entry) → entries ≡ []
+    → rule_end_by bars sign c columns entries ≡ c.start + c.width
+rule_end-last bars sign c [] entries none = refl
+rule_end-last bars sign c (d ∷ columns) entries none = ap (rule_end_by bars sign c (d ∷ columns)) none
 
 pub narrow-at : (columns : List Column) (at : ℕ) (c : Column) → AllByRecursion IsNarrow columns → at < length columns
     → IsNarrow (get_or columns at c)
@@ -123,19 +169,27 @@ pub record ColumnLies (bytes : List ℕ) (all : List Entry) (n : ℕ) (r : RowCo
   pub within : IsWithin (block_text bytes r.entry) r.place
   pub narrow : IsNarrow r.column
 
-pub column-lies : (bytes : List ℕ) (boxing : Boxing) (keys : List FormatKey) (k n : ℕ) (columns : List Column) (entries : List Entry) (places : List BlockPlace)
-    (r : RowColumn) (rest : List RowColumn) → drop n (row_columns boxing keys k columns entries places) ≡ r ∷ rest
+pub column-lies : (bytes : List ℕ) (boxing : Boxing) (format : FormatRow) (k n : ℕ) (columns : List Column) (entries : List Entry)
+    (places : List BlockPlace)
+    (r : RowColumn) (rest : List RowColumn) → drop n (row_columns boxing format k columns entries places) ≡ r ∷ rest
     → AllByRecursion (Lies bytes) entries → AllByRecursion IsNarrow columns → PlacesLie bytes entries places
     → ColumnLies bytes entries n r
-column-lies bytes boxing keys k n [] entries places r rest is lie narrow within = absurd (let no = sym (drop-none n) ∙ is in cc)
-column-lies bytes boxing keys k n (c ∷ columns) [] places r rest is lie narrow within = absurd (let no = sym (drop-none n) ∙ is in cc)
-column-lies bytes boxing keys k n (c ∷ columns) (e ∷ entries) [] r rest is lie narrow within = absurd within
-column-lies bytes boxing keys k zero (c ∷ columns) (e ∷ entries) (p ∷ places) r rest is lie narrow within =
-    let first : RowColumn = record { column = c; key = key_of keys k; entry = e; place = p; end = end_by boxing e.kind c columns entries } in
+column-lies bytes boxing format k n [] entries places r rest is lie narrow within = absurd (let no = sym (drop-none n) ∙ is in cc)
+column-lies bytes boxing format k n (c ∷ columns) [] places r rest is lie narrow within = absurd (let no = sym (drop-none n) ∙ is in cc)
+column-lies bytes boxing format k n (c ∷ columns) (e ∷ entries) [] r rest is lie narrow within = absurd within
+column-lies bytes boxing format k zero (c ∷ columns) (e ∷ entries) (p ∷ places) r rest is lie narrow within =
+    let first : RowColumn = record {
+      column = c;
+      key = key_of format.keys k;
+      entry = e;
+      place = p;
+      end = end_by
+          (bars_between boxing format (suc k)) e.kind c columns entries;
+    } in
     let same : first ≡ r = cc in
     subst (ColumnLies bytes (e ∷ entries) 0) same (record { entries = refl; lies = lie.0; within = within.0; narrow = narrow.0 })
-column-lies bytes boxing keys k (suc n) (c ∷ columns) (e ∷ entries) (p ∷ places) r rest is lie narrow within =
-    let behind = column-lies bytes boxing keys (suc k) n columns entries places r rest is lie.1 narrow.1 within.1 in
+column-lies bytes boxing format k (suc n) (c ∷ columns) (e ∷ entries) (p ∷ places) r rest is lie narrow within =
+    let behind = column-lies bytes boxing format (suc k) n columns entries places r rest is lie.1 narrow.1 within.1 in
     record { entries = behind.entries; lies = behind.lies; within = behind.within; narrow = behind.narrow }
 
 -- a place more in the blocks of a front of the fields

@@ -1,5 +1,5 @@
 -- The lines of a row that begins are those of its fields in the table.
-use Rattle.std.proofs.Common.{◌≡◌, ℕ, zero, suc, ◌+◌, ◌-◌, ◌≤◌, max, Bool, List, [], ◌∷◌, ◌++◌, length, drop, get_or, map, codes, Option, Some, None, refl, sym, ap, subst, ◌∙◌, arith, if◌then◌else◌}
+use Rattle.std.proofs.Common.{◌≡◌, ℕ, zero, suc, ◌+◌, ◌-◌, ◌≤◌, max, Bool, true, false, List, [], ◌∷◌, ◌++◌, length, drop, get_or, map, codes, Option, Some, None, refl, sym, ap, subst, ◌∙◌, arith, if◌then◌else◌}
 use Rattle.std.specs.List.{AllByRecursion}
 use Rattle.std.proofs.lemmas.List.{drop-drop, drop-map}
 use Rattle.tbl_format.specs.Format.{FormatRow}
@@ -13,9 +13,9 @@ use Rattle.tbl_layout.specs.declared.entry.Entry.{Entry}
 use Rattle.tbl_layout.specs.declared.entry.EntryKind.{EntryKind}
 use Rattle.tbl_layout.specs.declared.entry.EntryKind.TheVariants.{Block as BlockKind, Repeated as RepeatedKind, Ruled as RuledKind, Short as ShortKind, Split as SplitKind, Text as TextKind}
 use Rattle.tbl_format.specs.declared.options.Boxing.{Boxing}
-use Rattle.tbl_format.specs.declared.options.Boxing.TheVariants.{Around, EachField, Nothing as NotBoxed}
-use Rattle.tbl_picture.specs.PictureLines.{Cell, all_between, at_column, bar_at, bar_by, between, cell_of, cells_from, end_of, fronts, height as row_height, joined_sign, joint, line_of, lines_from, row_cells, rule_end, with_fronts, written}
-use Rattle.tbl_picture.specs.RowsLeft.{all_between_by, between_by, cell_left, from_line, fronts_by, joined_first, joined_kinds, row_columns, rule_end_by}
+use Rattle.tbl_layout.specs.declared.bars.Bars.{Bars}
+use Rattle.tbl_picture.specs.PictureLines.{Cell, all_between, at_column, bars_at, bars_at_edge, bars_between, bars_by, cell_of, cells_from, end_of, fronts, height as row_height, joined_sign, joint, line_of, lines_from, right_bars, row_cells, rule_end, with_fronts, written}
+use Rattle.tbl_picture.specs.RowsLeft.{all_between_by, cell_left, from_line, fronts_by, joined_first, joined_kinds, row_columns, rule_end_by}
 use Rattle.tbl_picture.specs.Walks.{WalkedRow, first_place, fronts_of, line_cells, walked}
 use Rattle.tbl_layout.specs.declared.data_lines.RuleSign.{RuleSign}
 use Rattle.roff_source.specs.Bytes.{newline}
@@ -85,24 +85,34 @@ highest-fronts [] cs low = refl
 highest-fronts (f ∷ fs) [] low = omega (arith, low.0, highest-fronts fs [] low.1)
 highest-fronts (f ∷ fs) (c ∷ cs) low = omega (arith, low.0, highest-fronts fs cs low.1)
 
-bar-low : (sign : Option RuleSign) (c d : Column) → length (bar_by sign c d).lines ≤ 1
-bar-low None c d = omega arith
-bar-low (Some sign) c d = omega arith
+bars-low : (n at : ℕ) → length (bars_at at n).lines ≤ 1
+bars-low zero at = omega arith
+bars-low (suc n) at = omega arith
 
-between-low : (b : Boxing) (c d : Column) (entries : List Entry) → length (between_by b c d entries).lines ≤ 1
-between-low NotBoxed c d entries = omega arith
-between-low Around c d entries = omega arith
-between-low EachField c d entries = bar-low (joined_first entries) c d
+between-low : (sign : Option RuleSign) (n : ℕ) (c d : Column) → length (bars_by sign n c d).lines ≤ 1
+between-low sign zero c d = omega arith
+between-low None (suc n) c d = omega arith
+between-low (Some sign) (suc n) c d = omega arith
 
-all-low : (b : Boxing) (at : ℕ) (columns : List Column) (entries : List Entry) → AreLow (all_between_by b columns entries ++ bar_at at ∷ [])
-all-low b at [] entries = (omega arith, tt)
-all-low b at (c ∷ []) entries = (omega arith, tt)
-all-low b at (c ∷ d ∷ columns) entries = (between-low b c d entries, all-low b at (d ∷ columns) (drop 1 entries))
+all-low : (b : Boxing) (format : FormatRow) (k n at : ℕ) (columns : List Column) (entries : List Entry)
+    → AreLow (all_between_by b format k columns entries ++ bars_at at n ∷ [])
+all-low b format k n at [] entries = (bars-low n at, tt)
+all-low b format k n at (c ∷ []) entries = (bars-low n at, tt)
+all-low b format k n at (c ∷ d ∷ columns) entries =
+    (between-low (joined_first entries) (bars_between b format (suc k)) c d, all-low b format (suc k) n at (d ∷ columns) (drop 1 entries))
 
-fronts-low : (b : Boxing) (width : ℕ) (columns : List Column) (entries : List Entry) → AreLow (fronts_by b width columns entries)
-fronts-low NotBoxed width columns entries = tt
-fronts-low Around width columns entries = (omega arith, all-low Around (width - 1) columns entries)
-fronts-low EachField width columns entries = (omega arith, all-low EachField (width - 1) columns entries)
+low-if : (t : Bool) (fs : List Cell) → AreLow fs → AreLow (if t then fs else [])
+low-if true fs low = low
+low-if false fs low = tt
+
+fronts-low : (bars : Bars) (width : ℕ) (format : FormatRow) (columns : List Column) (entries : List Entry)
+    → AreLow (fronts_by bars width format columns entries)
+fronts-low bars width format columns entries =
+    let b = bars.boxing in
+    let left = bars_at_edge b format 0 in
+    let right = bars_at_edge b format (length columns) in
+    low-if bars.has_any (bars_at 0 left ∷ all_between_by b format 0 columns entries ++ right_bars width right ∷ [])
+    (bars-low left 0, all-low b format 0 right (width - right) columns entries)
 
 -- from its first line on
 from-first : (cells : List Cell) → map (from_line 0) cells ≡ cells
@@ -135,8 +145,10 @@ module _ (boxing : Boxing) (bytes : List ℕ) (format : FormatRow) (all_columns 
   past-same column (c ∷ columns) past =
       let none : field_at fields column ≡ Text [] =
       get-past column fields (Text []) (drop-map (content_of bytes) column all_entries ∙ ap (map (content_of bytes)) past) in (
-        ap (λ (f : Content). (cell_of boxing (key_at format column) c columns (field_at fields (suc column)) f).lines) none,
-        ap (λ (f : Content). (cell_of boxing (key_at format column) c columns (field_at fields (suc column)) f).below) none,
+        ap (λ (f : Content). (cell_of (bars_between boxing format (suc column)) (key_at format column) c columns
+            (field_at fields (suc column)) f).lines) none,
+        ap (λ (f : Content). (cell_of (bars_between boxing format (suc column)) (key_at format column) c columns
+            (field_at fields (suc column)) f).below) none,
         past-same (suc column) columns (drop-past column all_entries past),
       )
 
@@ -146,42 +158,47 @@ module _ (boxing : Boxing) (bytes : List ℕ) (format : FormatRow) (all_columns 
       get-at column fields (content_of bytes e) (map (content_of bytes) entries) (Text [])
       (drop-map (content_of bytes) column all_entries ∙ ap (map (content_of bytes)) at)
 
-  ends-same : (column : ℕ) (c : Column) (columns : List Column) (entries : List Entry) → drop column all_entries ≡ entries
-      → (sign : RuleSign) → rule_end boxing sign c columns (field_at fields column) ≡ rule_end_by boxing sign c columns entries
-  ends-same column c [] entries at sign = refl
-  ends-same column c (d ∷ columns) [] at sign =
-      ap (rule_end boxing sign c (d ∷ columns))
+  ends-same : (bars column : ℕ) (c : Column) (columns : List Column) (entries : List Entry) → drop column all_entries ≡ entries
+      → (sign : RuleSign) → rule_end bars sign c columns (field_at fields column) ≡ rule_end_by bars sign c columns entries
+  ends-same bars column c [] entries at sign = refl
+  ends-same bars column c (d ∷ columns) [] at sign =
+      ap (rule_end bars sign c (d ∷ columns))
       (get-past column fields (Text []) (drop-map (content_of bytes) column all_entries ∙ ap (map (content_of bytes)) at))
-  ends-same column c (d ∷ columns) (e ∷ entries) at sign =
-      ap (rule_end boxing sign c (d ∷ columns)) (content-at column e entries at)
-      ∙ ap (λ (t : Bool). if t then joint boxing c d else c.start + c.width) (ruled-same sign e.kind bytes e.from e.to)
+  ends-same bars column c (d ∷ columns) (e ∷ entries) at sign =
+      ap (rule_end bars sign c (d ∷ columns)) (content-at column e entries at)
+      ∙ ap (λ (t : Bool). if t then joint bars c d else c.start + c.width) (ruled-same sign e.kind bytes e.from e.to)
 
   field-at : (column : ℕ) (c : Column) (columns : List Column) (e : Entry) (entries : List Entry) → drop column all_columns ≡ c ∷ columns
       → drop (suc column) all_entries ≡ entries → IsLaid bytes (measures all_columns column) (key_at format column) e
-      → CellSame boxing bytes c columns (key_at format column) e (field_at fields (suc column)) entries
+      → CellSame (bars_between boxing format (suc column)) bytes c columns (key_at format column) e (field_at fields (suc column)) entries
   field-at column c columns e entries at behind laid =
       let m : measures all_columns column ≡ c.measure =
       get-at column (map (λ (x : Column). x.measure) all_columns) c.measure (map (λ (x : Column). x.measure) columns) 0
       (drop-map (λ (x : Column). x.measure) column all_columns ∙ ap (map (λ (x : Column). x.measure)) at) in
-      cell-same boxing bytes c columns (key_at format column) e (field_at fields (suc column)) entries e.kind refl
-      (subst (λ (n : ℕ). IsLaid bytes n (key_at format column) e) m laid) (ends-same (suc column) c columns entries behind)
+      cell-same (bars_between boxing format (suc column)) bytes c columns (key_at format column) e
+      (field_at fields (suc column)) entries e.kind refl
+      (subst (λ (n : ℕ). IsLaid bytes n (key_at format column) e) m laid)
+      (ends-same (bars_between boxing format (suc column)) (suc column) c columns entries behind)
 
   cells-same : (column : ℕ) (columns : List Column) (entries : List Entry) → drop column all_columns ≡ columns → drop column all_entries ≡ entries
       → length entries ≤ length columns → AreLaid bytes all_columns format column entries
-      → SameLines (cells_from boxing column columns format fields) (map (cell_left bytes 0) (row_columns boxing format.keys column columns entries (map first_place entries)))
+      → SameLines (cells_from boxing column columns format fields)
+      (map (cell_left bytes 0) (row_columns boxing format column columns entries (map first_place entries)))
   cells-same column [] [] at_columns at_entries short laid = tt
   cells-same column [] (e ∷ entries) at_columns at_entries short laid = absurd (omega (arith, short))
   cells-same column (c ∷ columns) [] at_columns at_entries short laid = past-same column (c ∷ columns) at_entries
   cells-same column (c ∷ columns) (e ∷ entries) at_columns at_entries short laid =
       let behind = drop-next column all_entries e entries at_entries in (
-        ap (cell_of boxing (key_at format column) c columns (field_at fields (suc column))) (content-at column e entries at_entries)
+        ap (cell_of (bars_between boxing format (suc column)) (key_at format column) c columns (field_at fields (suc column)))
+            (content-at column e entries at_entries)
             ∙ (field-at column c columns e entries at_columns behind laid.0).cell,
         cells-same (suc column) columns entries (drop-next column all_columns c columns at_columns) behind (omega (arith, short)) laid.1,
       )
 
   rows-high : (column : ℕ) (columns : List Column) (entries : List Entry) → drop column all_columns ≡ columns → drop column all_entries ≡ entries
       → length entries ≤ length columns → AreLaid bytes all_columns format column entries
-      → max 1 (greatest (map (λ c. length c.lines) (map (cell_left bytes 0) (row_columns boxing format.keys column columns entries (map first_place entries)))))
+      → max 1 (greatest (map (λ c. length c.lines) (map (cell_left bytes 0)
+      (row_columns boxing format column columns entries (map first_place entries)))))
       ≡ max 1 (greatest (map (λ e. lines_by e.kind) entries))
   rows-high column [] [] at_columns at_entries short laid = refl
   rows-high column [] (e ∷ entries) at_columns at_entries short laid = absurd (omega (arith, short))
@@ -212,67 +229,70 @@ module _ (boxing : Boxing) (bytes : List ℕ) (format : FormatRow) (all_columns 
       ∙ ap (joined_sign (content_of bytes e)) (content-at (suc column) f entries behind)
       ∙ joined-two e.kind bytes e f
 
-  between-same : (b : Boxing) (column : ℕ) (c d : Column) (entries : List Entry) → drop column all_entries ≡ entries
-      → between b c d (field_at fields column) (field_at fields (suc column)) ≡ between_by b c d entries
-  between-same NotBoxed column c d entries at = refl
-  between-same Around column c d entries at = refl
-  between-same EachField column c d entries at = ap (λ (sign : Option RuleSign). bar_by sign c d) (joined-same column entries at)
-
-  all-between-same : (b : Boxing) (column : ℕ) (columns : List Column) (entries : List Entry) → drop column all_entries ≡ entries
-      → all_between b column columns fields ≡ all_between_by b columns entries
-  all-between-same b column [] entries at = refl
-  all-between-same b column (c ∷ []) entries at = refl
-  all-between-same b column (c ∷ d ∷ columns) entries at =
+  all-between-same : (column : ℕ) (columns : List Column) (entries : List Entry) → drop column all_entries ≡ entries
+      → all_between boxing column columns format fields ≡ all_between_by boxing format column columns entries
+  all-between-same column [] entries at = refl
+  all-between-same column (c ∷ []) entries at = refl
+  all-between-same column (c ∷ d ∷ columns) entries at =
       let next : suc column ≡ column + 1 = omega arith in
       let behind : drop (suc column) all_entries ≡ drop 1 entries =
       ap (λ (n : ℕ). drop n all_entries) next ∙ sym (drop-drop 1 column all_entries) ∙ ap (λ (es : List Entry). drop 1 es) at in
-      ap (λ (x : Cell). x ∷ all_between b (suc column) (d ∷ columns) fields) (between-same b column c d entries at)
-      ∙ ap (λ (xs : List Cell). between_by b c d entries ∷ xs) (all-between-same b (suc column) (d ∷ columns) (drop 1 entries) behind)
+      let bars = bars_between boxing format (suc column) in
+      ap (λ (sign : Option RuleSign). bars_by sign bars c d ∷ all_between boxing (suc column) (d ∷ columns) format fields)
+      (joined-same column entries at)
+      ∙ ap (λ (xs : List Cell). bars_by (joined_first entries) bars c d ∷ xs)
+      (all-between-same (suc column) (d ∷ columns) (drop 1 entries) behind)
 
-  fronts-same : (b : Boxing) (width : ℕ) (columns : List Column) → fronts b width columns fields ≡ fronts_by b width columns all_entries
-  fronts-same NotBoxed width columns = refl
-  fronts-same Around width columns =
-      ap (λ (xs : List Cell). bar_at 0 ∷ xs ++ bar_at (width - 1) ∷ []) (all-between-same Around 0 columns all_entries refl)
-  fronts-same EachField width columns =
-      ap (λ (xs : List Cell). bar_at 0 ∷ xs ++ bar_at (width - 1) ∷ []) (all-between-same EachField 0 columns all_entries refl)
+fronts-same : (bars : Bars) (width : ℕ) (bytes : List ℕ) (format : FormatRow) (columns : List Column) (entries : List Entry)
+    → fronts (record { bars = bars; width = width; columns = columns }) format (map (content_of bytes) entries)
+    ≡ fronts_by bars width format columns entries
+fronts-same bars width bytes format columns entries =
+    let b = bars.boxing in
+    let all : List Cell → List Cell = λ xs.
+    if bars.has_any then bars_at 0 (bars_at_edge b format 0) ∷ xs ++ right_bars width (bars_at_edge b format (length columns))
+    ∷ [] else [] in
+    ap all (all-between-same b bytes format columns entries 0 columns entries refl)
 
 -- a row that begins: how high it is, and its lines
-module _ (bytes : List ℕ) (formats : List FormatRow) (boxing : Boxing) (width : ℕ) (columns : List Column) (keys height : ℕ) (entries : List Entry)
+module _ (bytes : List ℕ) (formats : List FormatRow) (bars : Bars) (width : ℕ) (columns : List Column) (keys height : ℕ)
+    (entries : List Entry)
     (laid : RowLaid bytes formats columns keys height entries) where
   abbrev row_now : WalkedRow
-  row_now = walked bytes formats boxing width columns keys height entries
+  row_now = walked bytes formats bars width columns keys height entries
 
   abbrev cells_of_row : List Cell
-  cells_of_row = row_cells boxing width columns (row_at formats keys) (map (content_of bytes) entries)
+  cells_of_row = row_cells (record { bars = bars; width = width; columns = columns }) (row_at formats keys) (map (content_of bytes) entries)
 
   abbrev cells_of_fields : List Cell
-  cells_of_fields = cells_from boxing 0 columns (row_at formats keys) (map (content_of bytes) entries)
+  cells_of_fields = cells_from bars.boxing 0 columns (row_at formats keys) (map (content_of bytes) entries)
 
   abbrev fields_of_row : List Cell
-  fields_of_row = map (cell_left bytes 0) (row_columns boxing (row_at formats keys).keys 0 columns entries (map first_place entries))
+  fields_of_row = map (cell_left bytes 0) (row_columns bars.boxing (row_at formats keys) 0 columns entries (map first_place entries))
 
   same-fields : SameLines cells_of_fields fields_of_row
-  same-fields = cells-same boxing bytes (row_at formats keys) columns entries 0 columns entries refl refl laid.short laid.laid
+  same-fields = cells-same bars.boxing bytes (row_at formats keys) columns entries 0 columns entries refl refl laid.short laid.laid
 
-  same-fronts : fronts boxing width columns (map (content_of bytes) entries) ≡ fronts_by boxing width columns entries
-  same-fronts = fronts-same boxing bytes (row_at formats keys) columns entries boxing width columns
+  same-fronts : fronts (record { bars = bars; width = width; columns = columns }) (row_at formats keys) (map (content_of bytes) entries)
+      ≡ fronts_by bars width (row_at formats keys) columns entries
+  same-fronts = fronts-same bars width bytes (row_at formats keys) columns entries
 
   pub row-high : row_height cells_of_row ≡ height
   row-high =
-      let low = fronts-low boxing width columns entries in
+      let low = fronts-low bars width (row_at formats keys) columns entries in
       omega (
         arith,
         laid.high,
         ap (λ (fs : List Cell). greatest (map (λ c. length c.lines) (with_fronts fs cells_of_fields))) same-fronts,
-        highest-fronts (fronts_by boxing width columns entries) cells_of_fields low,
+        highest-fronts (fronts_by bars width (row_at formats keys) columns entries) cells_of_fields low,
         highest-same cells_of_fields fields_of_row same-fields,
-        rows-high boxing bytes (row_at formats keys) columns entries 0 columns entries refl refl laid.short laid.laid,
+        rows-high bars.boxing bytes (row_at formats keys) columns entries 0 columns entries refl refl laid.short laid.laid,
       )
 
   pub lines-begun : lines_from 0 (row_height cells_of_row) cells_of_row ≡ lines_from 0 (height - 0) (line_cells row_now 0 (map first_place entries))
   lines-begun =
       let high : row_height cells_of_row ≡ height - 0 = omega (arith, row-high) in
       ap (λ (n : ℕ). lines_from 0 n cells_of_row) high
-      ∙ ap (λ (fs : List Cell). lines_from 0 (height - 0) (with_fronts fs cells_of_fields)) (same-fronts ∙ sym (from-first (fronts_by boxing width columns entries)))
+      ∙ ap (λ (fs : List Cell). lines_from 0 (height - 0) (with_fronts fs cells_of_fields))
+      (same-fronts ∙ sym (from-first (fronts_by bars width (row_at formats keys) columns entries)))
       ∙ lines-same 0 (height - 0) (with_fronts (fronts_of row_now 0) cells_of_fields) (line_cells row_now 0 (map first_place entries))
       (written-same (fronts_of row_now 0) cells_of_fields fields_of_row same-fields)

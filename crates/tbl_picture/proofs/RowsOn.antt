@@ -1,5 +1,5 @@
 -- A row that is under way: some of it is left, and some steps.
-use Rattle.std.proofs.Common.{◌≡◌, ℕ, suc, ◌+◌, ◌-◌, ◌<◌, List, [], ◌∷◌, length, drop, map, sym, ap, subst, arith, length-append}
+use Rattle.std.proofs.Common.{◌≡◌, ℕ, suc, ◌-◌, ◌<◌, List, [], ◌∷◌, length, drop, sym, subst, arith, length-append}
 use Rattle.tbl_layout.specs.declared.entry.Entry.{Entry}
 use Rattle.tbl_picture.specs.PictureLines.{lines_from}
 use Rattle.tbl_picture.specs.RowsLeft.{given, word_given}

@@ -1,11 +1,13 @@
 -- Rule lines with crossings, a boundary between columns after the other.
-use Rattle.std.proofs.Common.{◌≡◌, ℕ, zero, suc, ◌+◌, ◌-◌, ◌≤◌, ◌<◌, Bool, true, false, not, ◌&&◌, ◌||◌, List, [], ◌∷◌, ◌++◌, length, drop, map, get_or, replicate, codes, Option, Some, None, refl, sym, ap, subst, ◌∙◌, arith, append_assoc, if◌then◌else◌, ◌==◌}
+use Rattle.std.proofs.Common.{◌≡◌, ℕ, zero, suc, ◌+◌, ◌-◌, ◌≤◌, ◌<◌, max, Bool, true, false, not, ◌&&◌, ◌||◌, List, [], ◌∷◌, ◌++◌, length, drop, map, replicate, codes, Option, Some, None, refl, sym, ap, ◌∙◌, arith, append_assoc, if◌then◌else◌, ◌==◌}
 use Rattle.std.specs.Prelude.{is_some}
+use Rattle.std.specs.List.{AllByRecursion}
 use Rattle.std.proofs.lemmas.List.{append-nil, length-drop}
 use Rattle.roff_source.specs.Bytes.{newline}
+use Rattle.tbl_format.specs.Format.{FormatRow}
+use Rattle.tbl_format.specs.RowsServed.{row_at}
 use Rattle.tbl_format.specs.declared.options.Boxing.{Boxing}
-use Rattle.tbl_format.specs.declared.options.Boxing.TheVariants.{Around, EachField, Nothing as NotBoxed}
-use Rattle.tbl_kept.specs.Rows.{Command, KeptElement, KeptRows, Row, Rule}
+use Rattle.tbl_kept.specs.Rows.{Command, ElementLaid, KeptElement, Row, Rule}
 use Rattle.tbl_layout.specs.Columns.{bar_place}
 use Rattle.tbl_layout.specs.DataLines.{sign_byte}
 use Rattle.tbl_layout.specs.Entries.{Text, field_at}
@@ -15,111 +17,119 @@ use Rattle.tbl_layout.specs.declared.data_lines.RuleSign.{RuleSign}
 use Rattle.tbl_layout.specs.declared.entry.Entry.{Entry}
 use Rattle.tbl_layout.specs.declared.entry.EntryKind.{EntryKind}
 use Rattle.tbl_layout.specs.declared.entry.EntryKind.TheVariants.{Block as BlockKind, Repeated as RepeatedKind, Ruled as RuledKind, Short as ShortKind, Split as SplitKind, Text as TextKind}
-use Rattle.tbl_picture.specs.PictureLines.{Neighbour, crossing, crossings, crossings_from, is_ruled, joined_sign, place_if, rule_line, ruled, shows_behind, shows_edges}
+use Rattle.tbl_picture.specs.PictureLines.{Neighbour, Sheet, bars_between, crossed_at_edge, crossing, crossings, crossings_from, is_ruled, joined_sign, places_from, rule_line, ruled, shown_behind}
 use Rattle.tbl_picture.specs.RowsLeft.{is_ruled_by, joined_first, joined_kinds}
-use Rattle.tbl_picture.specs.RulesWalked.{IsRowFirst, IsRowThere, boxes_each, crossings_left, edge_places, is_boxed, is_row, line_beside, line_of_first, rule_at, rule_front, ruled_left}
+use Rattle.tbl_picture.specs.RulesWalked.{AreServed, line_beside, line_of_first, rule_at, rule_front, ruled_left}
 use Rattle.tbl_picture.specs.declared.walk.rules.Beside.{Beside}
-use Rattle.tbl_picture.specs.declared.walk.rules.Beside.TheVariants.{Nothing as NoRowBeside, Row as RowBeside}
+use Rattle.tbl_picture.specs.declared.walk.rules.Beside.TheVariants.{Row as RowBeside}
 use Rattle.tbl_picture.proofs.RowColumns.{drop-next}
 
--- a rule line begins with the crossing of its left edge, if it has one
-edge-begun : (e : Bool) (b : ℕ) (inner : List ℕ) (width : ℕ)
-    → codes "\\&" ++ (ruled b 0 (place_if e 0 ++ inner) width ++ newline ∷ [])
-    ≡ rule_front e ++ (ruled b (edge_places e) inner width ++ newline ∷ [])
-edge-begun true b inner width = refl
-edge-begun false b inner width = refl
+-- crossings side by side, from a place on
+run-crossed : (n b at : ℕ) (rest : List ℕ) (width : ℕ)
+    → ruled b at (places_from at n ++ rest) width ≡ replicate n crossing ++ ruled b (at + n) rest width
+run-crossed zero b at rest width = let same : at ≡ at + 0 = omega arith in ap (λ (p : ℕ). ruled b p rest width) same
+run-crossed (suc n) b at rest width =
+    let none : at - at ≡ 0 = omega arith in
+    let next : at + 1 ≡ suc at = omega arith in
+    let behind : suc at + n ≡ at + suc n = omega arith in
+    let inner = places_from (suc at) n ++ rest in
+    ap (λ (k : ℕ). replicate k b ++ crossing ∷ ruled b (at + 1) inner width) none
+    ∙ ap (λ (p : ℕ). crossing ∷ ruled b p inner width) next
+    ∙ ap (λ (xs : List ℕ). crossing ∷ xs) (run-crossed n b (suc at) rest width)
+    ∙ ap (λ (p : ℕ). crossing ∷ (replicate n crossing ++ ruled b p rest width)) behind
 
-pub rule-begun : (boxing : Boxing) (width : ℕ) (columns : List Column) (above below : Neighbour) (sign : RuleSign) (is_last : Bool) (beside : Beside) (e : Bool)
-    → is_boxed boxing ≡ true → (shows_edges above || shows_edges below) ≡ e
-    → rule_line width sign (crossings boxing width columns above below)
-    ≡ rule_front e ++ ruled_left (record { boxing = boxing; width = width; columns = columns }) above below (rule_at sign is_last e beside) (edge_places e)
-rule-begun NotBoxed width columns above below sign is_last beside e boxed is = absurd (cc)
-rule-begun Around width columns above below sign is_last beside e boxed is =
-    ap (λ (t : Bool). rule_line width sign (place_if t 0 ++ ([] ++ place_if t (width - 1)))) is
-    ∙ edge-begun e (sign_byte sign) (place_if e (width - 1)) width
-rule-begun EachField width columns above below sign is_last beside e boxed is =
-    ap (λ (t : Bool). rule_line width sign (place_if t 0 ++ (crossings_from above below 0 columns ++ place_if t (width - 1)))) is
-    ∙ edge-begun e (sign_byte sign) (crossings_from above below 0 columns ++ place_if e (width - 1)) width
+-- up to some crossings, and behind them
+places-crossed : (n b place at : ℕ) (rest : List ℕ) (width : ℕ) → 0 < n
+    → ruled b place (places_from at n ++ rest) width ≡ replicate (at - place) b ++ (replicate n crossing ++ ruled b (at + n) rest width)
+places-crossed zero b place at rest width some = absurd (omega (arith, some))
+places-crossed (suc n) b place at rest width some =
+    let next : at + 1 ≡ suc at = omega arith in
+    let behind : suc at + n ≡ at + suc n = omega arith in
+    let front = replicate (at - place) b in
+    ap (λ (p : ℕ). front ++ crossing ∷ ruled b p (places_from (suc at) n ++ rest) width) next
+    ∙ ap (λ (xs : List ℕ). front ++ crossing ∷ xs) (run-crossed n b (suc at) rest width)
+    ∙ ap (λ (p : ℕ). front ++ crossing ∷ (replicate n crossing ++ ruled b p rest width)) behind
 
--- what is given up to a place, if the rule crosses a bar there, and the place behind it
-abbrev pub crossing_given : Bool → ℕ → ℕ → ℕ → List ℕ
-crossing_given true b place at = replicate (at - place) b ++ crossing ∷ []
-crossing_given false b place at = []
-
-abbrev pub place_behind : Bool → ℕ → ℕ → ℕ
-place_behind true place at = at + 1
-place_behind false place at = place
-
-crossed-place : (shown : Bool) (b place at : ℕ) (inner : List ℕ) (width : ℕ)
-    → ruled b place (place_if shown at ++ inner) width ≡ crossing_given shown b place at ++ ruled b (place_behind shown place at) inner width
-crossed-place true b place at inner width = sym (append_assoc (replicate (at - place) b) (crossing ∷ []) (ruled b (at + 1) inner width))
-crossed-place false b place at inner width = refl
+-- a rule line begins with the crossings of its left edge
+pub rule-begun : (s : Sheet) (above below : Neighbour) (sign : RuleSign) (is_last : Bool) (beside : Beside) (n : ℕ) → s.bars.has_any ≡ true
+    → crossed_at_edge s.bars.boxing above below 0 ≡ n
+    → rule_line s.width sign (crossings s above below) ≡ rule_front n ++ ruled_left s above below (rule_at sign is_last beside) n
+rule-begun s above below sign is_last beside n any is =
+    let boxing = s.bars.boxing in
+    let right = crossed_at_edge boxing above below (length s.columns) in
+    let rest = crossings_from boxing above below 0 s.columns ++ places_from (s.width - right) right in
+    let b = sign_byte sign in
+    let edge = replicate n crossing in
+    let drawn = ruled b n rest s.width in
+    let begun : 0 + n ≡ n = omega arith in
+    ap (λ (t : Bool). rule_line s.width sign (if t then places_from 0 (crossed_at_edge boxing above below 0) ++ rest else [])) any
+    ∙ ap (λ (k : ℕ). rule_line s.width sign (places_from 0 k ++ rest)) is
+    ∙ ap (λ (xs : List ℕ). codes "\\&" ++ (xs ++ newline ∷ []))
+    (run-crossed n b 0 rest s.width ∙ ap (λ (p : ℕ). edge ++ ruled b p rest s.width) begun)
+    ∙ ap (λ (xs : List ℕ). codes "\\&" ++ xs) (append_assoc edge drawn (newline ∷ []))
+    ∙ sym (append_assoc (codes "\\&") edge (drawn ++ newline ∷ []))
 
 -- the crossings that are left at a boundary, and behind it
-pub crossings-next : (above below : Neighbour) (column : ℕ) (columns : List Column) (c d : Column) (rest : List Column) → drop column columns ≡ c ∷ d ∷ rest
-    → crossings_left EachField above below column columns
-    ≡ place_if (shows_behind above column || shows_behind below column) (bar_place c d) ++ crossings_left EachField above below (column + 1) columns
-crossings-next above below column columns c d rest is =
+pub crossings-next : (boxing : Boxing) (above below : Neighbour) (column : ℕ) (columns : List Column) (c d : Column) (rest : List Column) (n : ℕ)
+    → drop column columns ≡ c ∷ d ∷ rest → max (shown_behind boxing above column) (shown_behind boxing below column) ≡ n
+    → crossings_from boxing above below column (drop column columns)
+    ≡ places_from (bar_place n c d) n ++ crossings_from boxing above below (column + 1) (drop (column + 1) columns)
+crossings-next boxing above below column columns c d rest n is shown =
     let next : suc column ≡ column + 1 = omega arith in
-    ap (crossings_from above below column) is
-    ∙ ap (λ (xs : List Column). place_if (shows_behind above column || shows_behind below column) (bar_place c d) ++ crossings_from above below (suc column) xs)
+    ap (crossings_from boxing above below column) is
+    ∙ ap (λ (k : ℕ). places_from (bar_place k c d) k ++ crossings_from boxing above below (suc column) (d ∷ rest)) shown
+    ∙ ap (λ (xs : List Column). places_from (bar_place n c d) n ++ crossings_from boxing above below (suc column) xs)
     (sym (drop-next column columns c (d ∷ rest) is))
-    ∙ ap (λ (n : ℕ). place_if (shows_behind above column || shows_behind below column) (bar_place c d) ++ crossings_from above below n (drop n columns)) next
+    ∙ ap (λ (k : ℕ). places_from (bar_place n c d) n ++ crossings_from boxing above below k (drop k columns)) next
 
 -- what is left of a line, by the crossings that are
-abbrev pub line_left : ℕ → ℕ → List ℕ → Bool → ℕ → List ℕ
-line_left b place inner e width = ruled b place (inner ++ place_if e (width - 1)) width ++ newline ∷ []
+abbrev pub line_left : ℕ → ℕ → List ℕ → List ℕ → ℕ → List ℕ
+line_left b place inner edge width = ruled b place (inner ++ edge) width ++ newline ∷ []
 
-pub line-crossed : (shown : Bool) (b place at : ℕ) (inner more : List ℕ) (e : Bool) (width : ℕ) → inner ≡ place_if shown at ++ more
-    → line_left b place inner e width ≡ crossing_given shown b place at ++ line_left b (place_behind shown place at) more e width
-line-crossed shown b place at inner more e width is =
-    let edge = place_if e (width - 1) in
-    let given = crossing_given shown b place at in
-    ap (λ (xs : List ℕ). line_left b place xs e width) is
-    ∙ ap (λ (xs : List ℕ). ruled b place xs width ++ newline ∷ []) (append_assoc (place_if shown at) more edge)
-    ∙ ap (λ (xs : List ℕ). xs ++ newline ∷ []) (crossed-place shown b place at (more ++ edge) width)
-    ∙ append_assoc given (ruled b (place_behind shown place at) (more ++ edge) width) (newline ∷ [])
+pub line-crossed : (n b place at : ℕ) (inner more edge : List ℕ) (width : ℕ) → 0 < n → inner ≡ places_from at n ++ more
+    → line_left b place inner edge width ≡ (replicate (at - place) b ++ replicate n crossing) ++ line_left b (at + n) more edge width
+line-crossed n b place at inner more edge width some is =
+    let front = replicate (at - place) b in
+    let bars = replicate n crossing in
+    let behind = ruled b (at + n) (more ++ edge) width in
+    ap (λ (xs : List ℕ). line_left b place xs edge width) is
+    ∙ ap (λ (xs : List ℕ). ruled b place xs width ++ newline ∷ []) (append_assoc (places_from at n) more edge)
+    ∙ ap (λ (xs : List ℕ). xs ++ newline ∷ []) (places-crossed n b place at (more ++ edge) width some ∙ sym (append_assoc front bars behind))
+    ∙ append_assoc (front ++ bars) behind (newline ∷ [])
 
--- behind the last boundary no crossing is left but the edge's
-none-from : (above below : Neighbour) (column : ℕ) (columns : List Column) → length columns ≤ 1 → crossings_from above below column columns ≡ []
-none-from above below column [] few = refl
-none-from above below column (c ∷ []) few = refl
-none-from above below column (c ∷ d ∷ columns) few = absurd (omega (arith, few))
+-- behind the last boundary no crossing is left but those of the edge
+none-from : (boxing : Boxing) (above below : Neighbour) (column : ℕ) (columns : List Column) → length columns ≤ 1
+    → crossings_from boxing above below column columns ≡ []
+none-from boxing above below column [] few = refl
+none-from boxing above below column (c ∷ []) few = refl
+none-from boxing above below column (c ∷ d ∷ columns) few = absurd (omega (arith, few))
 
-pub crossings-none : (boxing : Boxing) (above below : Neighbour) (column : ℕ) (columns : List Column)
-    → (boxes_each boxing ≡ true → length columns ≤ column + 1) → crossings_left boxing above below column columns ≡ []
-crossings-none NotBoxed above below column columns few = refl
-crossings-none Around above below column columns few = refl
-crossings-none EachField above below column columns few =
-    none-from above below column (drop column columns) (omega (arith, few refl, length-drop column columns))
+pub crossings-none : (boxing : Boxing) (above below : Neighbour) (column : ℕ) (columns : List Column) → length columns ≤ column + 1
+    → crossings_from boxing above below column (drop column columns) ≡ []
+crossings-none boxing above below column columns few =
+    none-from boxing above below column (drop column columns) (omega (arith, few, length-drop column columns))
 
-edge-ended : (e : Bool) (b place width : ℕ)
-    → ruled b place (place_if e (width - 1)) width ≡ replicate (width - edge_places e - place) b ++ replicate (edge_places e) crossing
-edge-ended true b place width =
-    let none : width - (width - 1 + 1) ≡ 0 = omega arith in
-    ap (λ (n : ℕ). replicate (width - 1 - place) b ++ crossing ∷ replicate n b) none
-edge-ended false b place width =
+edge-ended : (n b place width : ℕ)
+    → ruled b place (places_from (width - n) n) width ≡ replicate (width - n - place) b ++ replicate n crossing
+edge-ended zero b place width =
     let same : width ≡ width - 0 = omega arith in
-    ap (λ (n : ℕ). replicate (n - place) b) same ∙ sym (append-nil (replicate (width - 0 - place) b))
+    ap (λ (k : ℕ). replicate (k - place) b) same ∙ sym (append-nil (replicate (width - 0 - place) b))
+edge-ended (suc n) b place width =
+    let at = width - suc n in
+    let none : width - (at + suc n) ≡ 0 = omega arith in
+    let front = replicate (at - place) b in
+    let bars = replicate (suc n) crossing in
+    ap (λ (xs : List ℕ). ruled b place xs width) (sym (append-nil (places_from at (suc n))))
+    ∙ places-crossed (suc n) b place at [] width (omega arith)
+    ∙ ap (λ (k : ℕ). front ++ (bars ++ replicate k b)) none
+    ∙ ap (λ (xs : List ℕ). front ++ xs) (append-nil bars)
 
-pub line-ended : (b place : ℕ) (inner : List ℕ) (e : Bool) (width : ℕ) → inner ≡ []
-    → line_left b place inner e width ≡ replicate (width - edge_places e - place) b ++ (replicate (edge_places e) crossing ++ newline ∷ [])
-line-ended b place inner e width none =
-    ap (λ (xs : List ℕ). line_left b place xs e width) none
-    ∙ ap (λ (xs : List ℕ). xs ++ newline ∷ []) (edge-ended e b place width)
-    ∙ append_assoc (replicate (width - edge_places e - place) b) (replicate (edge_places e) crossing) (newline ∷ [])
-
--- a line of a row shows bars at the edges
-edges-first : (bytes : List ℕ) (is_below : Bool) (elements : List KeptElement) → IsRowFirst elements → shows_edges (line_of_first bytes is_below elements) ≡ true
-edges-first bytes is_below [] there = absurd there
-edges-first bytes is_below (Row keys height entries ∷ elements) there = refl
-edges-first bytes is_below (Rule sign ∷ elements) there = absurd there
-edges-first bytes is_below (Command from to ∷ elements) there = absurd there
-
-pub edges-beside : (bytes : List ℕ) (is_below : Bool) (elements : List KeptElement) (beside : Beside) → IsRowThere elements beside
-    → shows_edges (line_beside bytes is_below elements beside) ≡ is_row beside
-edges-beside bytes is_below elements NoRowBeside there = refl
-edges-beside bytes is_below elements (RowBeside at) there = edges-first bytes is_below (drop at elements) there
+pub line-ended : (n b place : ℕ) (inner : List ℕ) (width : ℕ) → inner ≡ []
+    → line_left b place inner (places_from (width - n) n) width ≡ replicate (width - n - place) b ++ (replicate n crossing ++ newline ∷ [])
+line-ended n b place inner width none =
+    ap (λ (xs : List ℕ). line_left b place xs (places_from (width - n) n) width) none
+    ∙ ap (λ (xs : List ℕ). xs ++ newline ∷ []) (edge-ended n b place width)
+    ∙ append_assoc (replicate (width - n - place) b) (replicate n crossing) (newline ∷ [])
 
 -- two fields of a row that are the same rule
 same-rule : (bytes : List ℕ) (from to : ℕ) (sign : RuleSign) (k : EntryKind) → is_ruled sign (content_by k bytes from to) ≡ is_ruled_by sign k
@@ -156,11 +166,24 @@ module _ (bytes : List ℕ) where
   joined-at (e ∷ f ∷ entries) zero = joined-two e.kind e.from e.to f
   joined-at (e ∷ entries) (suc column) = joined-at entries column
 
--- whether a line of a row that stands there shows a bar
-pub shows-row : (bytes : List ℕ) (is_below : Bool) (elements : List KeptElement) (at keys height : ℕ) (entries : List Entry) (rest : List KeptElement)
-    (column : ℕ) → drop at elements ≡ Row keys height entries ∷ rest
-    → shows_behind (line_beside bytes is_below elements (RowBeside at)) column
-    ≡ not ((is_below || height == 1) && is_some (joined_first (drop column entries)))
-shows-row bytes is_below elements at keys height entries rest column is =
-    ap (λ (es : List KeptElement). shows_behind (line_of_first bytes is_below es) column) is
-    ∙ ap (λ (j : Option RuleSign). not ((is_below || height == 1) && is_some j)) (joined-at bytes entries column)
+-- how many bars a line of a row that stands there shows behind a column
+module _ (boxing : Boxing) (bytes : List ℕ) (formats : List FormatRow) (is_below : Bool) (elements : List KeptElement) (at keys height : ℕ)
+    (entries : List Entry) (rest : List KeptElement) (column : ℕ) (is : drop at elements ≡ Row keys height entries ∷ rest) where
+  pub shown-row : shown_behind boxing (line_beside bytes formats is_below elements (RowBeside at)) column
+      ≡ (if (is_below || height == 1) && is_some (joined_first (drop column entries)) then 0 else bars_between boxing (row_at formats keys) (suc column))
+  shown-row =
+      let bars = bars_between boxing (row_at formats keys) (suc column) in
+      ap (λ (es : List KeptElement). shown_behind boxing (line_of_first bytes formats is_below es) column) is
+      ∙ ap (λ (j : Option RuleSign). if (is_below || height == 1) && is_some j then 0 else bars) (joined-at bytes entries column)
+
+pub unless : (t : Bool) (n : ℕ) → (if not t then n else 0) ≡ (if t then 0 else n)
+unless true n = refl
+unless false n = refl
+
+-- the rows of elements that are laid out have rows of the formats
+pub laid-served : (bytes : List ℕ) (formats : List FormatRow) (columns : List Column) (elements : List KeptElement)
+    → AllByRecursion (ElementLaid bytes formats columns) elements → AreServed formats elements
+laid-served bytes formats columns [] all = tt
+laid-served bytes formats columns (Row keys height entries ∷ elements) all = (all.0.serves, laid-served bytes formats columns elements all.1)
+laid-served bytes formats columns (Rule sign ∷ elements) all = (tt, laid-served bytes formats columns elements all.1)
+laid-served bytes formats columns (Command from to ∷ elements) all = (tt, laid-served bytes formats columns elements all.1)

@@ -28,7 +28,7 @@ use Rattle.tbl_text.specs.declared.block_words.BlockWord.{BlockWord}
 module _ (row : WalkedRow) (w : KeptWalk) (r : RowColumn) (at : AtColumn row w r) (is : IsBlock r.entry.kind) where
   -- a block that has no line any more
   pub ended-steps : (frame : List ℕ) (pieces : KeptPieces) → w.next ≡ AtCell → parts_at (block_text row.bytes r.entry) r.place ≡ []
-      → RowSteps frame row w (passed row.boxing AtEnd w.place w) pieces pieces
+      → RowSteps frame row w (passed row.bars.has_any AtEnd w.place w) pieces pieces
   ended-steps frame pieces next none =
       let lines = ap (λ (parts : List Part). map block_line (lines_of r.column.measure parts)) none in
       none-steps row w r at next frame pieces AtEnd
@@ -40,7 +40,7 @@ module _ (row : WalkedRow) (w : KeptWalk) (r : RowColumn) (at : AtColumn row w r
   pub empty-steps : (frame : List ℕ) (pieces : KeptPieces) (p : BlockPlace) → w.next ≡ AtCell
       → parts_at (block_text row.bytes r.entry) r.place ≡ EmptyLine ∷ parts_at (block_text row.bytes r.entry) p
       → IsWithin (block_text row.bytes r.entry) p
-      → RowSteps frame row w (passed row.boxing p w.place w) pieces pieces
+      → RowSteps frame row w (passed row.bars.has_any p w.place w) pieces pieces
   empty-steps frame pieces p next parts within =
       let rest = parts_at (block_text row.bytes r.entry) p in
       let lines = ap (λ (ps : List Part). map block_line (lines_of r.column.measure ps)) parts ∙ lines-empty r.column.measure rest in

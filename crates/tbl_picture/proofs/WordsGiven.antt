@@ -132,7 +132,7 @@ module _ (row : WalkedRow) (w : KeptWalk) (r : RowColumn) (at : AtColumn row w r
       → text ≡ last_given w.count (run_of_word (word_at (block_text row.bytes r.entry) word))
       → given (one_less w.count) reached (cells_behind row w r at) ≡ given (one_less w.count) (begins_at r + width) (cells_behind row w r at)
       → Adds row.bytes frame 4 before after text
-      → RowSteps frame row w (passed row.boxing p reached w) before after
+      → RowSteps frame row w (passed row.bars.has_any p reached w) before after
   ends-steps frame before after reached text line text_is reached_is adds =
       let block = block_text row.bytes r.entry in
       let m = r.column.measure in

@@ -1,40 +1,38 @@
 -- A walk over the elements of a table's picture, and the rules that its box adds: what is to come, and what a step does.
-use Rattle.std.specs.Prelude.{◌≡◌, ℕ, suc, ◌+◌, ◌-◌, ◌≤◌, ◌<◌, ◌&&◌, Bool, true, false, List, [], ◌∷◌, ◌++◌, drop, length, map, ◌==◌}
+use Rattle.std.specs.Prelude.{◌≡◌, ℕ, suc, ◌+◌, ◌-◌, ◌≤◌, ◌<◌, ◌&&◌, Bool, true, false, List, [], ◌∷◌, ◌++◌, drop, length, map, if◌then◌else◌, ◌==◌}
 use Rattle.tbl_format.specs.Format.{FormatRow}
+use Rattle.tbl_format.specs.RowsServed.{row_at}
 use Rattle.tbl_format.specs.declared.options.Boxing.{Boxing}
-use Rattle.tbl_format.specs.declared.options.Boxing.TheVariants.{Around, EachField, Nothing as NotBoxed}
 use Rattle.tbl_kept.specs.Rows.{Command, KeptElement, KeptRows, Row, RowsLaid, Rule, elements_of}
 use Rattle.tbl_layout.specs.Entries.{Element, Rule as OneRule}
 use Rattle.tbl_layout.specs.KeptEntries.{content_of}
+use Rattle.tbl_layout.specs.declared.bars.Bars.{Bars}
 use Rattle.tbl_layout.specs.declared.columns.Column.{Column}
 use Rattle.tbl_layout.specs.declared.data_lines.RuleSign.{RuleSign}
 use Rattle.tbl_layout.specs.declared.data_lines.RuleSign.TheVariants.{Single}
 use Rattle.tbl_layout.specs.declared.entry.Entry.{Entry}
-use Rattle.tbl_picture.specs.PictureLines.{Neighbour, NoRow, OfRow, Sheet, lines_behind, rule_line, ruled_between}
+use Rattle.tbl_picture.specs.PictureLines.{Neighbour, NoRow, OfRow, Sheet, frame_rules, frame_sign, lines_behind, rule_line, ruled_inside}
 use Rattle.tbl_picture.specs.PieceQueue.{Adds, KeptPieces, bytes_left}
 use Rattle.tbl_picture.specs.Pieces.{AreWithin}
 use Rattle.tbl_picture.specs.RowsWalked.{AreNarrow, front_count, most_steps, steps_of_columns, steps_of_lines}
-use Rattle.tbl_picture.specs.RulesWalked.{IsRowThere, RuleBegins, RuleStands, boxes_each, is_boxed, is_row, line_beside, rule_left, sheet_of}
+use Rattle.tbl_picture.specs.RulesWalked.{IsRowThere, RuleBegins, RuleStands, is_row, line_beside, next_behind_rule, rule_left, sheet_of}
 use Rattle.tbl_picture.specs.Walks.{IsUnderWay, KeptWalk, row_begun, row_left, row_steps, walked}
 use Rattle.tbl_picture.specs.declared.walk.Next.{Next}
 use Rattle.tbl_picture.specs.declared.walk.Next.TheVariants.{AtCell, AtElement, AtEnd, AtFront, AtLine, AtRule, AtTop, AtWord}
-use Rattle.tbl_picture.specs.declared.walk.rules.Beside.{Beside}
 use Rattle.tbl_picture.specs.declared.walk.rules.Beside.TheVariants.{Nothing as NoRowBeside, Row as RowBeside}
-use Rattle.tbl_picture.specs.declared.walk.rules.RuleBegun.{RuleBegun}
 
 -- elements, the first of them behind a row or not, with the rules that the box adds between and behind them
 abbrev pub boxed_from : Boxing → Bool → List Element → List Element
-boxed_from NotBoxed behind_row elements = elements
-boxed_from Around behind_row elements = elements ++ OneRule Single ∷ []
-boxed_from EachField behind_row elements = ruled_between behind_row elements ++ OneRule Single ∷ []
+boxed_from boxing behind_row elements = ruled_inside boxing behind_row elements ++ frame_rules boxing
 
 -- the lines from elements on, behind a line of the picture
 abbrev pub lines_on : Sheet → Bool → Neighbour → List Element → List ℕ
-lines_on s behind_row above elements = lines_behind s above (boxed_from s.boxing behind_row elements)
+lines_on s behind_row above elements = lines_behind s above (boxed_from s.bars.boxing behind_row elements)
 
 -- the rule above all of them, and those lines
 abbrev pub lines_below_top : Sheet → Neighbour → List Element → List ℕ
-lines_below_top s above elements = lines_behind s above (OneRule Single ∷ boxed_from s.boxing false elements)
+lines_below_top s above elements =
+    lines_behind s above (OneRule (frame_sign s.bars.boxing.bars) ∷ boxed_from s.bars.boxing false elements)
 
 -- those behind a rule that is the picture's last line, or not
 abbrev pub lines_behind_rule : Bool → Sheet → List Element → List ℕ
@@ -45,19 +43,19 @@ lines_behind_rule false s elements = lines_on s false NoRow elements
 abbrev pub row_to_come : List ℕ → List FormatRow → KeptRows → KeptWalk → List KeptElement → List ℕ
 row_to_come bytes formats rows w [] = []
 row_to_come bytes formats rows w (Row keys height entries ∷ elements) =
-    row_left w.next (walked bytes formats w.boxing w.picture_width rows.columns keys height entries) w
-    ++ lines_on (sheet_of rows w) true (OfRow (height == 1) (map (content_of bytes) entries)) (elements_of bytes formats elements)
+    row_left w.next (walked bytes formats w.bars w.picture_width rows.columns keys height entries) w
+    ++ lines_on (sheet_of rows w) true (OfRow (height == 1) (row_at formats keys) (map (content_of bytes) entries)) (elements_of bytes formats elements)
 row_to_come bytes formats rows w (Rule sign ∷ elements) = []
 row_to_come bytes formats rows w (Command from to ∷ elements) = []
 
 -- what is to come by what comes next
 abbrev pub to_come_by : Next → List ℕ → List FormatRow → KeptRows → KeptWalk → List KeptElement → List ℕ
 to_come_by AtTop bytes formats rows w elements =
-    lines_below_top (sheet_of rows w) (line_beside bytes false rows.elements w.above) (elements_of bytes formats elements)
+    lines_below_top (sheet_of rows w) (line_beside bytes formats false rows.elements w.above) (elements_of bytes formats elements)
 to_come_by AtElement bytes formats rows w elements =
-    lines_on (sheet_of rows w) (is_row w.above) (line_beside bytes false rows.elements w.above) (elements_of bytes formats elements)
+    lines_on (sheet_of rows w) (is_row w.above) (line_beside bytes formats false rows.elements w.above) (elements_of bytes formats elements)
 to_come_by (AtRule rule) bytes formats rows w elements =
-    rule_left bytes rows rule w ++ lines_behind_rule rule.is_last (sheet_of rows w) (elements_of bytes formats elements)
+    rule_left bytes formats rows rule w ++ lines_behind_rule rule.is_last (sheet_of rows w) (elements_of bytes formats elements)
 to_come_by AtEnd bytes formats rows w elements = []
 to_come_by AtLine bytes formats rows w elements = row_to_come bytes formats rows w elements
 to_come_by (AtFront at) bytes formats rows w elements = row_to_come bytes formats rows w elements
@@ -68,20 +66,19 @@ to_come_by (AtWord word width place) bytes formats rows w elements = row_to_come
 abbrev pub still_to_come : List ℕ → List FormatRow → KeptRows → KeptWalk → List ℕ
 still_to_come bytes formats rows w = to_come_by w.next bytes formats rows w (drop w.element rows.elements)
 
--- nothing of the picture is given, which is boxed so and so wide
+-- nothing of the picture is given, which has these bars and is so wide
 abbrev pub first_next : Boxing → Next
-first_next NotBoxed = AtElement
-first_next boxing = AtTop
+first_next boxing = if boxing.bars == 0 then AtElement else AtTop
 
-abbrev pub started : Boxing → ℕ → KeptWalk → KeptWalk
-started boxing width w =
-    record w { element = 0; line = 0; next = first_next boxing; above = NoRowBeside; boxing = boxing; picture_width = width }
+abbrev pub started : Bars → ℕ → KeptWalk → KeptWalk
+started bars width w =
+    record w { element = 0; line = 0; next = first_next bars.boxing; above = NoRowBeside; bars = bars; picture_width = width }
 
 -- the first of the elements is a row that is walked
 abbrev pub IsInRow : List ℕ → List FormatRow → KeptRows → KeptWalk → List KeptElement → Type 0
 IsInRow bytes formats rows w [] = ⊥
 IsInRow bytes formats rows w (Row keys height entries ∷ elements) =
-    IsUnderWay w.next (walked bytes formats w.boxing w.picture_width rows.columns keys height entries) w
+    IsUnderWay w.next (walked bytes formats w.bars w.picture_width rows.columns keys height entries) w
 IsInRow bytes formats rows w (Rule sign ∷ elements) = ⊥
 IsInRow bytes formats rows w (Command from to ∷ elements) = ⊥
 
@@ -94,7 +91,7 @@ FirstFits room (Command from to ∷ elements) = Unit {0}
 
 -- what the walk needs, by what comes next
 abbrev pub StandsAt : Next → List ℕ → List FormatRow → KeptRows → KeptWalk → List KeptElement → Type 0
-StandsAt AtTop bytes formats rows w elements = is_boxed w.boxing ≡ true
+StandsAt AtTop bytes formats rows w elements = (w.bars.boxing.bars == 0) ≡ false
 StandsAt AtElement bytes formats rows w elements = Unit {0}
 StandsAt (AtRule rule) bytes formats rows w elements = RuleStands rows rule w
 StandsAt AtEnd bytes formats rows w elements = Unit {0}
@@ -142,7 +139,7 @@ steps_behind_rule false bytes rows elements = steps_on bytes rows elements
 abbrev pub steps_in_row : List ℕ → List FormatRow → KeptRows → KeptWalk → List KeptElement → ℕ
 steps_in_row bytes formats rows w [] = 0
 steps_in_row bytes formats rows w (Row keys height entries ∷ elements) =
-    row_steps w.next (walked bytes formats w.boxing w.picture_width rows.columns keys height entries) w
+    row_steps w.next (walked bytes formats w.bars w.picture_width rows.columns keys height entries) w
     + (rule_steps rows.columns + steps_on bytes rows elements)
 steps_in_row bytes formats rows w (Rule sign ∷ elements) = 0
 steps_in_row bytes formats rows w (Command from to ∷ elements) = 0
@@ -190,19 +187,20 @@ abbrev pub StepsIf : Bool → List ℕ → List ℕ → List FormatRow → KeptR
 StepsIf true bytes frame formats rows old new before after = Steps bytes frame formats rows old new before after
 StepsIf false bytes frame formats rows old new before after = HasEnded bytes formats rows old new before after
 
--- a rule of the table comes next: it begins, or is given where the picture isn't boxed
-pub data RuleAtElement (bytes frame : List ℕ) (formats : List FormatRow) (rows : KeptRows) (sign : RuleSign) (old new : KeptWalk)
-    (before after : KeptPieces) : Type 0 where
-  RuleBegin : is_boxed old.boxing ≡ true → RuleBegins bytes frame formats rows sign false old new before after
-      → RuleAtElement bytes frame formats rows sign old new before after
-  Given : is_boxed old.boxing ≡ false → new ≡ record old { above = NoRowBeside }
+-- a rule comes next, the picture's last line or not: it begins, or is given where the picture has no bars
+pub data RuleAtElement (bytes frame : List ℕ) (formats : List FormatRow) (rows : KeptRows) (sign : RuleSign) (is_last : Bool)
+    (old new : KeptWalk) (before after : KeptPieces) : Type 0 where
+  RuleBegin : old.bars.has_any ≡ true → RuleBegins bytes frame formats rows sign is_last old new before after
+      → RuleAtElement bytes frame formats rows sign is_last old new before after
+  Given : old.bars.has_any ≡ false → new ≡ record old { above = NoRowBeside; next = next_behind_rule is_last }
       → Adds bytes frame 4 before after (rule_line old.picture_width sign [])
-      → RuleAtElement bytes frame formats rows sign old new before after
+      → RuleAtElement bytes frame formats rows sign is_last old new before after
 
 -- a row with these fields comes next: it begins, or a rule does in front of it
 pub data RowAtElement (bytes frame : List ℕ) (formats : List FormatRow) (rows : KeptRows) (entries : List Entry) (old new : KeptWalk)
     (before after : KeptPieces) : Type 0 where
-  BehindRow : (boxes_each old.boxing && is_row old.above) ≡ true → RuleBegins bytes frame formats rows Single false old new before after
+  BehindRow : (old.bars.boxing.is_inside && is_row old.above) ≡ true
+      → RuleAtElement bytes frame formats rows Single false old new before after
       → RowAtElement bytes frame formats rows entries old new before after
-  RowBegin : (boxes_each old.boxing && is_row old.above) ≡ false → new ≡ row_begun entries old → after ≡ before
+  RowBegin : (old.bars.boxing.is_inside && is_row old.above) ≡ false → new ≡ row_begun entries old → after ≡ before
       → RowAtElement bytes frame formats rows entries old new before after

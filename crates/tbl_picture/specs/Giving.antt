@@ -1,12 +1,12 @@
 -- What is still to give of a table.
-use Rattle.std.specs.Prelude.{◌≡◌, Bool, true, false, ℕ, ◌+◌, ◌*◌, ◌≤◌, ◌<◌, ◌^◌, List, [], ◌∷◌, ◌++◌, length, drop, vec_capacity}
+use Rattle.std.specs.Prelude.{◌≡◌, Bool, true, false, ℕ, ◌≤◌, ◌<◌, ◌^◌, List, [], ◌∷◌, ◌++◌, length, drop, vec_capacity}
 use Rattle.roff_source.specs.Bytes.{newline}
 use Rattle.tbl_format.specs.FormatRows.{KeptFormat}
 use Rattle.tbl_format.specs.RowsServed.{all_rows}
-use Rattle.tbl_format.specs.declared.options.Boxing.{Boxing}
 use Rattle.tbl_kept.specs.Joined.{RiseWithin, unjoined}
 use Rattle.tbl_kept.specs.Rows.{KeptRows, RowsLaid, elements_of}
 use Rattle.tbl_kept.specs.TableText.{KeptText, block_of}
+use Rattle.tbl_layout.specs.declared.bars.Bars.{Bars}
 use Rattle.tbl_picture.specs.PictureLines.{picture_lines}
 use Rattle.tbl_picture.specs.PieceQueue.{KeptPieces, bytes_left}
 use Rattle.tbl_picture.specs.Pieces.{AreWithin}
@@ -37,10 +37,10 @@ pub record IsLaidOut (t : KeptText) (r : KeptRows) (k : KeptFormat) (columns : �
   pub narrow : AreNarrow r.columns
   pub small : length (block_of t) < 2 ^ 33
 
--- the lines of its picture, which is boxed so and so wide
-abbrev pub lines_laid : Boxing → ℕ → KeptText → KeptRows → KeptFormat → List ℕ
-lines_laid boxing width t r k =
-    picture_lines (record { boxing = boxing; width = width; columns = r.columns }) (elements_of (block_of t) (all_rows k.format) r.elements)
+-- the lines of its picture, which has these bars and is so wide
+abbrev pub lines_laid : Bars → ℕ → KeptText → KeptRows → KeptFormat → List ℕ
+lines_laid bars width t r k =
+    picture_lines (record { bars = bars; width = width; columns = r.columns }) (elements_of (block_of t) (all_rows k.format) r.elements)
 
 -- what the walk is to give
 abbrev pub lines_left : KeptText → KeptRows → KeptFormat → KeptWalk → List ℕ

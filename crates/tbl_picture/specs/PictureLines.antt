@@ -1,16 +1,18 @@
 -- The lines of a table's picture, as the formatter reads them (Lesk, "Tbl": Formatting).
-use Rattle.std.specs.Prelude.{ℕ, zero, suc, ◌+◌, ◌-◌, max, Bool, true, false, not, ◌&&◌, ◌||◌, List, [], ◌∷◌, ◌++◌, length, map, replicate, get_or, Option, None, Some, is_some, codes, if◌then◌else◌, ◌==◌}
+use Rattle.std.specs.Prelude.{ℕ, zero, suc, nat_lt, ◌+◌, ◌-◌, max, Bool, true, false, ◌&&◌, List, [], ◌∷◌, ◌++◌, length, map, replicate, get_or, Option, None, Some, is_some, codes, if◌then◌else◌, ◌==◌}
 use Rattle.roff_source.specs.Bytes.{blank, newline}
 use Rattle.tbl_format.specs.Format.{FormatRow}
+use Rattle.tbl_format.specs.declared.format.FormatKey.{FormatKey}
 use Rattle.tbl_format.specs.declared.format.Key.{Key}
 use Rattle.tbl_format.specs.declared.options.Boxing.{Boxing}
-use Rattle.tbl_format.specs.declared.options.Boxing.TheVariants.{Around, EachField, Nothing as NotBoxed}
 use Rattle.tbl_layout.specs.Columns.{bar_place, greatest, place_in, place_of_rule, stands, widest_entry}
 use Rattle.tbl_layout.specs.DataLines.{is_same_sign, sign_byte}
 use Rattle.tbl_layout.specs.Entries.{Command, Content, Element, Repeated, Row, Rule, Ruled, Run, Short, blanks, columns_of, field_at, key_at, lines_of_field, up_to_last_glyph}
+use Rattle.tbl_layout.specs.Widths.{edge_bars, inner_bars}
+use Rattle.tbl_layout.specs.declared.bars.Bars.{Bars}
 use Rattle.tbl_layout.specs.declared.columns.Column.{Column}
 use Rattle.tbl_layout.specs.declared.data_lines.RuleSign.{RuleSign}
-use Rattle.tbl_layout.specs.declared.data_lines.RuleSign.TheVariants.{Single}
+use Rattle.tbl_layout.specs.declared.data_lines.RuleSign.TheVariants.{Double, Single}
 
 -- a bar, and where a rule crosses one
 abbrev pub bar : ℕ
@@ -28,15 +30,32 @@ abbrev pub is_ruled : RuleSign → Content → Bool
 is_ruled sign (Ruled other) = is_same_sign sign other
 is_ruled sign field = false
 
--- where a rule over a column ends that goes on with the next one: there, or where a bar stands between them
-abbrev pub joint : Boxing → Column → Column → ℕ
-joint EachField c d = bar_place c d
-joint boxing c d = d.start
+-- how many bars a row of the formats has in front of the key of a column, or behind its last key
+abbrev pub bars_among : List FormatKey → ℕ → ℕ → ℕ
+bars_among [] last zero = last
+bars_among [] last (suc column) = 0
+bars_among (k ∷ keys) last zero = k.bars
+bars_among (k ∷ keys) last (suc column) = bars_among keys last column
+
+abbrev pub bars_of : FormatRow → ℕ → ℕ
+bars_of format column = bars_among format.keys format.bars column
+
+-- how many bars stand in rows that it serves, at an edge of the picture, and in front of a column that isn't the first
+abbrev pub bars_at_edge : Boxing → FormatRow → ℕ → ℕ
+bars_at_edge boxing format column = edge_bars boxing (bars_of format column)
+
+abbrev pub bars_between : Boxing → FormatRow → ℕ → ℕ
+bars_between boxing format column = inner_bars boxing (bars_of format column)
+
+-- where a rule over a column ends that goes on with the next one: there, or where so many bars stand between them
+abbrev pub joint : ℕ → Column → Column → ℕ
+joint zero c d = d.start
+joint (suc n) c d = bar_place (suc n) c d
 
 -- where a rule over a column ends, behind which these columns come, and this field: a rule that is drawn alike goes on with it
-abbrev pub rule_end : Boxing → RuleSign → Column → List Column → Content → ℕ
-rule_end boxing sign c [] next = c.start + c.width
-rule_end boxing sign c (d ∷ columns) next = if is_ruled sign next then joint boxing c d else c.start + c.width
+abbrev pub rule_end : ℕ → RuleSign → Column → List Column → Content → ℕ
+rule_end bars sign c [] next = c.start + c.width
+rule_end bars sign c (d ∷ columns) next = if is_ruled sign next then joint bars c d else c.start + c.width
 
 -- a cell of a row, or a bar: the column of the page at which its lines begin, what stands on each of them, and on all further ones
 pub record Cell : Type 0 where
@@ -48,39 +67,39 @@ pub record Cell : Type 0 where
 abbrev pub one_run : ℕ → Run → Cell
 one_run at run = record { at = at; lines = (run ∷ []) ∷ []; below = [] }
 
--- the cell that a field is under its key in a column, behind which these columns come, and this field
-abbrev pub cell_of : Boxing → Key → Column → List Column → Content → Content → Cell
-cell_of boxing key c columns next (Ruled sign) =
-    one_run c.start (repeated (sign_byte sign) (rule_end boxing sign c columns next - c.start))
-cell_of boxing key c columns next Short = one_run (c.start + place_of_rule c key) (repeated (sign_byte Single) (widest_entry c.needs))
-cell_of boxing key c columns next (Repeated b) = one_run c.start (repeated b c.width)
-cell_of boxing key c columns next field =
+-- the cell that a field is under its key in a column, behind which so many bars stand, these columns come, and this field
+abbrev pub cell_of : ℕ → Key → Column → List Column → Content → Content → Cell
+cell_of bars key c columns next (Ruled sign) =
+    one_run c.start (repeated (sign_byte sign) (rule_end bars sign c columns next - c.start))
+cell_of bars key c columns next Short = one_run (c.start + place_of_rule c key) (repeated (sign_byte Single) (widest_entry c.needs))
+cell_of bars key c columns next (Repeated b) = one_run c.start (repeated b c.width)
+cell_of bars key c columns next field =
     record { at = c.start + place_in c key (stands c.measure key field); lines = lines_of_field c.measure key field; below = [] }
 
 -- the cells of a row, from a column on
 abbrev pub cells_from : Boxing → ℕ → List Column → FormatRow → List Content → List Cell
 cells_from boxing column [] format fields = []
 cells_from boxing column (c ∷ columns) format fields =
-    cell_of boxing (key_at format column) c columns (field_at fields (suc column)) (field_at fields column)
+    cell_of (bars_between boxing format (suc column)) (key_at format column) c columns (field_at fields (suc column))
+    (field_at fields column)
     ∷ cells_from boxing (suc column) columns format fields
 
--- a byte once
-abbrev pub one : ℕ → Run
-one b = repeated b 1
+-- nothing that stands in a row
+abbrev pub nothing_there : Cell
+nothing_there = record { at = 0; lines = []; below = [] }
 
--- a bar on each line of its row, and none
-abbrev pub bar_at : ℕ → Cell
-bar_at at = record { at = at; lines = []; below = one bar ∷ [] }
+-- so many bars on each line of a row
+abbrev pub bars_at : ℕ → ℕ → Cell
+bars_at at zero = nothing_there
+bars_at at (suc n) = record { at = at; lines = []; below = repeated bar (suc n) ∷ [] }
 
-abbrev pub no_bar : Cell
-no_bar = record { at = 0; lines = []; below = [] }
-
--- a bar between two rules of a row: they cross it on the row's first line, and the second one goes on behind it up to a place
-abbrev pub crossed_at : ℕ → RuleSign → ℕ → Cell
-crossed_at at sign end = record {
+-- so many bars between two rules of a row: they cross them on the row's first line, and the second one goes on behind them up to a
+-- place
+abbrev pub crossed_at : ℕ → ℕ → RuleSign → ℕ → Cell
+crossed_at at n sign end = record {
   at = at;
-  lines = (one crossing ∷ repeated (sign_byte sign) (end - (at + 1)) ∷ []) ∷ [];
-  below = one bar ∷ [];
+  lines = (repeated crossing n ∷ repeated (sign_byte sign) (end - (at + n)) ∷ []) ∷ [];
+  below = repeated bar n ∷ [];
 }
 
 -- the sign of two fields that are the same rule
@@ -88,26 +107,38 @@ abbrev pub joined_sign : Content → Content → Option RuleSign
 joined_sign (Ruled sign) next = if is_ruled sign next then Some sign else None
 joined_sign field next = None
 
-abbrev pub bar_by : Option RuleSign → Column → Column → Cell
-bar_by None c d = bar_at (bar_place c d)
-bar_by (Some sign) c d = crossed_at (bar_place c d) sign d.start
-
--- what stands between two columns with these fields
-abbrev pub between : Boxing → Column → Column → Content → Content → Cell
-between EachField c d field next = bar_by (joined_sign field next) c d
-between boxing c d field next = no_bar
+-- so many bars between two columns, which rules of this sign may cross
+abbrev pub bars_by : Option RuleSign → ℕ → Column → Column → Cell
+bars_by joined zero c d = nothing_there
+bars_by None (suc n) c d = bars_at (bar_place (suc n) c d) (suc n)
+bars_by (Some sign) (suc n) c d = crossed_at (bar_place (suc n) c d) (suc n) sign d.start
 
 -- what stands between columns from one on, each but the first
-abbrev pub all_between : Boxing → ℕ → List Column → List Content → List Cell
-all_between boxing column [] fields = []
-all_between boxing column (c ∷ []) fields = []
-all_between boxing column (c ∷ d ∷ columns) fields =
-    between boxing c d (field_at fields column) (field_at fields (suc column)) ∷ all_between boxing (suc column) (d ∷ columns) fields
+abbrev pub all_between : Boxing → ℕ → List Column → FormatRow → List Content → List Cell
+all_between boxing column [] format fields = []
+all_between boxing column (c ∷ []) format fields = []
+all_between boxing column (c ∷ d ∷ columns) format fields =
+    bars_by (joined_sign (field_at fields column) (field_at fields (suc column))) (bars_between boxing format (suc column)) c d
+    ∷ all_between boxing (suc column) (d ∷ columns) format fields
 
--- what stands in front of each column of a row, and behind the last, in a picture that is so wide: of one that isn't boxed nothing
-abbrev pub fronts : Boxing → ℕ → List Column → List Content → List Cell
-fronts NotBoxed width columns fields = []
-fronts boxing width columns fields = bar_at 0 ∷ all_between boxing 0 columns fields ++ bar_at (width - 1) ∷ []
+-- what stands at the right edge of a picture that is so wide
+abbrev pub right_bars : ℕ → ℕ → Cell
+right_bars width n = bars_at (width - n) n
+
+-- how a picture is boxed and which bars it has, how wide it is, and its columns
+pub record Sheet : Type 0 where
+  pub bars : Bars
+  pub width : ℕ
+  pub columns : List Column
+
+-- what stands in front of each column of a row, and behind the last: in a picture without bars nothing
+abbrev pub fronts : Sheet → FormatRow → List Content → List Cell
+fronts s format fields =
+    let boxing = s.bars.boxing in
+    if s.bars.has_any then
+    bars_at 0 (bars_at_edge boxing format 0)
+    ∷ all_between boxing 0 s.columns format fields ++ right_bars s.width (bars_at_edge boxing format (length s.columns)) ∷ []
+    else []
 
 -- cells, each behind what stands in front of it
 abbrev pub with_fronts : List Cell → List Cell → List Cell
@@ -116,9 +147,8 @@ with_fronts (f ∷ fronts) [] = f ∷ with_fronts fronts []
 with_fronts (f ∷ fronts) (c ∷ cells) = f ∷ c ∷ with_fronts fronts cells
 
 -- all that stands on the lines of a row
-abbrev pub row_cells : Boxing → ℕ → List Column → FormatRow → List Content → List Cell
-row_cells boxing width columns format fields =
-    with_fronts (fronts boxing width columns fields) (cells_from boxing 0 columns format fields)
+abbrev pub row_cells : Sheet → FormatRow → List Content → List Cell
+row_cells s format fields = with_fronts (fronts s format fields) (cells_from s.bars.boxing 0 s.columns format fields)
 
 -- a row is as high as its highest cell, and one line at least
 abbrev pub height : List Cell → ℕ
@@ -148,44 +178,50 @@ abbrev pub lines_from : ℕ → ℕ → List Cell → List ℕ
 lines_from line zero cells = []
 lines_from line (suc count) cells = line_of line cells ++ lines_from (suc line) count cells
 
--- the line of a row that stands directly above or below a rule: none, or one of a row with these fields, which is its first or not
+-- the line that stands directly above or below a rule: none of a row, or one of a row of these keys with these fields, which is its
+-- first or not
 pub data Neighbour : Type 0 where
   NoRow : Neighbour
-  OfRow : (is_first : Bool) (fields : List Content) → Neighbour
+  OfRow : (is_first : Bool) (format : FormatRow) (fields : List Content) → Neighbour
 
--- whether it shows a bar at the edges, and between a column and the next: there two same rules cross it on the row's first line
-abbrev pub shows_edges : Neighbour → Bool
-shows_edges NoRow = false
-shows_edges (OfRow is_first fields) = true
+-- how many bars it shows at an edge, which is in front of a column or behind the last, and how many behind a column: none where two
+-- same rules cross them on the row's first line
+abbrev pub shown_at_edge : Boxing → Neighbour → ℕ → ℕ
+shown_at_edge boxing NoRow column = 0
+shown_at_edge boxing (OfRow is_first format fields) column = bars_at_edge boxing format column
 
-abbrev pub shows_behind : Neighbour → ℕ → Bool
-shows_behind NoRow column = false
-shows_behind (OfRow is_first fields) column =
-    not (is_first && is_some (joined_sign (field_at fields column) (field_at fields (suc column))))
+abbrev pub shown_behind : Boxing → Neighbour → ℕ → ℕ
+shown_behind boxing NoRow column = 0
+shown_behind boxing (OfRow is_first format fields) column =
+    if is_first && is_some (joined_sign (field_at fields column) (field_at fields (suc column))) then 0
+    else bars_between boxing format (suc column)
 
--- a place, if this holds
-abbrev pub place_if : Bool → ℕ → List ℕ
-place_if true at = at ∷ []
-place_if false at = []
+-- so many places from one on
+abbrev pub places_from : ℕ → ℕ → List ℕ
+places_from at zero = []
+places_from at (suc n) = at ∷ places_from (suc at) n
 
--- where a rule shows a crossing between columns from one on: where the line above it or the one below it shows a bar
-abbrev pub crossings_from : Neighbour → Neighbour → ℕ → List Column → List ℕ
-crossings_from above below column [] = []
-crossings_from above below column (c ∷ []) = []
-crossings_from above below column (c ∷ d ∷ columns) =
-    place_if (shows_behind above column || shows_behind below column) (bar_place c d)
-    ++ crossings_from above below (suc column) (d ∷ columns)
+-- where a rule shows crossings between columns from one on: of two lines with bars there, the more bars have the places of the fewer
+abbrev pub crossings_from : Boxing → Neighbour → Neighbour → ℕ → List Column → List ℕ
+crossings_from boxing above below column [] = []
+crossings_from boxing above below column (c ∷ []) = []
+crossings_from boxing above below column (c ∷ d ∷ columns) =
+    let n = max (shown_behind boxing above column) (shown_behind boxing below column) in
+    places_from (bar_place n c d) n ++ crossings_from boxing above below (suc column) (d ∷ columns)
 
-abbrev pub inner_crossings : Boxing → Neighbour → Neighbour → List Column → List ℕ
-inner_crossings EachField above below columns = crossings_from above below 0 columns
-inner_crossings boxing above below columns = []
+-- how many it shows at an edge
+abbrev pub crossed_at_edge : Boxing → Neighbour → Neighbour → ℕ → ℕ
+crossed_at_edge boxing above below column = max (shown_at_edge boxing above column) (shown_at_edge boxing below column)
 
--- and with the edges of a picture that is so wide
-abbrev pub crossings : Boxing → ℕ → List Column → Neighbour → Neighbour → List ℕ
-crossings NotBoxed width columns above below = []
-crossings boxing width columns above below =
-    let edges = shows_edges above || shows_edges below in
-    place_if edges 0 ++ (inner_crossings boxing above below columns ++ place_if edges (width - 1))
+-- where a rule shows crossings: where the line above it or the one below it shows bars
+abbrev pub crossings : Sheet → Neighbour → Neighbour → List ℕ
+crossings s above below =
+    let boxing = s.bars.boxing in
+    let right = crossed_at_edge boxing above below (length s.columns) in
+    if s.bars.has_any then
+    places_from 0 (crossed_at_edge boxing above below 0)
+    ++ (crossings_from boxing above below 0 s.columns ++ places_from (s.width - right) right)
+    else []
 
 -- a byte from a place on up to a width, with crossings
 abbrev pub ruled : ℕ → ℕ → List ℕ → ℕ → List ℕ
@@ -199,7 +235,7 @@ rule_line width sign crossings = codes "\\&" ++ (ruled (sign_byte sign) 0 crossi
 -- the line below: commands pass between the lines of the picture
 abbrev pub line_below : List Element → Neighbour
 line_below [] = NoRow
-line_below (Row format fields ∷ elements) = OfRow true fields
+line_below (Row format fields ∷ elements) = OfRow true format fields
 line_below (Rule sign ∷ elements) = NoRow
 line_below (Command bytes ∷ elements) = line_below elements
 
@@ -211,28 +247,30 @@ ruled_between true (Row format fields ∷ elements) = Rule Single ∷ Row format
 ruled_between behind_row (Rule sign ∷ elements) = Rule sign ∷ ruled_between false elements
 ruled_between behind_row (Command bytes ∷ elements) = Command bytes ∷ ruled_between behind_row elements
 
+-- the rules that a box adds inside, and above and below: a double box has double ones
+abbrev pub ruled_inside : Boxing → Bool → List Element → List Element
+ruled_inside boxing behind_row elements = if boxing.is_inside then ruled_between behind_row elements else elements
+
+abbrev pub frame_sign : ℕ → RuleSign
+frame_sign bars = if nat_lt 1 bars then Double else Single
+
+abbrev pub frame_rules : Boxing → List Element
+frame_rules boxing = if boxing.bars == 0 then [] else Rule (frame_sign boxing.bars) ∷ []
+
 -- what stands in a table, with the rules that its box adds
 abbrev pub boxed : Boxing → List Element → List Element
-boxed NotBoxed elements = elements
-boxed Around elements = Rule Single ∷ elements ++ Rule Single ∷ []
-boxed EachField elements = Rule Single ∷ ruled_between false elements ++ Rule Single ∷ []
-
--- how a picture is boxed, how wide it is, and its columns
-pub record Sheet : Type 0 where
-  pub boxing : Boxing
-  pub width : ℕ
-  pub columns : List Column
+boxed boxing elements = frame_rules boxing ++ (ruled_inside boxing false elements ++ frame_rules boxing)
 
 -- the lines of a picture from elements on, with the commands between them, behind a line of it
 abbrev pub lines_behind : Sheet → Neighbour → List Element → List ℕ
 lines_behind s above [] = []
 lines_behind s above (Row format fields ∷ elements) =
-    let cells = row_cells s.boxing s.width s.columns format fields in
-    lines_from 0 (height cells) cells ++ lines_behind s (OfRow (height cells == 1) fields) elements
+    let cells = row_cells s format fields in
+    lines_from 0 (height cells) cells ++ lines_behind s (OfRow (height cells == 1) format fields) elements
 lines_behind s above (Rule sign ∷ elements) =
-    rule_line s.width sign (crossings s.boxing s.width s.columns above (line_below elements)) ++ lines_behind s NoRow elements
+    rule_line s.width sign (crossings s above (line_below elements)) ++ lines_behind s NoRow elements
 lines_behind s above (Command bytes ∷ elements) = bytes ++ newline ∷ lines_behind s above elements
 
 -- the lines of a table's picture
 abbrev pub picture_lines : Sheet → List Element → List ℕ
-picture_lines s elements = lines_behind s NoRow (boxed s.boxing elements)
+picture_lines s elements = lines_behind s NoRow (boxed s.bars.boxing elements)

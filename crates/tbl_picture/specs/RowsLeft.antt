@@ -1,15 +1,16 @@
 -- What is left of a row of a table's picture, as it is walked: of each field its lines that were not given.
-use Rattle.std.specs.Prelude.{ℕ, zero, suc, ◌+◌, ◌-◌, min, Bool, false, List, [], ◌∷◌, ◌++◌, drop, get_or, map, Option, None, Some, if◌then◌else◌, ◌==◌}
+use Rattle.std.specs.Prelude.{ℕ, zero, suc, ◌+◌, ◌-◌, min, Bool, true, false, List, [], ◌∷◌, ◌++◌, drop, get_or, length, map, Option, None, Some, if◌then◌else◌, ◌==◌}
 use Rattle.std.specs.List.{slice_range, flat_map}
+use Rattle.tbl_format.specs.Format.{FormatRow}
 use Rattle.tbl_format.specs.declared.format.FormatKey.{FormatKey}
 use Rattle.tbl_format.specs.declared.format.Key.{Key}
 use Rattle.tbl_format.specs.declared.format.Key.TheVariants.{Left}
 use Rattle.tbl_format.specs.declared.options.Boxing.{Boxing}
-use Rattle.tbl_format.specs.declared.options.Boxing.TheVariants.{EachField, Nothing as NotBoxed}
 use Rattle.tbl_layout.specs.Columns.{place_in, place_of_rule, widest_entry}
 use Rattle.tbl_layout.specs.DataLines.{is_same_sign, sign_byte}
 use Rattle.tbl_layout.specs.Entries.{Run, block_line, further_words, run_of_word, up_to_last_glyph}
 use Rattle.tbl_layout.specs.KeptEntries.{stands_of}
+use Rattle.tbl_layout.specs.declared.bars.Bars.{Bars}
 use Rattle.tbl_layout.specs.declared.columns.Column.{Column}
 use Rattle.tbl_layout.specs.declared.data_lines.RuleSign.{RuleSign}
 use Rattle.tbl_layout.specs.declared.data_lines.RuleSign.TheVariants.{Single}
@@ -17,9 +18,9 @@ use Rattle.tbl_layout.specs.declared.entry.Entry.{Entry}
 use Rattle.tbl_layout.specs.declared.entry.EntryKind.{EntryKind}
 use Rattle.tbl_layout.specs.declared.entry.EntryKind.TheVariants.{Block, Repeated, Ruled, Short, Split, Text}
 use Rattle.tbl_layout.specs.declared.entry.SplitEntry.{SplitEntry}
-use Rattle.tbl_picture.specs.PictureLines.{Cell, at_column, bar_at, bar_by, crossed_at, end_of, joint, no_bar, repeated, with_fronts}
+use Rattle.tbl_picture.specs.PictureLines.{Cell, at_column, bars_at, bars_at_edge, bars_between, bars_by, crossed_at, end_of, joint, nothing_there, repeated, right_bars, with_fronts}
 use Rattle.tbl_picture.specs.declared.fronts.Front.{Front}
-use Rattle.tbl_picture.specs.declared.fronts.Front.TheVariants.{Bar, Crossed, Nothing as NoFront}
+use Rattle.tbl_picture.specs.declared.fronts.Front.TheVariants.{Bars as SomeBars, Crossed, Nothing as NoFront}
 use Rattle.tbl_picture.specs.declared.row_columns.RowColumn.{RowColumn}
 use Rattle.tbl_text.specs.BlockLines.{lines_of, rest_of_line, width_behind}
 use Rattle.tbl_text.specs.BlockPlaces.{parts_at, word_at}
@@ -91,25 +92,31 @@ abbrev pub is_ruled_by : RuleSign → EntryKind → Bool
 is_ruled_by sign (Ruled other) = is_same_sign sign other
 is_ruled_by sign kind = false
 
--- where a rule over a column ends, behind which these columns and these fields come
-abbrev pub rule_end_by : Boxing → RuleSign → Column → List Column → List Entry → ℕ
-rule_end_by boxing sign c [] entries = c.start + c.width
-rule_end_by boxing sign c (d ∷ columns) [] = c.start + c.width
-rule_end_by boxing sign c (d ∷ columns) (e ∷ entries) = if is_ruled_by sign e.kind then joint boxing c d else c.start + c.width
+-- where a rule over a column ends, behind which so many bars stand, and these columns and these fields come
+abbrev pub rule_end_by : ℕ → RuleSign → Column → List Column → List Entry → ℕ
+rule_end_by bars sign c [] entries = c.start + c.width
+rule_end_by bars sign c (d ∷ columns) [] = c.start + c.width
+rule_end_by bars sign c (d ∷ columns) (e ∷ entries) = if is_ruled_by sign e.kind then joint bars c d else c.start + c.width
 
 -- where the field of a column ends, if it is a rule over it, else 0
-abbrev pub end_by : Boxing → EntryKind → Column → List Column → List Entry → ℕ
-end_by boxing (Ruled sign) c columns entries = rule_end_by boxing sign c columns entries
-end_by boxing kind c columns entries = 0
+abbrev pub end_by : ℕ → EntryKind → Column → List Column → List Entry → ℕ
+end_by bars (Ruled sign) c columns entries = rule_end_by bars sign c columns entries
+end_by bars kind c columns entries = 0
 
 -- the columns of a row from one on, as many as it has fields, with their keys, where their blocks go on, and where their rules end
-abbrev pub row_columns : Boxing → List FormatKey → ℕ → List Column → List Entry → List BlockPlace → List RowColumn
-row_columns boxing keys column [] entries places = []
-row_columns boxing keys column (c ∷ columns) [] places = []
-row_columns boxing keys column (c ∷ columns) (e ∷ entries) [] = []
-row_columns boxing keys column (c ∷ columns) (e ∷ entries) (p ∷ places) =
-    record { column = c; key = key_of keys column; entry = e; place = p; end = end_by boxing e.kind c columns entries }
-    ∷ row_columns boxing keys (suc column) columns entries places
+abbrev pub row_columns : Boxing → FormatRow → ℕ → List Column → List Entry → List BlockPlace → List RowColumn
+row_columns boxing format column [] entries places = []
+row_columns boxing format column (c ∷ columns) [] places = []
+row_columns boxing format column (c ∷ columns) (e ∷ entries) [] = []
+row_columns boxing format column (c ∷ columns) (e ∷ entries) (p ∷ places) =
+    record {
+      column = c;
+      key = key_of format.keys column;
+      entry = e;
+      place = p;
+      end = end_by (bars_between boxing format (suc column)) e.kind c columns entries;
+    }
+    ∷ row_columns boxing format (suc column) columns entries places
 
 -- the sign of the first two fields, if they are the same rule
 abbrev pub joined_kinds : EntryKind → EntryKind → Option RuleSign
@@ -121,28 +128,32 @@ joined_first [] = None
 joined_first (e ∷ []) = None
 joined_first (e ∷ f ∷ entries) = joined_kinds e.kind f.kind
 
--- what stands between two columns, the first of which has the first of these fields
-abbrev pub between_by : Boxing → Column → Column → List Entry → Cell
-between_by EachField c d entries = bar_by (joined_first entries) c d
-between_by boxing c d entries = no_bar
-
--- what stands between columns
-abbrev pub all_between_by : Boxing → List Column → List Entry → List Cell
-all_between_by boxing [] entries = []
-all_between_by boxing (c ∷ []) entries = []
-all_between_by boxing (c ∷ d ∷ columns) entries =
-    between_by boxing c d entries ∷ all_between_by boxing (d ∷ columns) (drop 1 entries)
+-- what stands between columns from one on, each but the first, which have these fields
+abbrev pub all_between_by : Boxing → FormatRow → ℕ → List Column → List Entry → List Cell
+all_between_by boxing format column [] entries = []
+all_between_by boxing format column (c ∷ []) entries = []
+all_between_by boxing format column (c ∷ d ∷ columns) entries =
+    bars_by (joined_first entries) (bars_between boxing format (suc column)) c d
+    ∷ all_between_by boxing format (suc column) (d ∷ columns) (drop 1 entries)
 
 -- what stands in front of each column of a row that is kept, and behind the last, in a picture that is so wide
-abbrev pub fronts_by : Boxing → ℕ → List Column → List Entry → List Cell
-fronts_by NotBoxed width columns entries = []
-fronts_by boxing width columns entries = bar_at 0 ∷ all_between_by boxing columns entries ++ bar_at (width - 1) ∷ []
+abbrev pub fronts_by : Bars → ℕ → FormatRow → List Column → List Entry → List Cell
+fronts_by bars width format columns entries =
+    if bars.has_any then
+    bars_at 0 (bars_at_edge bars.boxing format 0)
+    ∷ all_between_by bars.boxing format 0 columns entries ++ right_bars width (bars_at_edge bars.boxing format (length columns)) ∷ []
+    else []
 
 -- one of them
 abbrev pub cell_of_front : Front → Cell
-cell_of_front NoFront = no_bar
-cell_of_front (Bar at) = bar_at at
-cell_of_front (Crossed at sign end) = crossed_at at sign end
+cell_of_front NoFront = nothing_there
+cell_of_front (SomeBars at n) = bars_at at n
+cell_of_front (Crossed at n sign end) = crossed_at at n sign end
+
+-- whether something stands there
+abbrev pub is_there : Front → Bool
+is_there NoFront = false
+is_there front = true
 
 -- what is left of a cell from a line of its row on
 abbrev pub from_line : ℕ → Cell → Cell
@@ -156,6 +167,11 @@ then_fronts fronts (c ∷ cells) = c ∷ with_fronts fronts cells
 -- the first line of a cell, and a cell without it
 abbrev pub first_of : Cell → List Run
 first_of c = get_or c.lines 0 c.below
+
+-- the first of some cells
+abbrev pub first_cell : List Cell → Cell
+first_cell [] = nothing_there
+first_cell (c ∷ cells) = c
 
 abbrev pub behind_first : Cell → Cell
 behind_first c = record { at = c.at; lines = drop 1 c.lines; below = c.below }

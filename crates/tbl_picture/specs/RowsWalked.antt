@@ -1,14 +1,15 @@
 -- What the walk of a row's lines needs, and how many steps it may take.
-use Rattle.std.specs.Prelude.{◌≡◌, ℕ, zero, suc, ◌+◌, ◌≤◌, ◌<◌, max, List, [], ◌∷◌, drop, length, map}
+use Rattle.std.specs.Prelude.{◌≡◌, ℕ, zero, suc, ◌+◌, ◌<◌, max, List, [], ◌∷◌, drop, length, map}
 use Rattle.std.specs.List.{AllByRecursion}
 use Rattle.tbl_layout.specs.Entries.{Run, block_line, up_to_last_glyph}
 use Rattle.tbl_layout.specs.declared.columns.Column.{Column}
 use Rattle.tbl_layout.specs.declared.entry.Entry.{Entry}
 use Rattle.tbl_layout.specs.declared.entry.EntryKind.{EntryKind}
 use Rattle.tbl_layout.specs.declared.entry.EntryKind.TheVariants.{Block}
-use Rattle.tbl_layout.specs.KeptEntries.{Lies}
 use Rattle.tbl_picture.specs.PictureLines.{Cell}
 use Rattle.tbl_picture.specs.RowsLeft.{block_text, first_of, lines_left_by, repeated_lines}
+use Rattle.tbl_picture.specs.declared.fronts.Front.{Front}
+use Rattle.tbl_picture.specs.declared.fronts.Front.TheVariants.{Bars as SomeBars, Crossed, Nothing as NoFront}
 use Rattle.tbl_picture.specs.declared.row_columns.RowColumn.{RowColumn}
 use Rattle.tbl_text.specs.BlockLines.{behind_rest, lines_of}
 use Rattle.tbl_text.specs.BlockPlaces.{IsWithin, LiesBehind, left_at, parts_at}
@@ -40,6 +41,12 @@ LastHasGlyph count [] = Unit {0}
 LastHasGlyph zero (c ∷ cells) = Unit {0}
 LastHasGlyph (suc zero) (c ∷ cells) = HasGlyph (first_of c)
 LastHasGlyph (suc (suc n)) (c ∷ cells) = LastHasGlyph (suc n) cells
+
+-- what stands in front of a column, if it isn't nothing, has some bars
+abbrev pub HasBars : Front → Type 0
+HasBars NoFront = Unit {0}
+HasBars (SomeBars at n) = 0 < n
+HasBars (Crossed at n sign end) = 0 < n
 
 -- a field is a block
 abbrev pub IsBlock : EntryKind → Type 0

@@ -4,9 +4,7 @@ use Rattle.std.specs.List.{AllByRecursion}
 use Rattle.roff_source.specs.Bytes.{newline}
 use Rattle.tbl_format.specs.Format.{FormatRow}
 use Rattle.tbl_format.specs.RowsServed.{row_at}
-use Rattle.tbl_format.specs.declared.format.FormatKey.{FormatKey}
-use Rattle.tbl_format.specs.declared.options.Boxing.{Boxing}
-use Rattle.tbl_format.specs.declared.options.Boxing.TheVariants.{Nothing as NotBoxed}
+use Rattle.tbl_layout.specs.declared.bars.Bars.{Bars}
 use Rattle.tbl_layout.specs.declared.columns.Column.{Column}
 use Rattle.tbl_layout.specs.declared.entry.Entry.{Entry}
 use Rattle.tbl_layout.specs.KeptEntries.{Lies}
@@ -27,7 +25,7 @@ use Rattle.tbl_text.specs.declared.block_words.BlockWord.{BlockWord}
 
 -- the element and the line of it, how many columns are left up to the line's last glyph, the column of the page that is reached,
 -- what comes next, for each column of the row where its block goes on: on this line, and behind it, of the columns that are
--- behind the walk; what stands above; and how the picture is boxed, and how wide it is
+-- behind the walk; what stands above; and the picture's bars, and how wide it is
 pub record KeptWalk : Type 0 where
   pub element : ℕ
   pub line : ℕ
@@ -37,7 +35,7 @@ pub record KeptWalk : Type 0 where
   pub places : List BlockPlace
   pub behind : List BlockPlace
   pub above : Beside
-  pub boxing : Boxing
+  pub bars : Bars
   pub picture_width : ℕ
   pub room : ℕ
 
@@ -51,7 +49,7 @@ kept_by a = record {
   places = a.places.items;
   behind = a.behind.items;
   above = a.above;
-  boxing = a.boxing;
+  bars = a.bars;
   picture_width = a.picture_width;
   room = a.room;
 }
@@ -61,23 +59,27 @@ pub record IsSound (a : Inside) : Type 0 where
   pub places_reserved : a.room ≤ vec_capacity a.places
   pub behind_reserved : a.room ≤ vec_capacity a.behind
 
--- a row that is walked: how its picture is boxed, and how wide it is, the table's bytes, the keys of the row of the formats, the columns, its lines and its fields
+-- a row that is walked: its picture's bars, and how wide that is, the table's bytes, the row of the formats, the columns, its lines
+-- and its fields
 pub record WalkedRow : Type 0 where
-  pub boxing : Boxing
+  pub bars : Bars
   pub width : ℕ
   pub bytes : List ℕ
-  pub keys : List FormatKey
+  pub format : FormatRow
   pub columns : List Column
   pub height : ℕ
   pub entries : List Entry
 
--- one that is lent
+-- one that is lent, and its row of the formats
+abbrev pub lent_format : RowLent → FormatRow
+lent_format row = record { keys = row.keys.now; bars = row.last_bars }
+
 abbrev pub lent_row : RowLent → WalkedRow
 lent_row row = record {
-  boxing = row.boxing;
+  bars = row.bars;
   width = row.width;
   bytes = row.bytes.now;
-  keys = row.keys.now;
+  format = lent_format row;
   columns = row.columns.now;
   height = row.height;
   entries = row.entries.now;
@@ -85,19 +87,20 @@ lent_row row = record {
 
 -- its columns, and what is left of them
 abbrev pub columns_walked : WalkedRow → KeptWalk → List RowColumn
-columns_walked row w = row_columns row.boxing row.keys 0 row.columns row.entries w.places
+columns_walked row w = row_columns row.bars.boxing row.format 0 row.columns row.entries w.places
 
 abbrev pub columns_left : WalkedRow → KeptWalk → List RowColumn
 columns_left row w = drop (length w.behind) (columns_walked row w)
 
 -- what stands in front of them, from a line on
 abbrev pub fronts_of : WalkedRow → ℕ → List Cell
-fronts_of row line = map (from_line line) (fronts_by row.boxing row.width row.columns row.entries)
+fronts_of row line = map (from_line line) (fronts_by row.bars row.width row.format row.columns row.entries)
 
 -- all that is left of it from a line on, where its blocks go on at these places
 abbrev pub line_cells : WalkedRow → ℕ → List BlockPlace → List Cell
 line_cells row line places =
-    with_fronts (fronts_of row line) (map (cell_left row.bytes line) (row_columns row.boxing row.keys 0 row.columns row.entries places))
+    with_fronts (fronts_of row line) (map (cell_left row.bytes line)
+    (row_columns row.bars.boxing row.format 0 row.columns row.entries places))
 
 -- what is left of its fields, all and those that are behind the walk
 abbrev pub fields_now : WalkedRow → KeptWalk → List Cell
@@ -134,9 +137,9 @@ row_left (AtWord word width place) row w =
     ++ further_lines row w
 
 -- a row of a table that is walked
-abbrev pub walked : List ℕ → List FormatRow → Boxing → ℕ → List Column → ℕ → ℕ → List Entry → WalkedRow
-walked bytes formats boxing width columns keys height entries =
-    record { boxing = boxing; width = width; bytes = bytes; keys = (row_at formats keys).keys; columns = columns; height = height; entries = entries }
+abbrev pub walked : List ℕ → List FormatRow → Bars → ℕ → List Column → ℕ → ℕ → List Entry → WalkedRow
+walked bytes formats bars width columns keys height entries =
+    record { bars = bars; width = width; bytes = bytes; format = row_at formats keys; columns = columns; height = height; entries = entries }
 
 -- a row is before one of its lines
 pub record BeforeLine (row : WalkedRow) (w : KeptWalk) : Type 0 where
@@ -152,13 +155,13 @@ pub record OnLine (row : WalkedRow) (w : KeptWalk) : Type 0 where
   pub before : BeforeLine row w
   pub column : length w.behind ≤ length row.entries
   pub places : PlacesLie row.bytes (take (length w.behind) row.entries) w.behind
-  pub moved : map (cell_left row.bytes (suc w.line)) (row_columns row.boxing row.keys 0 row.columns row.entries w.behind)
+  pub moved : map (cell_left row.bytes (suc w.line)) (row_columns row.bars.boxing row.format 0 row.columns row.entries w.behind)
       ≡ take (length w.behind) (map behind_first (fields_now row w))
 
 -- what stands in front of a column comes next: of the next one of the row, if it has one
 pub record InFront (row : WalkedRow) (at : ℕ) (w : KeptWalk) : Type 0 where
   pub on : OnLine row w
-  pub within : at < length (fronts_by row.boxing row.width row.columns row.entries)
+  pub within : at < length (fronts_by row.bars row.width row.format row.columns row.entries)
   pub first : length w.behind < length row.entries → at ≡ length w.behind
   pub last : LastHasGlyph w.count (cells_in_front at row w)
 
@@ -224,7 +227,7 @@ pub record RowSteps (frame : List ℕ) (row : WalkedRow) (old new : KeptWalk) (b
   pub less : row_steps new.next row new < row_steps old.next row old
   pub element : new.element ≡ old.element
   pub above : new.above ≡ old.above
-  pub boxing : new.boxing ≡ old.boxing
+  pub bars : new.bars ≡ old.bars
   pub width : new.picture_width ≡ old.picture_width
   pub room : new.room ≡ old.room
 
@@ -235,7 +238,7 @@ pub record RowEnds (frame : List ℕ) (row : WalkedRow) (old new : KeptWalk) (be
   pub all : row_left old.next row old ≡ added
   pub element : new.element ≡ old.element
   pub above : new.above ≡ old.above
-  pub boxing : new.boxing ≡ old.boxing
+  pub bars : new.bars ≡ old.bars
   pub width : new.picture_width ≡ old.picture_width
   pub room : new.room ≡ old.room
 
@@ -261,10 +264,10 @@ pub record AtColumn (row : WalkedRow) (w : KeptWalk) (r : RowColumn) : Type 0 wh
   pub narrow : IsNarrow r.column
   pub free : length w.behind < w.room
 
--- what comes next in front of a column: what stands in front of it, where the picture is boxed
-abbrev pub next_column : Boxing → ℕ → Next
-next_column NotBoxed column = AtCell
-next_column boxing column = AtFront column
+-- what comes next in front of a column: what stands in front of it, where the picture may have bars
+abbrev pub next_column : Bool → ℕ → Next
+next_column false column = AtCell
+next_column true column = AtFront column
 
 -- the walk is at what stands in front of a column
 pub record FrontStands (row : WalkedRow) (at : ℕ) (f : Cell) (w : KeptWalk) : Type 0 where
@@ -272,12 +275,12 @@ pub record FrontStands (row : WalkedRow) (at : ℕ) (f : Cell) (w : KeptWalk) : 
   pub first : drop at (fronts_of row w.line) ≡ from_line w.line f ∷ drop (suc at) (fronts_of row w.line)
 
 -- behind a column, whose block goes on at a place, and at a column of the page
-abbrev pub passed : Boxing → BlockPlace → ℕ → KeptWalk → KeptWalk
-passed boxing place reached w = record w {
+abbrev pub passed : Bool → BlockPlace → ℕ → KeptWalk → KeptWalk
+passed has_bars place reached w = record w {
   behind = w.behind ++ place ∷ [];
   count = one_less w.count;
   place = reached;
-  next = next_column boxing (length (w.behind ++ place ∷ []));
+  next = next_column has_bars (length (w.behind ++ place ∷ []));
 }
 
 -- behind what stands in front of a column: the field of the column, if the row has one, else what stands in front of the next column,

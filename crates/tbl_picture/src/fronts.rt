@@ -1,14 +1,14 @@
-//! What stands in front of the columns of a row, and behind the last, in a picture that is boxed
-//! (Lesk, "Tbl": Options).
+//! What stands in front of the columns of a row, and behind the last, in a picture that has bars
+//! (Lesk, "Tbl": Options, Format).
 
 ghost use Rattle.std.specs.Prelude.{◌≡◌, suc, ◌-◌, ◌<◌, ◌^◌, ◌∷◌, length, drop};
-ghost use Rattle.tbl_picture.specs.RowsLeft.{between_by, cell_of_front, fronts_by};
+ghost use Rattle.tbl_picture.specs.RowsLeft.{cell_of_front, fronts_by, is_there};
 ghost use Rattle.tbl_picture.specs.RowsLeft.{joined_first, joined_kinds};
-ghost use Rattle.tbl_picture.specs.PictureLines.{bar_by};
-ghost use Rattle.tbl_picture.specs.RowsWalked.{AreNarrow, IsNarrow};
+ghost use Rattle.tbl_picture.specs.PictureLines.{bars_at, bars_by};
+ghost use Rattle.tbl_picture.specs.RowsWalked.{AreNarrow, HasBars, IsNarrow};
+ghost use Rattle.tbl_picture.specs.Walks.{lent_format};
 
 use crate::row_columns::{RowLent, is_ruled};
-use tbl_format::options::Boxing;
 use tbl_layout::columns::{Column, bar_place};
 use tbl_layout::data_lines::RuleSign;
 use tbl_layout::entry::{Entry, EntryKind};
@@ -18,53 +18,64 @@ use tbl_layout::entry::{Entry, EntryKind};
 pub enum Front {
     /// Nothing.
     Nothing,
-    /// A bar, at a column of the page.
-    Bar(usize),
-    /// A bar that two rules of the row cross on its first line, their sign, and where the second
-    /// one's column begins.
-    Crossed(usize, RuleSign, usize),
+    /// Bars: the column of the page where they begin, and how many.
+    Bars(usize, u8),
+    /// Bars that two rules of the row cross on its first line: where they begin, how many, the sign
+    /// of the rules, and where the second one's column begins.
+    Crossed(usize, u8, RuleSign, usize),
 }
 
 /// What stands in front of a column, or behind the last.
 pub fn front_at(row: &RowLent<'_>, at: usize) -> Front
-    requires within { at < length (fronts_by row.now.boxing row.now.width row.now.columns.now
-        row.now.entries.now) }
+    requires within { at < length (fronts_by row.now.bars row.now.width (lent_format row.now)
+        row.now.columns.now row.now.entries.now) }
     requires narrow { AreNarrow row.now.columns.now }
-    ensures { let all = fronts_by row.now.boxing row.now.width row.now.columns.now
-        row.now.entries.now in
+    ensures at { let all = fronts_by row.now.bars row.now.width (lent_format row.now)
+        row.now.columns.now row.now.entries.now in
         drop at all ≡ cell_of_front result ∷ drop (suc at) all }
+    ensures some { HasBars result }
 {
     if at == 0 {
-        return Front::Bar(0);
+        return edge_front(0, row.edge_bars(0));
     }
     if at >= row.columns.len() {
-        return Front::Bar(row.width.saturating_sub(1));
+        let bars = row.edge_bars(row.columns.len());
+        return edge_front(row.width.saturating_sub(bars as usize), bars);
     }
-    between(row, at - 1, row.columns[at - 1], row.columns[at])
+    let bars = row.bars_between(at);
+    between(
+        bars,
+        joined_at(row.entries, at - 1),
+        row.columns[at - 1],
+        row.columns[at],
+    )
 }
 
-/// What stands between a column and the next.
-fn between(row: &RowLent<'_>, at: usize, column: Column, next: Column) -> Front
-    requires narrow { IsNarrow column }
-    requires small { at < 2 ^ 64 - 1 }
-    ensures { cell_of_front result
-        ≡ between_by row.now.boxing column next (drop at row.now.entries.now) }
+/// So many bars at an edge, which begin at a column of the page.
+fn edge_front(place: usize, bars: u8) -> Front
+    ensures cell { cell_of_front result ≡ bars_at place bars }
+    ensures some { HasBars result }
 {
-    match row.boxing {
-        Boxing::EachField => bar_between(joined_at(row.entries, at), column, next),
-        _ => Front::Nothing,
+    if bars == 0 {
+        Front::Nothing
+    } else {
+        Front::Bars(place, bars)
     }
 }
 
-/// A bar between a column and the next, which rules of this sign may cross.
-fn bar_between(joined: Option<RuleSign>, column: Column, next: Column) -> Front
+/// So many bars between a column and the next, which rules of this sign may cross.
+fn between(bars: u8, joined: Option<RuleSign>, column: Column, next: Column) -> Front
     requires { IsNarrow column }
-    ensures { cell_of_front result ≡ bar_by joined column next }
+    ensures cell { cell_of_front result ≡ bars_by joined bars column next }
+    ensures some { HasBars result }
 {
-    let place = bar_place(column, next);
+    if bars == 0 {
+        return Front::Nothing;
+    }
+    let place = bar_place(bars, column, next);
     match joined {
-        Some(sign) => Front::Crossed(place, sign, next.start),
-        None => Front::Bar(place),
+        Some(sign) => Front::Crossed(place, bars, sign, next.start),
+        None => Front::Bars(place, bars),
     }
 }
 
@@ -94,5 +105,18 @@ fn joined_kinds(kind: EntryKind, next: EntryKind) -> Option<RuleSign>
             }
         }
         _ => None,
+    }
+}
+
+impl Front {
+    /// Whether something stands there.
+    pub fn is_some(self) -> bool
+        ensures { result ≡ is_there self }
+    {
+        match self {
+            Front::Nothing => false,
+            Front::Bars(_, _) => true,
+            Front::Crossed(_, _, _, _) => true,
+        }
     }
 }

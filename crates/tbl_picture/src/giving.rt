@@ -20,9 +20,9 @@ use roff_escape::OpenEscapes;
 use std::alloc::{AllocError, Global};
 use std::marker::Model;
 use tbl_format::format_rows::FormatRows;
-use tbl_format::options::Boxing;
 use tbl_kept::rows::TableRows;
 use tbl_kept::table_text::TableText;
+use tbl_layout::bars::Bars;
 
 /// What is to give behind pieces.
 #[derive(Clone, Copy)]
@@ -101,19 +101,19 @@ impl Giving {
         self.refill_read(text, 0, 0);
     }
 
-    /// The picture is to give, indented by so many columns, boxed so and so wide, and the line
-    /// begun, and a newline behind it or none.
-    pub fn give_picture(&mut self, indent: u32, boxing: Boxing, width: usize, has_newline: bool)
+    /// The picture is to give, indented by so many columns, with these bars and so wide, and the
+    /// line begun, and a newline behind it or none.
+    pub fn give_picture(&mut self, indent: u32, bars: Bars, width: usize, has_newline: bool)
         ensures coming { (t : KeptText) (r : KeptRows) (k : KeptFormat)
             → IsLaidOut t r k self.old.columns → coming t r k self.new
-            ≡ with_newline has_newline (picture indent (lines_laid boxing width t r k) ++ t.line) }
+            ≡ with_newline has_newline (picture indent (lines_laid bars width t r k) ++ t.line) }
         ensures can { (t : KeptText) (r : KeptRows) (k : KeptFormat)
             → IsLaidOut t r k self.old.columns → CanGive t r k self.new }
         ensures room { self.new.columns ≡ self.old.columns }
     {
         self.frame_end = write_frame(&mut self.frame, indent);
         self.pieces.set_one(Piece::Frame(0, self.frame_end));
-        self.walk.start(boxing, width);
+        self.walk.start(bars, width);
         self.rest = Rest::Lines;
         self.has_newline = has_newline;
     }

@@ -8,5 +8,6 @@ pub mod picture;
 pub mod piece_queue;
 pub mod row_columns;
 pub mod walk;
+pub mod worked_bars;
 pub mod worked_boxes;
 pub mod worked_rules;

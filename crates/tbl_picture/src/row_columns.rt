@@ -7,9 +7,10 @@ ghost use Rattle.tbl_layout.specs.KeptEntries.{Lies};
 ghost use Rattle.tbl_picture.specs.RowsLeft.{begins_at, block_text, cell_left, first_of};
 ghost use Rattle.tbl_picture.specs.RowsLeft.{end_by, is_ruled_by, repeated_lines, row_columns};
 ghost use Rattle.tbl_picture.specs.RowsLeft.{rule_end_by, split_run};
-ghost use Rattle.tbl_picture.specs.PictureLines.{joint};
+ghost use Rattle.tbl_picture.specs.PictureLines.{bars_among, bars_at_edge, bars_between, joint};
 ghost use Rattle.tbl_picture.specs.RowsWalked.{AreGlyphless, AreNarrow, HasGlyph};
 ghost use Rattle.tbl_picture.specs.RowsWalked.{IsNarrow, LastHasGlyph, PlacesLie};
+ghost use Rattle.tbl_picture.specs.Walks.{lent_format};
 ghost use Rattle.tbl_layout.specs.DataLines.{is_same_sign};
 ghost use Rattle.tbl_layout.specs.Entries.{block_line, up_to_last_glyph};
 ghost use Rattle.tbl_text.specs.BlockLines.{lines_of};
@@ -17,8 +18,8 @@ ghost use Rattle.tbl_text.specs.BlockPlaces.{IsWithin, parts_at};
 
 use roff_escape::OpenEscapes;
 use tbl_format::format::{FormatKey, Key};
-use tbl_format::options::Boxing;
 use tbl_kept::rows::key_at;
+use tbl_layout::bars::{Bars, edge_bars, inner_bars};
 use tbl_layout::columns::{Column, bar_place};
 use tbl_layout::data_lines::{RuleSign, sign_byte};
 use tbl_layout::entry::{Entry, EntryKind, SplitEntry};
@@ -27,14 +28,16 @@ use tbl_text::block_parts::{BlockPart, BlockPlace, next_part};
 /// A row, lent.
 #[derive(Clone, Copy)]
 pub struct RowLent<'a> {
-    /// How the picture is boxed.
-    pub boxing: Boxing,
+    /// The bars of the table's picture.
+    pub bars: Bars,
     /// How wide it is.
     pub width: usize,
     /// The table's bytes.
     pub bytes: &'a [u8],
     /// The keys of the row of the formats that serves it.
     pub keys: &'a [FormatKey],
+    /// How many bars it has behind the last of them.
+    pub last_bars: u8,
     /// The table's columns.
     pub columns: &'a [Column],
     /// Its fields.
@@ -64,7 +67,7 @@ pub fn column_at(row: &RowLent<'_>, places: &[BlockPlace], at: usize) -> RowColu
     requires column { length row.now.entries.now ≤ length row.now.columns.now }
     requires place { at < length places.now }
     requires narrow { AreNarrow row.now.columns.now }
-    ensures { let all = row_columns row.now.boxing row.now.keys.now 0 row.now.columns.now
+    ensures { let all = row_columns row.now.bars.boxing (lent_format row.now) 0 row.now.columns.now
         row.now.entries.now places.now in
         drop at all ≡ result ∷ drop (suc at) all }
 {
@@ -86,8 +89,8 @@ fn end_at(row: &RowLent<'_>, at: usize, column: Column, kind: EntryKind) -> usiz
     requires entry { at < length row.now.entries.now }
     requires column { length row.now.entries.now ≤ length row.now.columns.now }
     requires narrow { IsNarrow column }
-    ensures { result ≡ end_by row.now.boxing kind column (drop (suc at) row.now.columns.now)
-        (drop (suc at) row.now.entries.now) }
+    ensures { result ≡ end_by (bars_between row.now.bars.boxing (lent_format row.now) (suc at)) kind
+        column (drop (suc at) row.now.columns.now) (drop (suc at) row.now.entries.now) }
 {
     match kind {
         EntryKind::Ruled(sign) => rule_end(row, at, column, sign),
@@ -100,39 +103,69 @@ fn rule_end(row: &RowLent<'_>, at: usize, column: Column, sign: RuleSign) -> usi
     requires entry { at < length row.now.entries.now }
     requires column { length row.now.entries.now ≤ length row.now.columns.now }
     requires narrow { IsNarrow column }
-    ensures { result ≡ rule_end_by row.now.boxing sign column (drop (suc at) row.now.columns.now)
-        (drop (suc at) row.now.entries.now) }
+    ensures { result ≡ rule_end_by (bars_between row.now.bars.boxing (lent_format row.now) (suc at))
+        sign column (drop (suc at) row.now.columns.now) (drop (suc at) row.now.entries.now) }
 {
     let next = at + 1;
     if next < row.entries.len() {
         let is_joined = is_ruled(sign, row.entries[next].kind);
-        rule_end_before(row.boxing, is_joined, column, row.columns[next])
+        rule_end_before(row.bars_between(next), is_joined, column, row.columns[next])
     } else {
         column.start + column.width
     }
 }
 
 /// Where it ends in front of another column, which a rule goes on with or not.
-fn rule_end_before(boxing: Boxing, is_joined: bool, column: Column, next: Column) -> usize
+fn rule_end_before(bars: u8, is_joined: bool, column: Column, next: Column) -> usize
     requires { IsNarrow column }
     ensures { result
-        ≡ (if is_joined then joint boxing column next else column.start + column.width) }
+        ≡ (if is_joined then joint bars column next else column.start + column.width) }
 {
     if is_joined {
-        joint(boxing, column, next)
+        joint(bars, column, next)
     } else {
         column.start + column.width
     }
 }
 
-/// Where a rule over a column ends that goes on with the next one.
-fn joint(boxing: Boxing, column: Column, next: Column) -> usize
+/// Where a rule over a column ends that goes on with the next one, with so many bars between them.
+fn joint(bars: u8, column: Column, next: Column) -> usize
     requires { IsNarrow column }
-    ensures { result ≡ joint boxing column next }
+    ensures { result ≡ joint bars column next }
 {
-    match boxing {
-        Boxing::EachField => bar_place(column, next),
-        _ => next.start,
+    if bars == 0 {
+        next.start
+    } else {
+        bar_place(bars, column, next)
+    }
+}
+
+/// How many bars stand in front of a key of a row, or behind the last, of which there are so many.
+pub fn bars_among(keys: &[FormatKey], last_bars: u8, at: usize) -> u8
+    ensures { result ≡ bars_among keys.now last_bars at }
+{
+    if at < keys.len() {
+        keys[at].bars
+    } else if at == keys.len() {
+        last_bars
+    } else {
+        0
+    }
+}
+
+impl RowLent<'_> {
+    /// How many bars stand in front of a column, or behind the last.
+    pub fn edge_bars(&self, at: usize) -> u8
+        ensures { result ≡ bars_at_edge self.now.bars.boxing (lent_format self.now) at }
+    {
+        edge_bars(self.bars.boxing, bars_among(self.keys, self.last_bars, at))
+    }
+
+    /// How many bars stand in front of a column that isn't the first.
+    pub fn bars_between(&self, at: usize) -> u8
+        ensures { result ≡ bars_between self.now.bars.boxing (lent_format self.now) at }
+    {
+        inner_bars(self.bars.boxing, bars_among(self.keys, self.last_bars, at))
     }
 }
 
@@ -280,11 +313,11 @@ pub fn count_to_glyph(
     requires places { PlacesLie row.now.bytes.now row.now.entries.now places.now }
     ensures few { result ≤ length row.now.entries.now }
     ensures last { LastHasGlyph result (map (cell_left row.now.bytes.now line)
-        (row_columns row.now.boxing row.now.keys.now 0 row.now.columns.now row.now.entries.now
-        places.now)) }
+        (row_columns row.now.bars.boxing (lent_format row.now) 0 row.now.columns.now
+        row.now.entries.now places.now)) }
     ensures behind { AreGlyphless (drop result (map (cell_left row.now.bytes.now line)
-        (row_columns row.now.boxing row.now.keys.now 0 row.now.columns.now row.now.entries.now
-        places.now))) }
+        (row_columns row.now.bars.boxing (lent_format row.now) 0 row.now.columns.now
+        row.now.entries.now places.now))) }
     ensures room { escapes.new.room ≡ escapes.old.room }
 {
     let mut count = row.entries.len();

@@ -15,13 +15,13 @@ use crate::picture::Piece;
 use crate::piece_queue::PieceQueue;
 use crate::row_columns::RowLent;
 use roff_escape::OpenEscapes;
-use rules::{Beside, RuleBegun};
+use rules::{Beside, RuleBegun, frame_sign};
 use std::alloc::{AllocError, Global};
 use std::marker::Model;
 use tbl_format::format_rows::FormatRows;
 use tbl_format::options::Boxing;
 use tbl_kept::rows::TableRows;
-use tbl_layout::data_lines::RuleSign;
+use tbl_layout::bars::Bars;
 use tbl_layout::entry::Entry;
 use tbl_text::block_parts::BlockPlace;
 use tbl_text::block_words::BlockWord;
@@ -76,8 +76,8 @@ pub struct Walk {
     behind: Vec<BlockPlace>,
     /// What stands above: the last element that was given, apart from commands.
     above: Beside,
-    /// How the picture is boxed, and how wide it is.
-    boxing: Boxing,
+    /// The picture's bars, and how wide it is.
+    bars: Bars,
     picture_width: usize,
     room: usize,
 }
@@ -111,18 +111,18 @@ impl Walk {
             places: Vec::with_capacity(alloc, columns)?,
             behind: Vec::with_capacity(alloc, columns)?,
             above: Beside::Nothing,
-            boxing: Boxing::Nothing,
+            bars: Bars::NOTHING,
             picture_width: 0,
             room: columns,
         })
     }
 
-    /// Nothing of the picture is given, which is boxed so and so wide.
-    pub fn start(&mut self, boxing: Boxing, width: usize)
-        ensures value { self.new ≡ started boxing width self.old }
+    /// Nothing of the picture is given, which has these bars and is so wide.
+    pub fn start(&mut self, bars: Bars, width: usize)
+        ensures value { self.new ≡ started bars width self.old }
         ensures lines { (bytes : List ℕ) (formats : List FormatRow) (rows : KeptRows)
             → still_to_come bytes formats rows self.new
-            ≡ picture_lines (record { boxing = boxing; width = width; columns = rows.columns })
+            ≡ picture_lines (record { bars = bars; width = width; columns = rows.columns })
             (elements_of bytes formats rows.elements) }
         ensures can { (bytes : List ℕ) (formats : List FormatRow) (rows : KeptRows)
             → RowsLaid bytes formats rows → AreNarrow rows.columns
@@ -130,9 +130,9 @@ impl Walk {
     {
         self.element = 0;
         self.line = 0;
-        self.next = first_next(boxing);
+        self.next = first_next(bars.boxing);
         self.above = Beside::Nothing;
-        self.boxing = boxing;
+        self.bars = bars;
         self.picture_width = width;
     }
 
@@ -154,12 +154,13 @@ impl Walk {
     {
         match self.next {
             Next::AtTop => {
-                self.begin_rule(pieces, rows, RuleSign::Single, false);
+                let sign = frame_sign(self.bars.boxing.bars);
+                self.step_at_rule(pieces, rows, format, sign, false);
                 true
             }
-            Next::AtElement => self.step_at_element(pieces, rows),
+            Next::AtElement => self.step_at_element(pieces, rows, format),
             Next::AtRule(rule) => {
-                self.step_in_rule(pieces, rows, rule);
+                self.step_in_rule(pieces, rows, format, rule);
                 true
             }
             Next::AtEnd => false,
@@ -222,9 +223,10 @@ impl Walk {
 fn first_next(boxing: Boxing) -> Next
     ensures { result ≡ first_next boxing }
 {
-    match boxing {
-        Boxing::Nothing => Next::AtElement,
-        _ => Next::AtTop,
+    if boxing.bars == 0 {
+        Next::AtElement
+    } else {
+        Next::AtTop
     }
 }
 

@@ -3,8 +3,8 @@
 ghost use Rattle.std.specs.Prelude.{◌≡◌, [], ◌∷◌, ◌++◌, Some, None, codes};
 ghost use Rattle.tbl_format.specs.declared.format.Key.TheVariants.{Alphabetic, Center, Left};
 ghost use Rattle.tbl_format.specs.declared.format.Key.TheVariants.{Numeric, Right};
-ghost use Rattle.tbl_format.specs.declared.options.Boxing.TheVariants.{Around, EachField};
-ghost use Rattle.tbl_picture.specs.WorkedPictures.{lines_boxed, lines_of_data};
+ghost use Rattle.tbl_picture.specs.WorkedPictures.{around, each_field, lines_boxed};
+ghost use Rattle.tbl_picture.specs.WorkedPictures.{lines_of_data};
 
 /// Rules over columns, and over the whole table.
 pub fn over_columns()
@@ -40,10 +40,10 @@ pub fn repeated()
 
 /// Bars at the edges and between fields, and rules that cross them.
 pub fn boxed()
-    ensures around { lines_boxed Around None (Left ∷ Left ∷ [])
+    ensures around { lines_boxed around None (Left ∷ Left ∷ [])
         (codes "a:b" ∷ codes "_" ∷ codes "c" ∷ [])
         ≡ codes "\\&+-------+\n\\&| a   b |\n\\&+-------+\n\\&| c     |\n\\&+-------+\n" }
-    ensures fields { lines_boxed EachField None (Left ∷ Left ∷ [])
+    ensures fields { lines_boxed each_field None (Left ∷ Left ∷ [])
         (codes "a:b" ∷ codes "_:_" ∷ codes "=" ∷ codes "c" ∷ [])
         ≡ codes "\\&+---+---+\n\\&| a | b |\n\\&+---+---+\n\\&| --+-- |\n"
         ++ codes "\\&+===+===+\n\\&| c |   |\n\\&+---+---+\n" }

@@ -1,19 +1,18 @@
 -- Lines of the options and the format, byte by byte.
-use Rattle.std.proofs.Common.{◌≡◌, ℕ, suc, ◌+◌, ◌<◌, Bool, true, false, not, ◌&&◌, List, [], ◌∷◌, ◌++◌, length, take, drop, fold, Option, Some, None, refl, sym, ap, subst, ◌∙◌, arith, length-append, if◌then◌else◌, ◌==◌}
-use Rattle.std.proofs.lemmas.List.{drop-append-le, drop_all, take-append-le, take_all}
+use Rattle.std.proofs.Common.{◌≡◌, ℕ, suc, ◌+◌, ◌<◌, Bool, true, false, not, ◌&&◌, List, [], ◌∷◌, ◌++◌, length, drop, fold, Option, Some, None, refl, sym, ap, subst, ◌∙◌, arith, length-append, if◌then◌else◌, ◌==◌}
+use Rattle.std.proofs.lemmas.List.{drop-append-le, drop_all}
 use Rattle.std.proofs.lemmas.List.Sums.{fold-append}
 use Rattle.tbl_format.proofs.FormatReading.{read-last}
 use Rattle.tbl_format.proofs.Parts.{slice_range-rest}
 use Rattle.std.specs.List.{slice_range}
 use Rattle.roff_source.specs.Bytes.{newline}
-use Rattle.tbl_table.specs.Begun.{begun_in, built_begun, count_of, head_begun}
+use Rattle.tbl_table.specs.Begun.{begun_in, count_of, head_begun}
 use Rattle.tbl_format.specs.Format.{Format, format_byte, format_read, has_some, no_format}
 use Rattle.tbl_format.specs.KeyCounts.{Counts}
-use Rattle.tbl_format.specs.Options.{bracketed, options_end, options_end_from, options_read, semicolon}
+use Rattle.tbl_format.specs.Options.{bracketed, options_end, options_end_from, semicolon}
 use Rattle.tbl_table.specs.Table.{columns_of, has_newline, head_columns, head_place}
 use Rattle.tbl_table.specs.declared.begun.Begun.TheVariants.{Front, Keys, Nothing}
 use Rattle.tbl_format.specs.declared.format.FormatPlace.{FormatPlace}
-use Rattle.tbl_format.specs.declared.format.FormatPlace.TheVariants.{AtFault}
 use Rattle.tbl_format.specs.declared.key_count.KeyCount.{KeyCount}
 use Rattle.tbl_data.specs.declared.phase.Phase.{Phase}
 use Rattle.tbl_data.specs.declared.phase.Phase.TheVariants.{AtHead, Bad, InData, InFormat}
@@ -63,11 +62,6 @@ module _ (old new : KeyCount) (start s b : ℕ) (f : Format) (line rest : List �
       ap (λ (n : ℕ). Keys n new) (same-start old (count_of (format_read f rest)) start s is)
       ∙ ap (λ (c : KeyCount). Keys s c) keys-new
 
-keys-built : (t : Bool) (old new : KeyCount) (start s b : ℕ) (line rest : List ℕ) → CountsOn old new (drop start line) b → drop s line ≡ rest → Keys start old ≡ built_begun t s rest
-    → Keys start new ≡ built_begun t s (rest ++ b ∷ [])
-keys-built true old new start s b line rest on left is = keys-on old new start s b no_format line rest on left is
-keys-built false old new start s b line rest on left is = absurd (cc)
-
 module _ (b : ℕ) where
   abbrev pub ends_here : Bool → Bool
   ends_here inside = not inside && b == semicolon
@@ -113,6 +107,11 @@ options_end-within inside from end (c ∷ line) is =
     within-by (not inside && c == semicolon) from end (length line) (options_end_from (bracketed inside c) (suc from) line)
     (options_end-within (bracketed inside c) (suc from) end line) is
 
+-- of a first line something is known
+pub nothing-head : (line : List ℕ) (end : Option ℕ) → Nothing ≡ head_begun end line → ⊥
+nothing-head line None begun = absurd (cc)
+nothing-head line (Some end) begun = absurd (cc)
+
 -- the first line, one byte longer
 module _ (line : List ℕ) (b : ℕ) where
   -- its options have ended
@@ -120,26 +119,22 @@ module _ (line : List ℕ) (b : ℕ) where
     within : end < length line
     within = omega (arith, options_end-within false 0 end line is)
 
-    pub front-same : take end (line ++ b ∷ []) ≡ take end line
-    front-same = take-append-le end line (b ∷ []) (omega (arith, within))
-
     pub rest-more : drop (suc end) (line ++ b ∷ []) ≡ drop (suc end) line ++ b ∷ []
     rest-more = drop-append-le (suc end) line (b ∷ []) (omega (arith, within))
 
     pub end-same : options_end (line ++ b ∷ []) ≡ Some end
     end-same = options_end-some b false 0 end line is
 
-    pub head-some : head_begun (options_end (line ++ b ∷ [])) (line ++ b ∷ []) ≡ built_begun (options_read (take end line)).are_built (suc end) (drop (suc end) line ++ b ∷ [])
+    pub head-some : head_begun (options_end (line ++ b ∷ [])) (line ++ b ∷ []) ≡ Keys (suc end) (count_of (format_read no_format (drop (suc end) line ++ b ∷ [])))
     head-some =
         ap (λ (e : Option ℕ). head_begun e (line ++ b ∷ [])) end-same
-        ∙ ap (λ (options : List ℕ). built_begun (options_read options).are_built (suc end) (drop (suc end) (line ++ b ∷ []))) front-same
-        ∙ ap (λ (rest : List ℕ). built_begun (options_read (take end line)).are_built (suc end) rest) rest-more
+        ∙ ap (λ (rest : List ℕ). Keys (suc end) (count_of (format_read no_format rest))) rest-more
 
   keys-head : (old new : KeyCount) (start : ℕ) (end : Option ℕ) → options_end line ≡ end → CountsOn old new (drop start line) b → Keys start old ≡ head_begun end line
       → Keys start new ≡ head_begun (options_end (line ++ b ∷ [])) (line ++ b ∷ [])
   keys-head old new start None is on begun = absurd (cc)
   keys-head old new start (Some end) is on begun =
-      keys-built (options_read (take end line)).are_built old new start (suc end) b line (drop (suc end) line) on refl begun ∙ sym (head-some end is)
+      keys-on old new start (suc end) b no_format line (drop (suc end) line) on refl begun ∙ sym (head-some end is)
 
   pub begun-keys : (old new : KeyCount) (start : ℕ) (phase : Phase) (f : Format) → CountsOn old new (drop start line) b → Keys start old ≡ begun_in phase f line
       → Keys start new ≡ begun_in phase f (line ++ b ∷ [])
@@ -148,33 +143,20 @@ module _ (line : List ℕ) (b : ℕ) where
   begun-keys old new start InData f on is = absurd (cc)
   begun-keys old new start Bad f on is = absurd (cc)
 
-  nothing-built : (t : Bool) (s : ℕ) (rest : List ℕ) → Nothing ≡ built_begun t s rest → Nothing ≡ built_begun t s (rest ++ b ∷ [])
-  nothing-built true s rest is = absurd (cc)
-  nothing-built false s rest is = refl
-
-  nothing-head : (end : Option ℕ) → options_end line ≡ end → Nothing ≡ head_begun end line → Nothing ≡ head_begun (options_end (line ++ b ∷ [])) (line ++ b ∷ [])
-  nothing-head None is begun = absurd (cc)
-  nothing-head (Some end) is begun =
-      nothing-built (options_read (take end line)).are_built (suc end) (drop (suc end) line) begun ∙ sym (head-some end is)
-
   pub begun-nothing : (phase : Phase) (f : Format) → Nothing ≡ begun_in phase f line → Nothing ≡ begun_in phase f (line ++ b ∷ [])
-  begun-nothing AtHead f is = nothing-head (options_end line) refl is
+  begun-nothing AtHead f is = absurd (nothing-head line (options_end line) is)
   begun-nothing InFormat f is = absurd (cc)
   begun-nothing InData f is = refl
   begun-nothing Bad f is = refl
 
   -- its options haven't ended
-  some-built : (t inside : Bool) (s : ℕ) (rest : List ℕ) → Front inside ≡ built_begun t s rest → ⊥
-  some-built true inside s rest is = absurd (cc)
-  some-built false inside s rest is = absurd (cc)
-
   pub no-end : (inside : Bool) (end : Option ℕ) → options_end line ≡ end → Front inside ≡ head_begun end line → options_end line ≡ None
   no-end inside None is begun = is
-  no-end inside (Some end) is begun = absurd (some-built (options_read (take end line)).are_built inside (suc end) (drop (suc end) line) begun)
+  no-end inside (Some end) is begun = absurd (cc)
 
   pub inside-is : (inside : Bool) (end : Option ℕ) → options_end line ≡ end → Front inside ≡ head_begun end line → inside ≡ fold bracketed false line
   inside-is inside None is begun = cc
-  inside-is inside (Some end) is begun = absurd (some-built (options_read (take end line)).are_built inside (suc end) (drop (suc end) line) begun)
+  inside-is inside (Some end) is begun = absurd (cc)
 
   module _ (inside : Bool) (begun : Front inside ≡ head_begun (options_end line) line) where
     end-is : options_end (line ++ b ∷ []) ≡ (if ends_here b inside then Some (length line) else None)
@@ -192,56 +174,30 @@ module _ (line : List ℕ) (b : ℕ) where
         ∙ ap (λ (i : Bool). Front i) (sym (fold-append bracketed false line (b ∷ [])))
         ∙ ap (λ (e : Option ℕ). head_begun e (line ++ b ∷ [])) (sym (end-is ∙ ap (λ (t : Bool). if t then Some (length line) else None) on))
 
-    pub front-end : ends_here b inside ≡ true → built_begun (options_read line).are_built (length line + 1) [] ≡ head_begun (options_end (line ++ b ∷ [])) (line ++ b ∷ [])
+    pub front-end : ends_here b inside ≡ true → Keys (length line + 1) (count_of (format_read no_format [])) ≡ head_begun (options_end (line ++ b ∷ [])) (line ++ b ∷ [])
     front-end ends =
-        let front : take (length line) (line ++ b ∷ []) ≡ line = take-append-le (length line) line (b ∷ []) (omega arith) ∙ take_all (length line) line (omega arith) in
         let rest : drop (suc (length line)) (line ++ b ∷ []) ≡ [] = drop_all (suc (length line)) (line ++ b ∷ []) (omega (arith, length-append line (b ∷ []))) in
         let start : length line + 1 ≡ suc (length line) = omega arith in
-        ap (λ (n : ℕ). built_begun (options_read line).are_built n []) start
-        ∙ ap (λ (options : List ℕ). built_begun (options_read options).are_built (suc (length line)) []) (sym front)
-        ∙ ap (λ (xs : List ℕ). built_begun (options_read (take (length line) (line ++ b ∷ []))).are_built (suc (length line)) xs) (sym rest)
+        ap (λ (n : ℕ). Keys n (count_of (format_read no_format []))) start
+        ∙ ap (λ (xs : List ℕ). Keys (suc (length line)) (count_of (format_read no_format xs))) (sym rest)
         ∙ ap (λ (e : Option ℕ). head_begun e (line ++ b ∷ [])) (sym (end-is ∙ ap (λ (t : Bool). if t then Some (length line) else None) ends))
 
   -- the columns that count
-  abbrev columns_by : Bool → List ℕ → ℕ
-  columns_by t rest = if t then columns_of (format_read no_format rest) else 0
-
   pub columns-some : (end : ℕ) → options_end line ≡ Some end
-      → head_columns (options_end (line ++ b ∷ [])) (line ++ b ∷ []) ≡ columns_by (options_read (take end line)).are_built (drop (suc end) line ++ b ∷ [])
+      → head_columns (options_end (line ++ b ∷ [])) (line ++ b ∷ []) ≡ columns_of (format_read no_format (drop (suc end) line ++ b ∷ []))
   columns-some end is =
       ap (λ (e : Option ℕ). head_columns e (line ++ b ∷ [])) (end-same end is)
-      ∙ ap (λ (options : List ℕ). columns_by (options_read options).are_built (drop (suc end) (line ++ b ∷ []))) (front-same end is)
-      ∙ ap (λ (rest : List ℕ). columns_by (options_read (take end line)).are_built rest) (rest-more end is)
-
-  columns-built : (t : Bool) (old new : KeyCount) (start s : ℕ) (rest : List ℕ) → CountsOn old new (drop start line) b → drop s line ≡ rest → Keys start old ≡ built_begun t s rest
-      → new.columns ≡ columns_by t (rest ++ b ∷ [])
-  columns-built true old new start s rest on left is = ap (λ (c : KeyCount). c.columns) (keys-new old new start s b no_format line rest on left is)
-  columns-built false old new start s rest on left is = absurd (cc)
+      ∙ ap (λ (rest : List ℕ). columns_of (format_read no_format rest)) (rest-more end is)
 
   pub columns-keys : (old new : KeyCount) (start : ℕ) (end : Option ℕ) → options_end line ≡ end → CountsOn old new (drop start line) b → Keys start old ≡ head_begun end line
       → new.columns ≡ head_columns (options_end (line ++ b ∷ [])) (line ++ b ∷ [])
   columns-keys old new start None is on begun = absurd (cc)
   columns-keys old new start (Some end) is on begun =
-      columns-built (options_read (take end line)).are_built old new start (suc end) (drop (suc end) line) on refl begun ∙ sym (columns-some end is)
+      ap (λ (c : KeyCount). c.columns) (keys-new old new start (suc end) b no_format line (drop (suc end) line) on refl begun) ∙ sym (columns-some end is)
 
   pub columns-format : (old new : KeyCount) (start : ℕ) (f : Format) → CountsOn old new (drop start line) b → Keys start old ≡ Keys 0 (count_of (format_read f line))
       → new.columns ≡ columns_of (format_read f (line ++ b ∷ []))
   columns-format old new start f on is = ap (λ (c : KeyCount). c.columns) (keys-new old new start 0 b f line line on refl is)
-
-  none-built : (t : Bool) (s : ℕ) (rest more : List ℕ) → Nothing ≡ built_begun t s rest → 0 ≡ columns_by t more
-  none-built true s rest more is = absurd (cc)
-  none-built false s rest more is = refl
-
-  pub columns-nothing : (end : Option ℕ) → options_end line ≡ end → Nothing ≡ head_begun end line
-      → 0 ≡ head_columns (options_end (line ++ b ∷ [])) (line ++ b ∷ [])
-  columns-nothing None is begun = absurd (cc)
-  columns-nothing (Some end) is begun =
-      none-built (options_read (take end line)).are_built (suc end) (drop (suc end) line) (drop (suc end) line ++ b ∷ []) begun ∙ sym (columns-some end is)
-
--- behind options alone there is no column
-nothing-behind : (t : Bool) → 0 ≡ (if t then columns_of (format_read no_format []) else 0)
-nothing-behind true = refl
-nothing-behind false = refl
 
 -- a newline is the last byte
 has_newline-last : (line : List ℕ) (b : ℕ) → has_newline (line ++ b ∷ []) ≡ (b == newline)
@@ -266,24 +222,18 @@ module _ (line : List ℕ) (inside : Bool) (begun : Front inside ≡ head_begun 
   none-by true b on is =
       let some : options_end (line ++ b ∷ []) ≡ Some (length line) = end-is line b inside begun ∙ ap (λ (t : Bool). if t then Some (length line) else None) on in
       let rest : drop (suc (length line)) (line ++ b ∷ []) ≡ [] = drop_all (suc (length line)) (line ++ b ∷ []) (omega (arith, length-append line (b ∷ []))) in
-      nothing-behind (options_read (take (length line) (line ++ b ∷ []))).are_built
-      ∙ ap (λ (xs : List ℕ). if (options_read (take (length line) (line ++ b ∷ []))).are_built then columns_of (format_read no_format xs) else 0) (sym rest)
+      ap (λ (xs : List ℕ). columns_of (format_read no_format xs)) (sym rest)
       ∙ ap (λ (e : Option ℕ). head_columns e (line ++ b ∷ [])) (sym some)
 
   pub columns-none : (b : ℕ) → (b == newline) ≡ false → 0 ≡ head_columns (options_end (line ++ b ∷ [])) (line ++ b ∷ [])
   columns-none b is = none-by (ends_here b inside) b refl is
 
 -- where the reading stands behind the newline
-place-built : (t : Bool) (old new : KeyCount) (start s : ℕ) (line rest : List ℕ) → CountsOn old new (drop start line) newline → drop s line ≡ rest → Keys start old ≡ built_begun t s rest
-    → new.place ≡ (if t then (format_read no_format (rest ++ newline ∷ [])).place else AtFault)
-place-built true old new start s line rest on left is = ap (λ (c : KeyCount). c.place) (keys-new old new start s newline no_format line rest on left is)
-place-built false old new start s line rest on left is = absurd (cc)
-
 pub place-keys : (line : List ℕ) (old new : KeyCount) (start : ℕ) (end : Option ℕ) → CountsOn old new (drop start line) newline → Keys start old ≡ head_begun end line
     → new.place ≡ head_place end line
 place-keys line old new start None on begun = absurd (cc)
 place-keys line old new start (Some end) on begun =
-    place-built (options_read (take end line)).are_built old new start (suc end) line (drop (suc end) line) on refl begun
+    ap (λ (c : KeyCount). c.place) (keys-new old new start (suc end) newline no_format line (drop (suc end) line) on refl begun)
 
 pub place-format : (line : List ℕ) (old new : KeyCount) (start : ℕ) (f : Format) → CountsOn old new (drop start line) newline → Keys start old ≡ Keys 0 (count_of (format_read f line))
     → new.place ≡ (format_read f (line ++ newline ∷ [])).place
@@ -294,23 +244,12 @@ pub newline-goes_on : (inside : Bool) → ends_here newline inside ≡ false
 newline-goes_on true = refl
 newline-goes_on false = refl
 
--- where nothing of it is known but options, or where nothing counts
+-- where nothing of it is known but options
 front-by : (line : List ℕ) (inside : Bool) (place : FormatPlace) (end : Option ℕ) → (format_read no_format (line ++ newline ∷ [])).place ≡ place → Front inside ≡ head_begun end line
     → place ≡ head_place end line
 front-by line inside place None is begun = sym is
-front-by line inside place (Some end) is begun = absurd (some-built line newline (options_read (take end line)).are_built inside (suc end) (drop (suc end) line) begun)
+front-by line inside place (Some end) is begun = absurd (cc)
 
 pub place-front : (line : List ℕ) (inside : Bool) (place : FormatPlace) → (format_read no_format (line ++ newline ∷ [])).place ≡ place → Front inside ≡ head_begun (options_end line) line
     → place ≡ head_place (options_end line) line
 place-front line inside place is begun = front-by line inside place (options_end line) is begun
-
-nothing-place : (t : Bool) (s : ℕ) (rest : List ℕ) → Nothing ≡ built_begun t s rest → AtFault ≡ (if t then (format_read no_format (rest ++ newline ∷ [])).place else AtFault)
-nothing-place true s rest is = absurd (cc)
-nothing-place false s rest is = refl
-
-nothing-by : (line : List ℕ) (end : Option ℕ) → Nothing ≡ head_begun end line → AtFault ≡ head_place end line
-nothing-by line None begun = absurd (cc)
-nothing-by line (Some end) begun = nothing-place (options_read (take end line)).are_built (suc end) (drop (suc end) line) begun
-
-pub place-nothing : (line : List ℕ) → Nothing ≡ head_begun (options_end line) line → AtFault ≡ head_place (options_end line) line
-place-nothing line begun = nothing-by line (options_end line) begun

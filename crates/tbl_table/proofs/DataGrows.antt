@@ -1,6 +1,6 @@
 -- What is kept of the data of a table says the same where the bytes grow.
 use Rattle.std.specs.List.{slice_range}
-use Rattle.std.proofs.Common.{Bool, suc, ◌≡◌, ℕ, ◌+◌, ◌≤◌, List, [], ◌∷◌, ◌++◌, length, map, Option, None, Some, refl, sym, ap, ◌∙◌, arith, length-append}
+use Rattle.std.proofs.Common.{Bool, suc, ◌≡◌, ℕ, ◌≤◌, List, [], ◌∷◌, ◌++◌, length, map, Option, None, sym, ap, ◌∙◌, arith, length-append}
 use Rattle.std.specs.List.{AllByRecursion}
 use Rattle.tbl_data.specs.TableData.{BadFits, DataFits, ElementEnds, EndsBy, EntryEnds, FitsBehind, FormatFits, begun_by, table_by}
 use Rattle.tbl_data.specs.TableRead.{RowBegun, TableRead}
@@ -11,11 +11,11 @@ use Rattle.tbl_data.specs.declared.table_data.OpenBlock.TheVariants.{Nothing}
 use Rattle.tbl_data.specs.declared.table_data.TableData.{TableData}
 use Rattle.tbl_format.specs.Format.{FormatRow}
 use Rattle.tbl_format.specs.declared.format.Key.{Key}
-use Rattle.tbl_format.specs.Notes.{NotesWithin, told_of_all}
+use Rattle.tbl_format.specs.Notes.{NotesWithin}
 use Rattle.tbl_format.specs.RowsServed.{all_rows, row_at}
 use Rattle.tbl_format.specs.declared.message.Told.{Told}
 use Rattle.tbl_format.specs.declared.options.Options.{Options}
-use Rattle.tbl_kept.specs.Rows.{AreKept, Command, ElementKept, KeptElement, Row, RowBegunKept, Rule, elements_of}
+use Rattle.tbl_kept.specs.Rows.{AreKept, Command, ElementKept, KeptElement, Row, RowBegunKept, Rule}
 use Rattle.tbl_layout.specs.Entries.{Content, Element, is_number, key_at}
 use Rattle.tbl_layout.specs.KeptEntries.{IsKeptBy, IsText, content_of, text_entry}
 use Rattle.tbl_layout.specs.declared.entry.Entry.{Entry}

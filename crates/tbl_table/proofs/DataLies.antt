@@ -1,13 +1,12 @@
 -- What is kept of a table lies within its bytes.
 use Rattle.std.proofs.Common.{◌≡◌, ℕ, suc, ◌+◌, ◌≤◌, List, [], ◌∷◌, ◌++◌, length, map, refl, ap, ◌∙◌, arith, if◌then◌else◌, ◌==◌}
 use Rattle.std.specs.List.{AllByRecursion}
-use Rattle.tbl_data.specs.TableData.{ElementEnds, EntryEnds, EndsBy}
+use Rattle.tbl_data.specs.TableData.{ElementEnds, EntryEnds}
 use Rattle.tbl_format.specs.Format.{FormatRow}
 use Rattle.tbl_format.specs.RowsServed.{row_at}
 use Rattle.tbl_kept.specs.Rows.{AreKept, AreLaid, Command, ElementKept, ElementLaid, KeptElement, KeptRows, Row, RowsKept, RowsLaid, Rule, element_of, elements_of}
-use Rattle.tbl_layout.specs.Columns.{measure_of}
 use Rattle.tbl_layout.specs.Entries.{Block, Command as OneCommand, Content, Element, Row as OneRow, Text, key_at}
-use Rattle.tbl_layout.specs.KeptEntries.{IsKeptBy, IsLaidBy, block_lines, content_by, content_of}
+use Rattle.tbl_layout.specs.KeptEntries.{IsKeptBy, IsLaidBy, content_by, content_of}
 use Rattle.tbl_layout.specs.declared.columns.Column.{Column}
 use Rattle.tbl_layout.specs.declared.entry.Entry.{Entry}
 use Rattle.tbl_layout.specs.declared.entry.EntryKind.{EntryKind}

@@ -4,7 +4,7 @@ use Rattle.std.proofs.lemmas.List.{length-take}
 use Rattle.roff_source.specs.Bytes.{newline}
 use Rattle.tbl_format.specs.Format.{Format, format_byte, format_read, if_letter, left_out_at, left_out_behind, letters_left_out}
 use Rattle.tbl_format.specs.Notes.{ignored_message, told_at}
-use Rattle.tbl_format.specs.Options.{ignored_options, options_end, options_read}
+use Rattle.tbl_format.specs.Options.{ignored_options, options_end}
 use Rattle.tbl_format.specs.declared.format.FormatPlace.{FormatPlace}
 use Rattle.tbl_format.specs.declared.format.FormatPlace.TheVariants.{AtEnd, AtFault, InRows}
 use Rattle.tbl_format.specs.declared.message.Message.TheVariants.{BadFormat, LeftOut}
@@ -73,15 +73,12 @@ format-few n line t =
     omega (arith, place-few f.place n (record (with_notes told t) { format = f }), length-append t.notes told, letters-told n (letters_left_out t.format whole), letters-few [] t.format whole, length-append line (newline ∷ []))
 
 -- and of options
-options-few : (built : Bool) (n : ℕ) (text line : List ℕ) (t : TableRead)
-    → may_tell (if built then format_line n line (with_options n text t) else bad n (with_options n text t)) ≤ may-tell-yet t + length text + length line + 1
+options-few : (n : ℕ) (text line : List ℕ) (t : TableRead)
+    → may_tell (format_line n line (with_options n text t)) ≤ may-tell-yet t + length text + length line + 1
 unfolding may_tell
-options-few true n text line t =
+options-few n text line t =
     let told = map (λ (word : List ℕ). told_at n (ignored_message word)) (ignored_options text) in
     omega (arith, format-few n line (with_options n text t), length-append t.notes told, ignored-told n (ignored_options text), ignored-most text)
-options-few false n text line t =
-    let told = map (λ (word : List ℕ). told_at n (ignored_message word)) (ignored_options text) in
-    omega (arith, one-more (t.notes ++ told) (told_at n BadFormat), length-append t.notes told, ignored-told n (ignored_options text), ignored-most text)
 
 length-parts : (end : ℕ) (line : List ℕ) → length (take end line) + length (drop (suc end) line) ≤ length line
 length-parts end line = omega (arith, length-take end line, length-drop (suc end) line)
@@ -89,7 +86,7 @@ length-parts end line = omega (arith, length-take end line, length-drop (suc end
 head-few : (end : Option ℕ) (n : ℕ) (line : List ℕ) (t : TableRead) → may_tell (head_line end n line t) ≤ may-tell-yet t + length line + 1
 head-few None n line t = format-few n line t
 head-few (Some end) n line t =
-    omega (arith, options-few (options_read (take end line)).are_built n (take end line) (drop (suc end) line) t, length-parts end line)
+    omega (arith, options-few n (take end line) (drop (suc end) line) t, length-parts end line)
 
 -- and of the data
 joined-len : (pending : Option Joined) (line : List ℕ) → length (behind_joined pending line) ≤ line_may_tell pending + length line

@@ -1,6 +1,6 @@
 -- Formats as they are read further: rows that are whole stay, and one that has ended has a row.
-use Rattle.std.proofs.Common.{◌≡◌, ℕ, zero, suc, ◌+◌, ◌<◌, ◌≤◌, Bool, true, false, not, List, [], ◌∷◌, ◌++◌, length, refl, sym, ap, ◌∙◌, arith, append-nil, append_assoc, length-append, nat_lt, if◌then◌else◌}
-use Rattle.tbl_format.specs.Format.{Format, FormatRow, at_fault, asked_by, done, fault_if, format_byte, format_byte_at, format_read, has_some, is_misplaced, last_changed, looked_again, read_behind, said_by, stepped, with_any_key, with_asked, with_columns, with_last, with_whole}
+use Rattle.std.proofs.Common.{◌≡◌, ℕ, zero, suc, ◌+◌, ◌<◌, ◌≤◌, max, Bool, true, false, not, List, [], ◌∷◌, ◌++◌, length, refl, sym, ap, ◌∙◌, arith, append-nil, append_assoc, length-append, nat_lt, if◌then◌else◌}
+use Rattle.tbl_format.specs.Format.{Format, FormatRow, asking_for_bars, at_fault, asked_by, done, fault_if, format_byte, format_byte_at, format_read, has_some, is_misplaced, last_changed, looked_again, most_bars, read_behind, said_by, stepped, with_any_key, with_asked, with_columns, with_last, with_whole}
 use Rattle.tbl_format.specs.FormatRows.{keys_of}
 use Rattle.tbl_format.specs.FormatSteps.{step}
 use Rattle.tbl_format.specs.declared.format.Asked.{Asked}
@@ -74,8 +74,14 @@ Extends-whole true u f is = record {
 }
 Extends-whole false u f is = Extends-fault u f f (same-rows f f refl refl (λ wide. wide))
 
-Extends-bar : (t : Bool) (f : Format) → Extends f (if t then record f { bars = f.bars + 1 } else at_fault f)
-Extends-bar true f = same-rows f (record f { bars = f.bars + 1 }) refl refl (λ wide. wide)
+Extends-asking : (t : Bool) (f : Format) → Extends f (if t then with_asked (most_bars f.bars) f else record f { front = max f.front f.bars })
+Extends-asking true f = same-rows f (with_asked (most_bars f.bars) f) refl refl (asked-wide (most_bars f.bars) f)
+Extends-asking false f = same-rows f (record f { front = max f.front f.bars }) refl refl (λ wide. wide)
+
+Extends-bar : (t : Bool) (f : Format) → Extends f (if t then asking_for_bars (record f { bars = f.bars + 1 }) else at_fault f)
+Extends-bar true f =
+    let is = Extends-asking (has_some f.row) (record f { bars = f.bars + 1 }) in
+    record { more = is.more; earlier = is.earlier; rows = is.rows; keyed = is.keyed; wide = is.wide }
 Extends-bar false f = same-rows f (at_fault f) refl refl (λ wide. wide)
 
 Extends-done : (does : Does) (f : Format) → Extends f (done does f)

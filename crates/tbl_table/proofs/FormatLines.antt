@@ -1,16 +1,14 @@
 -- A line of the format has ended: the parts hold together, and give the table behind it.
-use Rattle.std.proofs.Common.{◌≡◌, ◌==◌, ℕ, ◌+◌, ◌-◌, ◌<◌, ◌≤◌, min, All, true, false, List, [], ◌∷◌, ◌++◌, length, map, drop, Option, Some, None, refl, sym, ap, subst, ◌∙◌, arith, append-nil, append_assoc, length-append}
+use Rattle.std.proofs.Common.{◌≡◌, ◌==◌, ℕ, ◌+◌, ◌-◌, ◌<◌, ◌≤◌, false, List, [], ◌∷◌, ◌++◌, length, map, drop, Option, None, refl, sym, ap, subst, ◌∙◌, arith, append-nil, length-append}
 use Rattle.std.proofs.lemmas.List.Elements.{All-nil}
 use Rattle.std.proofs.lemmas.List.{drop_at}
 use Rattle.std.specs.List.{slice_range}
 use Rattle.tbl_format.proofs.Parts.{slice_range-rest}
 use Rattle.roff_source.specs.Bytes.{newline}
-use Rattle.tbl_data.specs.TableData.{FitsBehind, FormatFits, OpenBehind, begun_by}
+use Rattle.tbl_data.specs.TableData.{FormatFits, OpenBehind, begun_by}
 use Rattle.tbl_data.specs.TableRead.{TableRead}
 use Rattle.tbl_data.specs.declared.phase.Phase.{Phase}
-use Rattle.tbl_data.specs.declared.phase.Phase.TheVariants.{AtHead, Bad, InData, InFormat}
 use Rattle.tbl_data.specs.declared.table_data.OpenBlock.{OpenBlock}
-use Rattle.tbl_data.specs.declared.table_data.OpenBlock.TheVariants.{Nothing as NoBlock}
 use Rattle.tbl_data.specs.declared.table_data.TableData.{TableData}
 use Rattle.tbl_format.specs.Format.{Format}
 use Rattle.tbl_format.specs.FormatRows.{key_count}
@@ -29,17 +27,14 @@ use Rattle.tbl_kept.specs.TableNotes.{KeptNotes}
 use Rattle.tbl_kept.specs.TableText.{KeptText, block_of, text_ended}
 use Rattle.tbl_layout.specs.KeptEntries.{content_of}
 use Rattle.tbl_table.specs.Begun.{begun_in}
-use Rattle.tbl_table.specs.Kept.{EndFits, FormatReads, HasKeys, HasRooms, KeysFit, NotesFit, PartsFit, PhaseFits, RowsFit, TextFits, block_open, data_read, kept_in, reading_of, row_open, table_of}
-use Rattle.tbl_table.specs.MayTell.{fault_may_come, line_may_tell}
-use Rattle.tbl_table.specs.Reading.{Reading}
+use Rattle.tbl_table.specs.Kept.{EndFits, FormatReads, HasKeys, HasRooms, KeysFit, NotesFit, PartsFit, PhaseFits, RowsFit, TextFits, block_open, kept_in, reading_of}
 use Rattle.tbl_table.specs.Steps.{data_behind, ended_with, phase_behind}
 use Rattle.tbl_table.specs.Table.{behind_format}
 use Rattle.tbl_table.specs.declared.begun.Begun.{Begun}
-use Rattle.tbl_table.proofs.DataGrows.{FormatFits-more, Lies-format, none-begun}
+use Rattle.tbl_table.proofs.DataGrows.{FormatFits-more, Lies-format}
 use Rattle.tbl_table.proofs.DataLies.{body-more, lies-kept}
 use Rattle.tbl_table.proofs.FormatEnds.{Extends}
 use Rattle.tbl_table.proofs.FormatTaken.{Fits-behind, made, made-same, read_on, table-behind}
-use Rattle.tbl_table.proofs.NotesKept.{NotesWithin-append}
 use Rattle.tbl_table.proofs.TableFits.{behind-len, ended-read, few-start}
 
 -- what the format is, where all of it is counted

@@ -1,5 +1,5 @@
 -- What is kept of the data fits behind keys of the format, and gives the table behind them.
-use Rattle.std.proofs.Common.{◌≡◌, ℕ, ◌+◌, ◌-◌, ◌<◌, ◌≤◌, List, [], ◌∷◌, ◌++◌, length, map, Option, None, Some, refl, sym, ap, subst, ◌∙◌, arith, append-nil, append_assoc, length-append}
+use Rattle.std.proofs.Common.{◌≡◌, ℕ, ◌-◌, ◌≤◌, List, ◌++◌, length, map, Option, None, refl, sym, ap, subst, ◌∙◌, arith, append_assoc, length-append}
 use Rattle.std.proofs.lemmas.List.{length-replicate}
 use Rattle.std.specs.Prelude.{replicate}
 use Rattle.tbl_data.specs.TableData.{BadFits, DataFits, FitsBehind, FormatFits, OpenFits, begun_by, table_by}
@@ -7,11 +7,10 @@ use Rattle.tbl_data.specs.TableRead.{RowBegun, TableRead}
 use Rattle.tbl_data.specs.declared.phase.Phase.{Phase}
 use Rattle.tbl_data.specs.declared.phase.Phase.TheVariants.{Bad, InData, InFormat}
 use Rattle.tbl_data.specs.declared.table_data.OpenBlock.{OpenBlock}
-use Rattle.tbl_data.specs.declared.table_data.OpenBlock.TheVariants.{Nothing}
 use Rattle.tbl_data.specs.declared.table_data.TableData.{TableData}
 use Rattle.tbl_format.specs.Format.{Format, FormatRow}
-use Rattle.tbl_format.specs.FormatRows.{KeptFormat, keeping}
-use Rattle.tbl_format.specs.Notes.{NotesWithin, told_at, told_of_all}
+use Rattle.tbl_format.specs.FormatRows.{keeping}
+use Rattle.tbl_format.specs.Notes.{NotesWithin, told_of_all}
 use Rattle.tbl_format.specs.RowsServed.{all_rows}
 use Rattle.tbl_format.specs.declared.format.FormatPlace.{FormatPlace}
 use Rattle.tbl_format.specs.declared.format.FormatPlace.TheVariants.{AtEnd, AtFault, InRows}
@@ -19,12 +18,10 @@ use Rattle.tbl_format.specs.declared.message.Told.{Told}
 use Rattle.tbl_format.specs.declared.notes.Cause.TheVariants.{BadFormat}
 use Rattle.tbl_format.specs.declared.options.Options.{Options}
 use Rattle.tbl_kept.specs.Joined.{Joined}
-use Rattle.tbl_kept.specs.Rows.{KeptRows, RowBegunKept, RowsKept, elements_of, no_column, with_columns}
+use Rattle.tbl_kept.specs.Rows.{KeptRows, RowsKept, elements_of, no_column, with_columns}
 use Rattle.tbl_kept.specs.TableNotes.{KeptNotes}
-use Rattle.tbl_layout.specs.Entries.{Content, Element}
+use Rattle.tbl_layout.specs.Entries.{Element}
 use Rattle.tbl_layout.specs.KeptEntries.{content_of}
-use Rattle.tbl_layout.specs.declared.columns.Column.{Column}
-use Rattle.tbl_layout.specs.declared.entry.Entry.{Entry}
 use Rattle.tbl_kept.proofs.RowsKeeping.{RowBegunKept-first, RowsKept-columns, RowsKept-formats, elements_of-formats}
 use Rattle.tbl_table.specs.Kept.{EndFits, IsWhole}
 use Rattle.tbl_table.specs.Steps.{data_behind, phase_behind}

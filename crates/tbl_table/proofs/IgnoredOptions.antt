@@ -1,7 +1,6 @@
 -- Of a text no more options are ignored than it has bytes.
 use Rattle.std.proofs.Common.{ℕ, suc, ◌+◌, ◌≤◌, Bool, true, false, not, ◌&&◌, List, [], ◌∷◌, ◌++◌, length, arith, length-append, if◌then◌else◌}
-use Rattle.tbl_format.specs.Options.{Said, bracketed, if_word, ignored_behind, ignored_options, is_ignored, is_unknown, nothing_set, option_of, option_of_two, option_words, options_of, separates_options, with_said, words_behind}
-use Rattle.tbl_format.specs.declared.options.Settings.{Settings}
+use Rattle.tbl_format.specs.Options.{Said, bracketed, if_word, ignored_of, ignored_options, is_unknown, option_of, option_of_two, option_words, options_of, separates_options, words_behind}
 
 -- words that are options
 word-few : (word : List ℕ) → length (if_word word) ≤ length word
@@ -40,11 +39,11 @@ ignored-by : (t : Bool) (word : List ℕ) (rest : List (List ℕ)) (n : ℕ) →
 ignored-by true word rest n few = omega (arith, few)
 ignored-by false word rest n few = omega (arith, few)
 
-ignored-few : (s : Settings) (options : List Said) → length (ignored_behind s options) ≤ length options
-ignored-few s [] = omega arith
-ignored-few s (said ∷ options) =
-    ignored-by (is_ignored s said) said.word (ignored_behind (with_said s said) options) (length options) (ignored-few (with_said s said) options)
+ignored-few : (options : List Said) → length (ignored_of options) ≤ length options
+ignored-few [] = omega arith
+ignored-few (said ∷ options) =
+    ignored-by (is_unknown said.option) said.word (ignored_of options) (length options) (ignored-few options)
 
 pub ignored-most : (text : List ℕ) → length (ignored_options text) ≤ length text
 ignored-most text =
-    omega (arith, ignored-few nothing_set (options_of (option_words text)), said-few (option_words text), words-few false [] text)
+    omega (arith, ignored-few (options_of (option_words text)), said-few (option_words text), words-few false [] text)

@@ -1,9 +1,8 @@
 -- A table that is laid out: its picture can be given, and no line follows.
-use Rattle.std.proofs.Common.{◌≡◌, ℕ, zero, suc, ◌+◌, ◌-◌, ◌<◌, ◌≤◌, min, Bool, true, false, nat_lt, List, [], ◌∷◌, ◌++◌, length, map, take, Option, Some, None, refl, sym, ap, subst, ◌∙◌, arith, append-nil, length-append}
+use Rattle.std.proofs.Common.{◌≡◌, ℕ, suc, ◌+◌, ◌<◌, ◌≤◌, min, List, [], ◌∷◌, ◌++◌, length, map, take, Option, Some, None, refl, sym, ap, ◌∙◌, arith, append-nil, length-append}
 use Rattle.std.proofs.lemmas.List.{take_at}
 use Rattle.std.specs.List.{AllByRecursion}
 use Rattle.tbl_data.specs.TableData.{ElementEnds}
-use Rattle.tbl_data.specs.TableRead.{TableRead}
 use Rattle.tbl_data.specs.declared.phase.Phase.{Phase}
 use Rattle.tbl_data.specs.declared.phase.Phase.TheVariants.{Bad, InData}
 use Rattle.tbl_data.specs.declared.table_data.OpenBlock.{OpenBlock}
@@ -13,21 +12,21 @@ use Rattle.roff_escape.specs.EscapeTexts.{KeptEscapes}
 use Rattle.tbl_format.specs.RowsServed.{all_rows}
 use Rattle.tbl_format.specs.declared.format.Asked.{Asked}
 use Rattle.tbl_format.specs.declared.limits.TblLimits.{TblLimits}
-use Rattle.tbl_format.specs.declared.options.Boxing.{Boxing}
 use Rattle.tbl_format.specs.declared.options.Options.{Options}
 use Rattle.tbl_kept.specs.Joined.{Joined, behind_joined}
-use Rattle.tbl_kept.specs.Rows.{KeptRows, RowsLaid, SameRoom, elements_of}
+use Rattle.tbl_kept.specs.Rows.{KeptRows, RowsLaid, SameRoom}
 use Rattle.tbl_kept.specs.TableText.{KeptText, block_of}
 use Rattle.tbl_kept.proofs.RowsKeeping.{RowsLaid-more, elements_of-laid-more}
-use Rattle.tbl_layout.specs.Columns.{columns_from, columns_laid, equal_widths, equalled, gaps, gaps_from, greatest, placed, placed_with, share, spread, total, width_of_all, with_equal, with_widths}
+use Rattle.tbl_layout.specs.Columns.{columns_from, columns_laid, equal_widths, gaps, gaps_from, greatest, placed, placed_with, share, spread, total, width_of_all, with_equal, with_widths}
 use Rattle.tbl_layout.specs.Entries.{Element}
-use Rattle.tbl_layout.specs.Widths.{edge, separation}
+use Rattle.tbl_layout.specs.Widths.{left_edge, separation, table_bars}
+use Rattle.tbl_layout.specs.declared.bars.Bars.{Bars}
 use Rattle.tbl_layout.specs.declared.columns.Column.{Column}
 use Rattle.tbl_layout.proofs.Shares.{share-grows, share-most}
 use Rattle.tbl_picture.specs.RowsWalked.{AreNarrow}
 use Rattle.tbl_picture.specs.PictureLines.{Sheet, picture_lines}
 use Rattle.tbl_table.specs.Kept.{PartsFit, row_open, table_of}
-use Rattle.tbl_table.specs.Laying.{IsLaid, body_of, columns_by, lacking_by, laid_by, with_places}
+use Rattle.tbl_table.specs.Laying.{IsLaid, body_of, columns_by, lacking_by}
 use Rattle.tbl_table.specs.MayTell.{line_may_tell}
 use Rattle.tbl_picture.specs.Giving.{IsLaidOut, lines_laid}
 use Rattle.tbl_table.specs.Table.{laid_out}
@@ -68,9 +67,9 @@ length-spread : (more all front : ℕ) (spaces : List ℕ) → length (spread mo
 length-spread more all front [] = refl
 length-spread more all front (gap ∷ spaces) = ap (λ (n : ℕ). suc n) (length-spread more all (front + gap) spaces)
 
-length-gaps : (boxing : Boxing) (gap : ℕ) (asked : List Asked) → length (gaps_from boxing gap asked) ≡ length asked
-length-gaps boxing gap [] = refl
-length-gaps boxing gap (a ∷ asked) = ap (λ (n : ℕ). suc n) (length-gaps boxing (separation boxing a.separation) asked)
+length-gaps : (bars : Bars) (gap : ℕ) (asked : List Asked) → length (gaps_from bars gap asked) ≡ length asked
+length-gaps bars gap [] = refl
+length-gaps bars gap (a ∷ asked) = ap (λ (n : ℕ). suc n) (length-gaps bars (separation bars a) asked)
 
 -- each ends where all do, at the most
 each-narrow : (most place : ℕ) (spaces : List ℕ) (columns : List Column) → length columns ≤ length spaces
@@ -100,12 +99,12 @@ pub narrow-parts : (columns : List Column) → AllByRecursion (λ c. c.start + c
 narrow-parts [] narrow = tt
 narrow-parts (c ∷ columns) narrow = (record { start = omega (arith, narrow.0); width = omega (arith, narrow.0) }, narrow-parts columns narrow.1)
 
-pub placed-narrow : (boxing : Boxing) (most more : ℕ) (asked : List Asked) (columns : List Column) → length columns ≤ length asked → width_of_all boxing columns asked + more < most
-    → AllByRecursion (λ c. c.start + c.width < most) (placed_with boxing more asked columns)
-placed-narrow boxing most more asked columns short few =
-    let spaces = gaps boxing asked in
-    each-narrow most (edge boxing) (spread more (total spaces) 0 spaces) columns
-    (omega (arith, short, length-spread more (total spaces) 0 spaces, length-gaps boxing 0 asked)) (omega (arith, few, spread-all more spaces))
+pub placed-narrow : (bars : Bars) (most more : ℕ) (asked : List Asked) (columns : List Column) → length columns ≤ length asked → width_of_all bars columns asked + more < most
+    → AllByRecursion (λ c. c.start + c.width < most) (placed_with bars more asked columns)
+placed-narrow bars most more asked columns short few =
+    let spaces = gaps bars asked in
+    each-narrow most (left_edge bars) (spread more (total spaces) 0 spaces) columns
+    (omega (arith, short, length-spread more (total spaces) 0 spaces, length-gaps bars 0 asked)) (omega (arith, few, spread-all more spaces))
 
 -- a row that isn't begun leaves no block open
 pub none-open-by : (pending : Option Joined) (block : OpenBlock) → pending ≡ None → block ≡ NoBlock → row_open pending block ≡ 0
@@ -167,37 +166,40 @@ module _ (l : TblLimits) (phase : Phase) (begun : Begun) (text : KeptText) (d : 
     count-laid =
         ap (λ (cs : List Column). length cs) laid.columns ∙ length-laid line_length d.format.format.asked (body_of text.settled d)
 
+    abbrev pub bars : Bars
+    bars = table_bars options.boxing d.format.format
+
     -- the rows with their places
     abbrev pub places : ℕ → KeptRows
-    places more = record new.rows { columns = placed_with options.boxing more d.format.format.asked new.rows.columns }
+    places more = record new.rows { columns = placed_with bars more d.format.format.asked new.rows.columns }
 
-    pub laid-out : (columns more : ℕ) → columns ≡ min l.columns l.text → width_of_all options.boxing new.rows.columns d.format.format.asked + more < 4294967296
+    pub laid-out : (columns more : ℕ) → columns ≡ min l.columns l.text → width_of_all bars new.rows.columns d.format.format.asked + more < 4294967296
         → RowsLaid text.settled (all_rows d.format.format) (places more) → IsLaidOut text (places more) d.format columns
     laid-out columns more columns_is narrow rows = record {
       laid = RowsLaid-more text.settled (behind_joined text.pending text.line) (all_rows d.format.format) (places more) rows;
       few = omega (
         arith,
         columns_is,
-        length-placed (edge options.boxing)
-            (spread more (total (gaps options.boxing d.format.format.asked)) 0 (gaps options.boxing d.format.format.asked)) new.rows.columns,
+        length-placed (left_edge bars)
+            (spread more (total (gaps bars d.format.format.asked)) 0 (gaps bars d.format.format.asked)) new.rows.columns,
         count-laid,
         fits.keys.columns,
         fits.keys.asked,
         fits.bytes.few,
       );
-      narrow = narrow-parts (places more).columns (placed-narrow options.boxing 4294967296 more d.format.format.asked new.rows.columns (omega (arith, count-laid)) narrow);
+      narrow = narrow-parts (places more).columns (placed-narrow bars 4294967296 more d.format.format.asked new.rows.columns (omega (arith, count-laid)) narrow);
       small = omega (arith, fits.bytes.most, fits.bytes.block, fits.rooms.small, behind-len text.pending text.line, length-append text.settled (behind_joined text.pending text.line), length-append text.settled (behind_joined text.pending []));
     }
 
-    pub lines-are : (width more : ℕ) → more ≡ lacking_by options.boxing options.expanded line_length text.settled d
+    pub lines-are : (width more : ℕ) → more ≡ lacking_by bars options.expanded line_length text.settled d
         → RowsLaid text.settled (all_rows d.format.format) (places more)
-        → lines_laid options.boxing width text (places more) d.format
-        ≡ picture_lines (record { boxing = options.boxing; width = width; columns = (laid_out line_length (table_of phase options text d)).columns })
+        → lines_laid bars width text (places more) d.format
+        ≡ picture_lines (record { bars = bars; width = width; columns = (laid_out line_length (table_of phase options text d)).columns })
         (table_of phase options text d).body
     lines-are width more more_is rows =
         let asked = d.format.format.asked in
-        let sheet : List Column → Sheet = λ cs. record { boxing = options.boxing; width = width; columns = cs } in
-        ap (λ (es : List Element). picture_lines (sheet (placed_with options.boxing more asked new.rows.columns)) es)
+        let sheet : List Column → Sheet = λ cs. record { bars = bars; width = width; columns = cs } in
+        ap (λ (es : List Element). picture_lines (sheet (placed_with bars more asked new.rows.columns)) es)
         (elements_of-laid-more text.settled (behind_joined text.pending text.line) (all_rows d.format.format) (places more) rows ∙ laid.body)
-        ∙ ap (λ (cs : List Column). picture_lines (sheet (placed_with options.boxing more asked cs)) (body_of text.settled d)) laid.columns
-        ∙ ap (λ (n : ℕ). picture_lines (sheet (placed_with options.boxing n asked (columns_by line_length text.settled d))) (body_of text.settled d)) more_is
+        ∙ ap (λ (cs : List Column). picture_lines (sheet (placed_with bars more asked cs)) (body_of text.settled d)) laid.columns
+        ∙ ap (λ (n : ℕ). picture_lines (sheet (placed_with bars n asked (columns_by line_length text.settled d))) (body_of text.settled d)) more_is

@@ -10,7 +10,7 @@ use Rattle.tbl_data.specs.declared.phase.Phase.TheVariants.{Bad, InFormat}
 use Rattle.tbl_data.specs.declared.table_data.TableData.{TableData}
 use Rattle.tbl_format.specs.Format.{Format, format_read, letters_left_out, no_format}
 use Rattle.tbl_format.specs.Notes.{NotesWithin, told_of_all}
-use Rattle.tbl_format.specs.Options.{options_end, options_read}
+use Rattle.tbl_format.specs.Options.{options_end}
 use Rattle.tbl_format.specs.RowsServed.{all_rows}
 use Rattle.tbl_format.specs.declared.format.FormatPlace.{FormatPlace}
 use Rattle.tbl_format.specs.declared.format.FormatPlace.TheVariants.{AtEnd, AtFault, InRows}
@@ -27,7 +27,7 @@ use Rattle.tbl_table.specs.Begun.{FewKeys, begun_in}
 use Rattle.tbl_table.specs.Kept.{FormatReads, HasRooms, PartsFit, PhaseFits, TextFits, block_open, data_read, kept_in, row_open}
 use Rattle.tbl_table.specs.MayTell.{fault_may_come}
 use Rattle.tbl_table.specs.Reading.{Reading, last_read}
-use Rattle.tbl_table.specs.Steps.{built_letters, fault_noted, head_letters, options_told, phase_at_last}
+use Rattle.tbl_table.specs.Steps.{fault_noted, head_letters, options_told, phase_at_last}
 use Rattle.tbl_table.specs.Table.{behind_format, closed, closed_line, format_line, head_line, head_place, is_bad, is_bad_phase, left_out_notes, line_in, line_read, notes, with_options}
 use Rattle.tbl_data.specs.DataRead.{closed_block}
 use Rattle.tbl_data.specs.TableRead.{RowBegun}
@@ -212,20 +212,18 @@ bad-format n line t done =
     let ks = line ++ newline ∷ [] in
     bad-keys (format_read t.format ks).place n (read_further n ks t) (record { alone = done.alone; closed = done.closed })
 
-bad-built : (built : Bool) (n : ℕ) (line : List ℕ) (t : TableRead) → IsDone t → t.format ≡ no_format
-    → is_bad_phase (phase_at_last (if built then (format_read no_format (line ++ newline ∷ [])).place else AtFault))
-    ≡ is_bad (closed (if built then format_line n line t else bad n t))
-bad-built true n line t done no_keys =
+bad-first : (n : ℕ) (line : List ℕ) (t : TableRead) → IsDone t → t.format ≡ no_format
+    → is_bad_phase (phase_at_last (format_read no_format (line ++ newline ∷ [])).place) ≡ is_bad (closed (format_line n line t))
+bad-first n line t done no_keys =
     let ks = line ++ newline ∷ [] in
     ap (λ (f : Format). is_bad_phase (phase_at_last (format_read f ks).place)) (sym no_keys) ∙ bad-format n line t done
-bad-built false n line t done no_keys = bad-keys AtFault n t done
 
 -- and a first line
 pub bad-head : (end : Option ℕ) (n : ℕ) (line : List ℕ) (t : TableRead) → IsDone t → t.format ≡ no_format
     → is_bad_phase (phase_at_last (head_place end line)) ≡ is_bad (closed (head_line end n line t))
-bad-head None n line t done no_keys = bad-built true n line t done no_keys
+bad-head None n line t done no_keys = bad-first n line t done no_keys
 bad-head (Some end) n line t done no_keys =
-    bad-built (options_read (take end line)).are_built n (drop (suc end) line) (with_options n (take end line) t)
+    bad-first n (drop (suc end) line) (with_options n (take end line) t)
     (record { alone = done.alone; closed = done.closed }) no_keys
 
 -- and its messages
@@ -250,22 +248,20 @@ module _ (block : List ℕ) (kept : KeptNotes) where
       let said = says ∙ ap (λ (ls : List ℕ). t.notes ++ told_of_letters n ls) (sym (letters-newline t.format line)) in
       told-keys (format_read t.format ks).place n (read_further n ks t) (record { alone = done.alone; closed = done.closed }) said
 
-  told-built : (built : Bool) (n : ℕ) (line : List ℕ) (t : TableRead) → IsDone t → t.format ≡ no_format
-      → told_of_all block kept.notes ≡ t.notes ++ told_of_letters n (built_letters built t.format line)
-      → told_of_all block (fault_noted (if built then (format_read no_format (line ++ newline ∷ [])).place else AtFault) n kept).notes
-      ≡ notes (closed (if built then format_line n line t else bad n t))
-  told-built true n line t done no_keys says =
+  told-first : (n : ℕ) (line : List ℕ) (t : TableRead) → IsDone t → t.format ≡ no_format
+      → told_of_all block kept.notes ≡ t.notes ++ told_of_letters n (letters_left_out t.format line)
+      → told_of_all block (fault_noted (format_read no_format (line ++ newline ∷ [])).place n kept).notes ≡ notes (closed (format_line n line t))
+  told-first n line t done no_keys says =
       let ks = line ++ newline ∷ [] in
       ap (λ (f : Format). told_of_all block (fault_noted (format_read f ks).place n kept).notes) (sym no_keys) ∙ told-format n line t done says
-  told-built false n line t done no_keys says = told-keys AtFault n t done (says ∙ append-nil t.notes)
 
   pub told-head : (end : Option ℕ) (n : ℕ) (line : List ℕ) (t : TableRead) → IsDone t → t.format ≡ no_format
       → told_of_all block kept.notes ≡ (t.notes ++ options_told end n line) ++ told_of_letters n (head_letters end t.format line)
       → told_of_all block (fault_noted (head_place end line) n kept).notes ≡ notes (closed (head_line end n line t))
   told-head None n line t done no_keys says =
-      told-built true n line t done no_keys (says ∙ ap (λ (ts : List Told). ts ++ told_of_letters n (letters_left_out t.format line)) (append-nil t.notes))
+      told-first n line t done no_keys (says ∙ ap (λ (ts : List Told). ts ++ told_of_letters n (letters_left_out t.format line)) (append-nil t.notes))
   told-head (Some end) n line t done no_keys says =
-      told-built (options_read (take end line)).are_built n (drop (suc end) line) (with_options n (take end line) t)
+      told-first n (drop (suc end) line) (with_options n (take end line) t)
       (record { alone = done.alone; closed = done.closed }) no_keys says
 
 -- a line, by what is read

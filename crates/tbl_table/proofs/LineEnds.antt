@@ -1,20 +1,19 @@
 -- A whole line of the data is done: the parts hold together, and give the table behind it.
-use Rattle.std.proofs.Common.{◌≡◌, ◌==◌, ℕ, ◌+◌, ◌-◌, ◌<◌, ◌≤◌, ◌⊎◌, inl, inr, min, All, true, false, List, [], ◌∷◌, ◌++◌, length, map, take, drop, get_or, Option, Some, None, refl, sym, ap, subst, ◌∙◌, arith, append-nil, append_assoc, length-append}
+use Rattle.std.proofs.Common.{◌≡◌, ℕ, ◌+◌, ◌-◌, ◌<◌, ◌≤◌, ◌⊎◌, inl, inr, List, [], ◌∷◌, ◌++◌, length, map, take, drop, get_or, Option, Some, None, refl, sym, ap, subst, ◌∙◌, arith, append-nil, append_assoc, length-append}
 use Rattle.std.proofs.lemmas.List.{drop_at, length-map, take_at}
 use Rattle.std.proofs.Math.Seq.{get_or-append_seam}
 use Rattle.std.proofs.Math.ListN.{get_or-append}
 use Rattle.std.specs.List.{slice_range, AllByRecursion}
 use Rattle.roff_source.specs.Bytes.{newline}
 use Rattle.tbl_data.specs.DataRead.{whole_line, with_whole}
-use Rattle.tbl_data.specs.TableData.{DataFits, ElementEnds, EndsBy, EntryEnds, FitsBehind, LastEndsAt, OpenBehind, OpenEndsAt, SameRooms, StandsBehind, begun_by, row_with_block, table_by}
-use Rattle.tbl_data.specs.TableRead.{RowBegun, TableRead}
+use Rattle.tbl_data.specs.TableData.{DataFits, ElementEnds, EndsBy, FitsBehind, LastEndsAt, OpenBehind, OpenEndsAt, SameRooms, begun_by, table_by}
+use Rattle.tbl_data.specs.TableRead.{TableRead}
 use Rattle.tbl_data.specs.declared.phase.Phase.{Phase}
 use Rattle.tbl_data.specs.declared.phase.Phase.TheVariants.{AtHead, Bad, InData, InFormat}
 use Rattle.tbl_data.specs.declared.table_data.OpenBlock.{OpenBlock}
 use Rattle.tbl_data.specs.declared.table_data.OpenBlock.TheVariants.{Dropped, Kept, Nothing as NoBlock}
 use Rattle.tbl_data.specs.declared.table_data.TableData.{TableData}
-use Rattle.tbl_format.specs.Format.{Format, FormatRow, further}
-use Rattle.tbl_format.specs.FormatRows.{keys_of}
+use Rattle.tbl_format.specs.Format.{Format, further}
 use Rattle.tbl_format.specs.Notes.{NotesWithin, told_of_all}
 use Rattle.tbl_format.specs.RowsServed.{all_rows, row_at}
 use Rattle.tbl_format.specs.declared.limits.TblLimits.{TblLimits}
@@ -22,22 +21,21 @@ use Rattle.tbl_format.specs.declared.notes.KeptNote.{KeptNote}
 use Rattle.tbl_format.specs.declared.options.Options.{Options}
 use Rattle.tbl_format.proofs.FormatReading.{keys_of-append}
 use Rattle.tbl_kept.specs.Joined.{Joined, behind_joined, ends_joined}
-use Rattle.tbl_kept.specs.Rows.{element_of, elements_of, entries_of}
+use Rattle.tbl_kept.specs.Rows.{element_of, entries_of}
 use Rattle.tbl_kept.specs.TableText.{KeptText, block_of, text_ended}
-use Rattle.tbl_layout.specs.Entries.{Content, Element}
+use Rattle.tbl_layout.specs.Entries.{Content}
 use Rattle.tbl_layout.specs.KeptEntries.{content_of}
 use Rattle.tbl_layout.specs.declared.entry.Entry.{Entry}
 use Rattle.tbl_table.specs.Begun.{begun_in}
-use Rattle.tbl_table.specs.Kept.{DataReads, EndFits, HasRooms, KeysFit, NotesFit, PartsFit, PhaseFits, RowsFit, TextFits, block_open, data_read, kept_in, reading_of, row_open, table_of}
+use Rattle.tbl_table.specs.Kept.{DataReads, HasRooms, PartsFit, PhaseFits, block_open, data_read, kept_in, reading_of, row_open, table_of}
 use Rattle.tbl_table.specs.MayTell.{fault_may_come, line_may_tell}
-use Rattle.tbl_table.specs.Reading.{Reading}
 use Rattle.tbl_table.specs.Steps.{ended_with}
 use Rattle.tbl_table.specs.declared.begun.Begun.{Begun}
-use Rattle.tbl_table.proofs.DataGrows.{DataFits-more, Lies-behind, Lies-data, behind-less, behind-more, table-more}
+use Rattle.tbl_table.proofs.DataGrows.{DataFits-more, Lies-behind, Lies-data, behind-more, table-more}
 use Rattle.tbl_table.proofs.DataLies.{fields-kept, lies-kept, lies-longer}
-use Rattle.tbl_table.proofs.FormatLines.{IsCounted, KeysFit-start, text-ends, whole-len}
+use Rattle.tbl_table.proofs.FormatLines.{IsCounted, KeysFit-start, text-ends}
 use Rattle.tbl_table.proofs.NotesKept.{NotesWithin-more, told-longer}
-use Rattle.tbl_table.proofs.TableFits.{behind-len, ended-read, kept-most}
+use Rattle.tbl_table.proofs.TableFits.{ended-read, kept-most}
 use Rattle.tbl_table.proofs.WholeLines.{Makes, makes-whole, one_begun}
 
 -- what a whole line has made of what is kept, which lies there in the bytes

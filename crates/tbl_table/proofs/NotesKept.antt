@@ -1,5 +1,5 @@
 -- Messages that are kept, where the bytes of the table grow.
-use Rattle.std.proofs.Common.{◌≡◌, ℕ, ◌+◌, ◌≤◌, List, [], ◌∷◌, ◌++◌, length, map, refl, ap, ◌∙◌, arith}
+use Rattle.std.proofs.Common.{◌≡◌, ℕ, ◌≤◌, List, [], ◌∷◌, ◌++◌, length, map, refl, ap, ◌∙◌, arith}
 use Rattle.std.proofs.lemmas.List.{map-append}
 use Rattle.tbl_format.specs.Notes.{IsWithin, NotesWithin, ignored_message, left_out_note, told_at, told_of, told_of_all}
 use Rattle.tbl_format.specs.declared.message.Told.{Told}

@@ -3,7 +3,7 @@ use Rattle.std.proofs.Common.{ℕ, suc, ◌+◌, ◌-◌, Bool, true, false, not
 use Rattle.std.specs.Prelude.{take_while, is_none}
 use Rattle.roff_source.specs.Bytes.{newline}
 use Rattle.tbl_format.specs.Format.{Format, format_read}
-use Rattle.tbl_format.specs.Options.{options_end, options_read}
+use Rattle.tbl_format.specs.Options.{options_end}
 use Rattle.tbl_format.specs.declared.format.FormatPlace.{FormatPlace}
 use Rattle.tbl_format.specs.declared.format.FormatPlace.TheVariants.{AtEnd, AtFault, InRows}
 use Rattle.tbl_format.specs.declared.message.Told.{Told}
@@ -50,17 +50,14 @@ format_stays n line t =
     (place_stays f.place n (record (with_notes told t) { format = f }))
 
 -- and behind options
-options_stay : (built : Bool) (n : ℕ) (text line : List ℕ) (t : TableRead)
-    → Begins t.notes (if built then format_line n line (with_options n text t) else bad n (with_options n text t)).notes
-options_stay true n text line t =
+options_stay : (n : ℕ) (text line : List ℕ) (t : TableRead) → Begins t.notes (format_line n line (with_options n text t)).notes
+options_stay n text line t =
     begins_behind t.notes (with_options n text t).notes (format_line n line (with_options n text t)).notes
     (begins_longer t.notes _) (format_stays n line (with_options n text t))
-options_stay false n text line t =
-    begins_behind t.notes (with_options n text t).notes (bad n (with_options n text t)).notes (begins_longer t.notes _) (begins_longer (with_options n text t).notes _)
 
 head_stays : (end : Option ℕ) (n : ℕ) (line : List ℕ) (t : TableRead) → Begins t.notes (head_line end n line t).notes
 head_stays None n line t = format_stays n line t
-head_stays (Some end) n line t = options_stay (options_read (take end line)).are_built n (take end line) (drop (suc end) line) t
+head_stays (Some end) n line t = options_stay n (take end line) (drop (suc end) line) t
 
 -- a row that is whole, or of which a text block opens
 open_stays : (opens : Bool) (row : RowBegun) (t : TableRead) → Begins t.notes (with_open_row opens row t).notes

@@ -3,7 +3,7 @@ use Rattle.std.proofs.Common.{◌≡◌, ℕ, suc, ◌+◌, ◌-◌, ◌≤◌, 
 use Rattle.std.specs.Prelude.{take_while, is_none, is_some}
 use Rattle.roff_source.specs.Bytes.{newline}
 use Rattle.tbl_format.specs.Format.{format_read}
-use Rattle.tbl_format.specs.Options.{options_end, options_read}
+use Rattle.tbl_format.specs.Options.{options_end}
 use Rattle.tbl_format.specs.declared.format.FormatPlace.{FormatPlace}
 use Rattle.tbl_format.specs.declared.format.FormatPlace.TheVariants.{AtEnd, AtFault, InRows}
 use Rattle.tbl_format.specs.declared.message.Told.{Told}
@@ -40,14 +40,10 @@ line-rows n line t =
     let f = format_read t.format (line ++ newline ∷ []) in
     format-rows f.place n (record (with_notes (left_out_notes n t.format (line ++ newline ∷ [])) t) { format = f })
 
-options-rows : (built : Bool) (n : ℕ) (line : List ℕ) (t : TableRead) → (if built then format_line n line t else bad n t).body ≡ t.body
-options-rows true n line t = line-rows n line t
-options-rows false n line t = refl
-
 head-rows : (end : Option ℕ) (n : ℕ) (line : List ℕ) (t : TableRead) → (head_line end n line t).body ≡ t.body
 head-rows None n line t = line-rows n line t
 head-rows (Some end) n line t =
-    options-rows (options_read (take end line)).are_built n (drop (suc end) line) (with_options n (take end line) t)
+    line-rows n (drop (suc end) line) (with_options n (take end line) t)
 
 -- a row that isn't whole yet adds none either
 open-rows : (opens : Bool) (row : RowBegun) (t : TableRead) → length (with_open_row opens row t).body ≡ length t.body + one-if (not opens)

@@ -1,5 +1,5 @@
 -- What is told and given at the end of a table.
-use Rattle.std.proofs.Common.{◌≡◌, ℕ, ◌-◌, ◌<◌, ◌≤◌, ◌^◌, min, Bool, true, false, nat_lt, List, [], ◌++◌, Option, Some, None, refl, sym, ap, ◌∙◌, arith, if◌then◌else◌}
+use Rattle.std.proofs.Common.{◌≡◌, ℕ, ◌-◌, ◌<◌, ◌≤◌, ◌^◌, min, Bool, true, false, nat_lt, List, ◌++◌, Option, Some, None, refl, sym, ap, ◌∙◌, arith, if◌then◌else◌}
 use Rattle.std.specs.Prelude.{is_some}
 use Rattle.std.proofs.lemmas.Bool.Decides.{nat_tests}
 use Rattle.roff_num.specs.declared.limit.Limit.{Limit}
@@ -13,7 +13,7 @@ use Rattle.tbl_format.specs.declared.limits.TblLimits.{TblLimits}
 use Rattle.tbl_format.specs.declared.message.Told.{Told}
 use Rattle.tbl_kept.specs.Joined.{Joined}
 use Rattle.tbl_layout.specs.Entries.{Content}
-use Rattle.tbl_table.specs.Reading.{Reading, given_at_end, given_behind, limit_at_end, limit_of, output_or_read, told_at_end, told_behind}
+use Rattle.tbl_table.specs.Reading.{Reading, given_at_end, given_behind, limit_at_end, output_or_read, told_at_end, told_behind}
 use Rattle.tbl_table.specs.Steps.{given_within, width_met}
 use Rattle.tbl_data.specs.declared.phase.Phase.{Phase}
 use Rattle.tbl_data.specs.declared.phase.Phase.TheVariants.{InData}

@@ -1,28 +1,27 @@
 -- The parts of a table hold together in front of its first line, and behind more bytes of a line.
-use Rattle.std.proofs.Common.{◌≡◌, ◌==◌, ℕ, ◌+◌, ◌-◌, ◌<◌, ◌≤◌, min, All, true, false, List, [], ◌∷◌, ◌++◌, length, Option, Some, None, refl, sym, ap, subst, ◌∙◌, arith, append_assoc, length-append}
+use Rattle.std.proofs.Common.{◌≡◌, ◌==◌, ℕ, ◌+◌, ◌-◌, ◌<◌, ◌≤◌, All, true, false, List, [], ◌∷◌, ◌++◌, length, Option, Some, None, refl, sym, subst, ◌∙◌, arith, append_assoc, length-append}
 use Rattle.std.specs.Prelude.{is_some}
 use Rattle.std.proofs.lemmas.List.Elements.{All-append, All-nil}
 use Rattle.roff_escape.specs.EscapeTexts.{KeptEscapes}
 use Rattle.roff_source.specs.Bytes.{newline}
-use Rattle.tbl_data.specs.TableData.{BadFits, DataFits, FormatFits}
+use Rattle.tbl_data.specs.TableData.{FormatFits}
 use Rattle.tbl_data.specs.declared.phase.Phase.{Phase}
 use Rattle.tbl_data.specs.declared.phase.Phase.TheVariants.{AtHead, Bad, InData, InFormat}
-use Rattle.tbl_data.specs.declared.table_data.OpenBlock.TheVariants.{Nothing as NoBlock}
 use Rattle.tbl_data.specs.declared.table_data.TableData.{TableData}
-use Rattle.tbl_format.specs.Format.{Format, no_format}
+use Rattle.tbl_format.specs.Format.{Format}
 use Rattle.tbl_format.specs.KeyCounts.{StandsOnLine}
-use Rattle.tbl_format.specs.Notes.{NotesWithin, told_of_all}
+use Rattle.tbl_format.specs.Notes.{NotesWithin}
 use Rattle.tbl_format.specs.RowsServed.{all_rows}
 use Rattle.tbl_format.specs.declared.limits.TblLimits.{TblLimits}
 use Rattle.tbl_format.specs.declared.notes.Cause.TheVariants.{BadFormat}
 use Rattle.tbl_format.specs.declared.notes.KeptNote.{KeptNote}
 use Rattle.tbl_format.proofs.StepPlaces.{stands-longer}
 use Rattle.tbl_kept.specs.Joined.{Joined, behind_joined}
-use Rattle.tbl_kept.specs.TableText.{KeptText, block_of, no_text, text_ended}
+use Rattle.tbl_kept.specs.TableText.{KeptText, no_text, text_ended}
 use Rattle.tbl_kept.proofs.RowsKeeping.{RowBegunKept-first, RowsKept-none}
 use Rattle.tbl_table.specs.Begun.{FewKeys, begun_in}
-use Rattle.tbl_table.specs.Kept.{FaultRead, FormatReads, HasRooms, KeysFit, NotesFit, PartsFit, PhaseFits, RowsFit, TextFits, data_read, kept_in, row_open}
-use Rattle.tbl_table.specs.MayTell.{fault_may_come, line_may_tell}
+use Rattle.tbl_table.specs.Kept.{FormatReads, HasRooms, PartsFit, PhaseFits, kept_in}
+use Rattle.tbl_table.specs.MayTell.{fault_may_come}
 use Rattle.tbl_table.specs.Steps.{data_refused, emptied, is_front}
 use Rattle.tbl_table.specs.declared.begun.Begun.{Begun}
 use Rattle.tbl_table.specs.declared.begun.Begun.TheVariants.{Front, Keys, Nothing}

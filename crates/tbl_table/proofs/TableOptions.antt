@@ -1,21 +1,19 @@
 -- The first line of a table.
-use Rattle.std.proofs.Common.{◌≡◌, ℕ, suc, ◌+◌, ◌-◌, ◌<◌, ◌≤◌, Bool, true, false, List, [], ◌∷◌, ◌++◌, length, map, take, drop, fold, Option, Some, None, refl, sym, ap, subst, ◌∙◌, arith, append-nil, length-append, length-drop, if◌then◌else◌}
+use Rattle.std.proofs.Common.{◌≡◌, ℕ, suc, ◌+◌, ◌-◌, ◌<◌, ◌≤◌, false, List, [], ◌∷◌, ◌++◌, length, map, take, drop, fold, Option, Some, None, refl, sym, ap, subst, ◌∙◌, arith, append-nil, length-drop}
 use Rattle.std.specs.Prelude.{IfSome, unwrap_or}
 use Rattle.std.specs.List.{slice_range}
-use Rattle.std.proofs.lemmas.List.{drop-append-le, length-map, take-append-le}
+use Rattle.std.proofs.lemmas.List.{drop-append-le, take-append-le}
 use Rattle.roff_source.specs.Bytes.{newline}
 use Rattle.tbl_data.specs.TableData.{begun_by}
-use Rattle.tbl_data.specs.TableRead.{TableRead, bad}
+use Rattle.tbl_data.specs.TableRead.{TableRead}
 use Rattle.tbl_data.specs.declared.phase.Phase.{Phase}
 use Rattle.tbl_data.specs.declared.phase.Phase.TheVariants.{AtHead}
 use Rattle.tbl_data.specs.declared.table_data.TableData.{TableData}
 use Rattle.tbl_format.specs.Format.{Format, format_read, letters_left_out, no_format}
-use Rattle.tbl_format.specs.FormatRows.{key_count}
 use Rattle.tbl_format.specs.KeyCounts.{StandsOnLine}
-use Rattle.tbl_format.specs.Notes.{NotesWithin, left_out_note, told_of_all}
-use Rattle.tbl_format.specs.Options.{bracketed, options_end, options_read}
+use Rattle.tbl_format.specs.Notes.{NotesWithin, told_of_all}
+use Rattle.tbl_format.specs.Options.{bracketed, options_end}
 use Rattle.tbl_format.specs.RowsServed.{all_rows}
-use Rattle.tbl_format.specs.declared.format.FormatPlace.TheVariants.{AtFault}
 use Rattle.tbl_format.specs.declared.limits.TblLimits.{TblLimits}
 use Rattle.tbl_format.specs.declared.message.Told.{Told}
 use Rattle.tbl_format.specs.declared.options.Options.{Options}
@@ -29,12 +27,12 @@ use Rattle.tbl_kept.specs.TableText.{KeptText, block_of, text_ended}
 use Rattle.tbl_layout.specs.KeptEntries.{content_of}
 use Rattle.tbl_table.specs.Begun.{begun_in, head_begun}
 use Rattle.tbl_table.specs.Kept.{NothingRead, PartsFit, PhaseFits, kept_in, reading_of}
-use Rattle.tbl_table.specs.Steps.{built_format, built_letters, built_place, ended_with, head_letters, letters_noted, phase_behind, with_built_keys}
-use Rattle.tbl_table.specs.Table.{behind_format, columns_behind, columns_of, format_line, head_columns}
+use Rattle.tbl_table.specs.Steps.{ended_with, head_letters, letters_noted, phase_behind, with_keys}
+use Rattle.tbl_table.specs.Table.{behind_format, columns_of, format_line, head_columns}
 use Rattle.tbl_table.specs.declared.begun.Begun.{Begun}
 use Rattle.tbl_table.specs.declared.begun.Begun.TheVariants.{Front}
 use Rattle.tbl_table.proofs.BegunLines.{columns-some, columns-whole, newline-goes_on}
-use Rattle.tbl_table.proofs.FormatEnds.{Extends-refl, format-ended, format-extends, rows-keyed}
+use Rattle.tbl_table.proofs.FormatEnds.{format-ended, format-extends, rows-keyed}
 use Rattle.tbl_table.proofs.FormatLines.{IsCounted, format-behind, keys-fits, keys-read, untold-behind}
 use Rattle.tbl_table.proofs.FormatTaken.{made}
 use Rattle.tbl_table.proofs.NotesKept.{NotesWithin-letters, letters-said, told_of_letters}
@@ -48,7 +46,7 @@ columns-head-none line none =
     sym (columns-whole line inside begun newline refl (newline-goes_on inside))
 
 pub columns-head-some : (line : List ℕ) (end : ℕ) → options_end line ≡ Some end
-    → head_columns (options_end (line ++ newline ∷ [])) (line ++ newline ∷ []) ≡ columns_behind (take end line) (drop (suc end) line ++ newline ∷ [])
+    → head_columns (options_end (line ++ newline ∷ [])) (line ++ newline ∷ []) ≡ columns_of (format_read no_format (drop (suc end) line ++ newline ∷ []))
 columns-head-some line end is = columns-some line newline end is
 
 module _ (l : TblLimits) (phase : Phase) (begun : Begun) (text : KeptText) (d : TableData) (fits : PartsFit l phase begun text d) where
@@ -61,22 +59,15 @@ module _ (l : TblLimits) (phase : Phase) (begun : Begun) (text : KeptText) (d : 
     noted-within : (letters : List ℕ) → NotesWithin (length (text_ended text).settled) (letters_noted number letters kept).notes
     noted-within letters = NotesWithin-letters (length (text_ended text).settled) number kept.notes letters within
 
-    few-without : (letters : List ℕ) → length (letters_noted number letters kept).notes ≤ length text.read + length text.line + 1
-        → length kept.notes ≤ length text.read + length text.line + 1
-    few-without letters few = omega (arith, few, length-append kept.notes (map (left_out_note number) letters))
-
-    pub options-fits : (are_built : Bool) → IsCounted l (length text.read + length text.line + 1) (built_format are_built d.format.format keys)
-        → length (letters_noted number (built_letters are_built d.format.format keys) kept).notes ≤ length text.read + length text.line + 1
-        → PartsFit l (phase_behind (built_place are_built d.format.format keys))
-        (begun_in (phase_behind (built_place are_built d.format.format keys)) (built_format are_built d.format.format keys) []) (text_ended text)
-        (with_built_keys are_built number keys (record d { notes = kept }))
-    options-fits true counted few =
+    pub options-fits : IsCounted l (length text.read + length text.line + 1) (format_read d.format.format keys)
+        → length (letters_noted number (letters_left_out d.format.format keys) kept).notes ≤ length text.read + length text.line + 1
+        → PartsFit l (phase_behind (format_read d.format.format keys).place)
+        (begun_in (phase_behind (format_read d.format.format keys).place) (format_read d.format.format keys) []) (text_ended text)
+        (with_keys number keys (record d { notes = kept }))
+    options-fits counted few =
         keys-fits l phase begun text d fits (format_read d.format.format keys) (letters_noted number (letters_left_out d.format.format keys) kept) number
         (record { alone = nothing.alone; fits = nothing.fits }) all (format-extends d.format.format keys) (columns-read [] d.format.format keys) room counted few
         (noted-within (letters_left_out d.format.format keys)) to_tell same (format_read d.format.format keys).place (format-ended d.format.format keys fits.keys.ended)
-    options-fits false counted few =
-        keys-fits l phase begun text d fits d.format.format kept number (record { alone = nothing.alone; fits = nothing.fits }) all (Extends-refl d.format.format) (omega arith) room counted
-        (few-without [] few) within to_tell same AtFault tt
 
     module _ (options before : Options) (said : List Told) (says : told_of_all (text_ended text).settled kept.notes ≡ said) where
       -- the table with these options
@@ -85,35 +76,30 @@ module _ (l : TblLimits) (phase : Phase) (begun : Begun) (text : KeptText) (d : 
           made phase options d.format.format (d.keys - length d.format.format.earlier) text.pending (begun_by d.open (map (content_of text.settled) d.rows.row))
           (elements_of text.settled (all_rows d.format.format) d.rows.elements) said
 
-      pub options-made : (are_built : Bool) (line : List ℕ) → keys ≡ line ++ newline ∷ [] → IsCounted l (length text.read + length text.line + 1) (built_format are_built d.format.format keys)
-          → length (letters_noted number (built_letters are_built d.format.format keys) kept).notes ≤ length text.read + length text.line + 1
-          → reading_of (phase_behind (built_place are_built d.format.format keys)) options (text_ended text) (with_built_keys are_built number keys (record d { notes = kept }))
-          ≡ ended_with (if are_built then format_line number line with_options_said else bad number with_options_said) (reading_of phase before text d)
-      options-made true line is counted few =
+      pub options-made : (line : List ℕ) → keys ≡ line ++ newline ∷ [] → IsCounted l (length text.read + length text.line + 1) (format_read d.format.format keys)
+          → length (letters_noted number (letters_left_out d.format.format keys) kept).notes ≤ length text.read + length text.line + 1
+          → reading_of (phase_behind (format_read d.format.format keys).place) options (text_ended text) (with_keys number keys (record d { notes = kept }))
+          ≡ ended_with (format_line number line with_options_said) (reading_of phase before text d)
+      options-made line is counted few =
           keys-read l phase begun text d fits (format_read d.format.format keys) (letters_noted number (letters_left_out d.format.format keys) kept) number
           (record { alone = nothing.alone; fits = nothing.fits }) all (format-extends d.format.format keys) (columns-read [] d.format.format keys) room counted few
           (noted-within (letters_left_out d.format.format keys)) to_tell same options before (said ++ told_of_letters number (letters_left_out d.format.format keys))
           (letters-said (text_ended text).settled kept.notes number (letters_left_out d.format.format keys) said says) (format_read d.format.format keys).place
           ∙ ap (λ (ks : List ℕ). ended_with (behind_format (format_read d.format.format ks).place number (made phase options (format_read d.format.format ks) (d.keys - length d.format.format.earlier) text.pending (begun_by d.open (map (content_of text.settled) d.rows.row)) (elements_of text.settled (all_rows d.format.format) d.rows.elements) (said ++ told_of_letters number (letters_left_out d.format.format ks)))) (reading_of phase before text d)) is
-      options-made false line is counted few =
-          keys-read l phase begun text d fits d.format.format kept number (record { alone = nothing.alone; fits = nothing.fits }) all (Extends-refl d.format.format) (omega arith) room counted
-          (few-without [] few) within to_tell same options before said says AtFault
 
-pub built-is : (are_built : Bool) (number : ℕ) (keys : List ℕ) (d : TableData) → (with_built_keys are_built number keys d).format.format ≡ built_format are_built d.format.format keys
-built-is true number keys d =
+pub keys-format : (number : ℕ) (keys : List ℕ) (d : TableData) → (with_keys number keys d).format.format ≡ format_read d.format.format keys
+keys-format number keys d =
     format-behind (format_read d.format.format keys).place number (letters_noted number (letters_left_out d.format.format keys) d.notes) (format_read d.format.format keys) d
-built-is false number keys d = refl
 
-pub built-untold : (are_built : Bool) (number : ℕ) (keys : List ℕ) (d : TableData) → (with_built_keys are_built number keys d).notes.to_tell ≡ d.notes.to_tell
-built-untold true number keys d =
+pub keys-untold : (number : ℕ) (keys : List ℕ) (d : TableData) → (with_keys number keys d).notes.to_tell ≡ d.notes.to_tell
+keys-untold number keys d =
     untold-behind (format_read d.format.format keys).place number (letters_noted number (letters_left_out d.format.format keys) d.notes) (format_read d.format.format keys) d
-built-untold false number keys d = refl
 
--- what is counted of keys that count
-pub built-counted : (l : TblLimits) (len : ℕ) (f : Format) (keys line : List ℕ) (are_built : Bool) → keys ≡ line ++ newline ∷ [] → IsCounted l len f
-    → length (built_format are_built f keys).asked ≤ l.columns → length (built_format are_built f keys).row ≤ length (built_format are_built f keys).asked
-    → IsCounted l (len + length keys) (built_format are_built f keys)
-built-counted l len f keys line true is counted columns row = record {
+-- what is counted of keys
+pub keys-counted : (l : TblLimits) (len : ℕ) (f : Format) (keys line : List ℕ) → keys ≡ line ++ newline ∷ [] → IsCounted l len f
+    → length (format_read f keys).asked ≤ l.columns → length (format_read f keys).row ≤ length (format_read f keys).asked
+    → IsCounted l (len + length keys) (format_read f keys)
+keys-counted l len f keys line is counted columns row = record {
   keys = omega (arith, keys-read-most [] f keys, counted.keys);
   asked = omega (arith, columns-read-most [] f keys, counted.asked);
   columns = columns;
@@ -121,15 +107,6 @@ built-counted l len f keys line true is counted columns row = record {
   rows = rows-keyed f (format_read f keys) (format-extends f keys) counted.rows;
   ended = format-ended f keys counted.ended;
   stands = subst (λ (ks : List ℕ). StandsOnLine 0 (format_read f ks).place) (sym is) (line-stands f line);
-}
-built-counted l len f keys line false is counted columns row = record {
-  keys = omega (arith, counted.keys);
-  asked = omega (arith, counted.asked);
-  columns = counted.columns;
-  row = counted.row;
-  rows = counted.rows;
-  ended = counted.ended;
-  stands = counted.stands;
 }
 
 -- the block of a first line alone
@@ -155,17 +132,7 @@ head-options line block end is within =
     let same : end - 0 ≡ end = omega arith in
     ap (λ (n : ℕ). take n block) same ∙ ap (λ (xs : List ℕ). take end xs) is ∙ take-append-le end line (newline ∷ []) (omega (arith, within))
 
-pub columns-bound : (f : Format) (ks : List ℕ) (are_built : Bool) (most : ℕ) → f ≡ no_format
-    → (if are_built then columns_of (format_read no_format ks) else 0) ≤ most → length (built_format are_built f ks).asked ≤ most
-columns-bound f ks true most none few = subst (λ (g : Format). length (format_read g ks).asked ≤ most) (sym none) few
-columns-bound f ks false most none few = omega (arith, ap (λ (g : Format). length g.asked) none)
-
--- what is left out of keys has no more letters than they have bytes
-pub letters-bound : (f : Format) (ks : List ℕ) (are_built : Bool) → length (built_letters are_built f ks) ≤ length ks
-letters-bound f ks true = letters-few f ks
-letters-bound f ks false = omega arith
-
 pub head-letters-bound : (end : Option ℕ) (f : Format) (line : List ℕ) → IfSome end (λ e. e < length line) → length (head_letters end f line) + unwrap_or end 0 ≤ length line
 head-letters-bound None f line within = omega (arith, letters-few f line)
 head-letters-bound (Some end) f line within =
-    omega (arith, within, letters-bound f (drop (suc end) line) (options_read (take end line)).are_built, length-drop (suc end) line)
+    omega (arith, within, letters-few f (drop (suc end) line), length-drop (suc end) line)

@@ -1,7 +1,7 @@
 -- What a whole line of the data makes of a table: a row at most, also if it is only begun, and a further format or the same.
 use Rattle.std.proofs.Common.{◌≡◌, ℕ, ◌+◌, ◌-◌, ◌≤◌, ◌⊎◌, inl, inr, Bool, true, false, not, ◌&&◌, ◌||◌, List, [], ◌∷◌, ◌++◌, length, map, take, drop, Option, Some, None, refl, ap, arith, length-append, nat_lt, if◌then◌else◌}
-use Rattle.std.specs.Prelude.{take_while, is_none, is_some}
-use Rattle.tbl_format.specs.Format.{Format, further}
+use Rattle.std.specs.Prelude.{take_while, is_none}
+use Rattle.tbl_format.specs.Format.{further}
 use Rattle.tbl_format.specs.declared.message.Told.{Told}
 use Rattle.tbl_kept.specs.Joined.{line_at}
 use Rattle.tbl_layout.specs.Data.{fields}

@@ -1,8 +1,8 @@
 -- What is known of a line of the options or the format before it has ended.
-use Rattle.std.specs.Prelude.{ℕ, suc, ◌-◌, ◌≤◌, Bool, false, List, length, take, drop, fold, Option, None, Some, if◌then◌else◌}
+use Rattle.std.specs.Prelude.{ℕ, suc, ◌-◌, ◌≤◌, false, List, length, drop, fold, Option, None, Some}
 use Rattle.tbl_format.specs.Format.{Format, format_read, has_some, no_format}
 use Rattle.tbl_format.specs.KeyCounts.{IsCount}
-use Rattle.tbl_format.specs.Options.{bracketed, options_end, options_read}
+use Rattle.tbl_format.specs.Options.{bracketed, options_end}
 use Rattle.tbl_table.specs.declared.begun.Begun.{Begun}
 use Rattle.tbl_table.specs.declared.begun.Begun.TheVariants.{Front, Keys, Nothing}
 use Rattle.tbl_format.specs.declared.key_count.KeyCount.{KeyCount}
@@ -20,14 +20,10 @@ count_of f = record {
   columns = length f.asked;
 }
 
--- behind options that end before a place, by whether they are laid out
-abbrev pub built_begun : Bool → ℕ → List ℕ → Begun
-built_begun is_built start line = if is_built then Keys start (count_of (format_read no_format line)) else Nothing
-
 -- of the first line, by where its options end
 abbrev pub head_begun : Option ℕ → List ℕ → Begun
 head_begun None line = Front (fold bracketed false line)
-head_begun (Some end) line = built_begun (options_read (take end line)).are_built (suc end) (drop (suc end) line)
+head_begun (Some end) line = Keys (suc end) (count_of (format_read no_format (drop (suc end) line)))
 
 -- by what is read, of the format so far and the bytes of the line
 abbrev pub begun_in : Phase → Format → List ℕ → Begun

@@ -1,10 +1,10 @@
 -- A table that is laid out.
-use Rattle.std.specs.Prelude.{◌≡◌, ℕ, ◌+◌, ◌<◌, ◌^◌, Bool, List}
+use Rattle.std.specs.Prelude.{◌≡◌, ℕ, Bool, List}
 use Rattle.tbl_format.specs.RowsServed.{all_rows}
-use Rattle.tbl_format.specs.declared.options.Boxing.{Boxing}
 use Rattle.tbl_kept.specs.Rows.{RowsLaid, SameRoom, elements_of}
 use Rattle.tbl_layout.specs.Columns.{Laid, columns_laid, gaps, lacking, laid, placed_with, total, width_of_all}
 use Rattle.tbl_layout.specs.Entries.{Element}
+use Rattle.tbl_layout.specs.declared.bars.Bars.{Bars}
 use Rattle.tbl_layout.specs.declared.columns.Column.{Column}
 use Rattle.tbl_data.specs.declared.table_data.TableData.{TableData}
 
@@ -17,14 +17,14 @@ abbrev pub columns_by : ℕ → List ℕ → TableData → List Column
 columns_by line_length bytes d = columns_laid line_length d.format.format.asked (body_of bytes d)
 
 -- how many columns of the page are spread, and how many there are
-abbrev pub lacking_by : Boxing → Bool → ℕ → List ℕ → TableData → ℕ
-lacking_by boxing is_expanded line_length bytes d =
+abbrev pub lacking_by : Bars → Bool → ℕ → List ℕ → TableData → ℕ
+lacking_by bars is_expanded line_length bytes d =
     let asked = d.format.format.asked in
-    lacking is_expanded line_length (width_of_all boxing (columns_by line_length bytes d) asked) (total (gaps boxing asked))
+    lacking is_expanded line_length (width_of_all bars (columns_by line_length bytes d) asked) (total (gaps bars asked))
 
-abbrev pub laid_by : Boxing → Bool → ℕ → List ℕ → TableData → Laid
-laid_by boxing is_expanded line_length bytes d =
-    laid boxing is_expanded line_length d.format.format.asked (body_of bytes d)
+abbrev pub laid_by : Bars → Bool → ℕ → List ℕ → TableData → Laid
+laid_by bars is_expanded line_length bytes d =
+    laid bars is_expanded line_length d.format.format.asked (body_of bytes d)
 
 -- its blocks have their lines, and its columns their widths
 pub record IsLaid (bytes : List ℕ) (line_length : ℕ) (old new : TableData) : Type 0 where
@@ -35,6 +35,6 @@ pub record IsLaid (bytes : List ℕ) (line_length : ℕ) (old new : TableData) :
   pub same : new ≡ record old { rows = new.rows; escapes = new.escapes }
 
 -- its columns have their places, where so many columns of the page are spread
-abbrev pub with_places : Boxing → ℕ → TableData → TableData
-with_places boxing more d =
-    record d { rows = record d.rows { columns = placed_with boxing more d.format.format.asked d.rows.columns } }
+abbrev pub with_places : Bars → ℕ → TableData → TableData
+with_places bars more d =
+    record d { rows = record d.rows { columns = placed_with bars more d.format.format.asked d.rows.columns } }

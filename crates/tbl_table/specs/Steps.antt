@@ -6,7 +6,7 @@ use Rattle.roff_source.specs.Bytes.{newline}
 use Rattle.tbl_format.specs.Format.{Format, format_read, letters_left_out, no_format}
 use Rattle.tbl_format.specs.FormatRows.{keeping}
 use Rattle.tbl_format.specs.Notes.{ignored_message, left_out_note, told_at}
-use Rattle.tbl_format.specs.Options.{ignored_options, options_read}
+use Rattle.tbl_format.specs.Options.{ignored_options}
 use Rattle.tbl_kept.specs.Rows.{cleared, entries_of, no_rows, with_columns}
 use Rattle.tbl_layout.specs.KeptEntries.{content_of}
 use Rattle.tbl_data.specs.DataRead.{closed_block}
@@ -84,24 +84,10 @@ with_keys line keys d =
     data_behind f.place line
     (record d { format = keeping d.format f; notes = letters_noted line (letters_left_out d.format.format keys) d.notes })
 
--- keys behind options, which count where these can be laid out; else there is a fault
-abbrev pub with_built_keys : Bool → ℕ → List ℕ → TableData → TableData
-with_built_keys are_built line keys d = if are_built then with_keys line keys d else data_refused line d
-
-abbrev pub built_format : Bool → Format → List ℕ → Format
-built_format are_built f keys = if are_built then format_read f keys else f
-
-abbrev pub built_place : Bool → Format → List ℕ → FormatPlace
-built_place are_built f keys = if are_built then (format_read f keys).place else AtFault
-
--- what is left out of them
-abbrev pub built_letters : Bool → Format → List ℕ → List ℕ
-built_letters are_built f keys = if are_built then letters_left_out f keys else []
-
--- of a first line, by where its options end
+-- what is left out of a first line, by where its options end
 abbrev pub head_letters : Option ℕ → Format → List ℕ → List ℕ
 head_letters None f line = letters_left_out f line
-head_letters (Some end) f line = built_letters (options_read (take end line)).are_built f (drop (suc end) line)
+head_letters (Some end) f line = letters_left_out f (drop (suc end) line)
 
 -- behind a line that makes this of the table
 abbrev pub ended_with : TableRead → Reading → Reading

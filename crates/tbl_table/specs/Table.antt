@@ -11,6 +11,7 @@ use Rattle.tbl_format.specs.declared.message.Told.{Told}
 use Rattle.tbl_kept.specs.Joined.{Joined, behind_joined, goes_on}
 use Rattle.tbl_layout.specs.Columns.{Laid, laid}
 use Rattle.tbl_layout.specs.DataLines.{ends_row}
+use Rattle.tbl_layout.specs.Widths.{table_bars}
 use Rattle.tbl_picture.specs.Frame.{indent, picture}
 use Rattle.tbl_picture.specs.PictureLines.{Sheet, picture_lines}
 use Rattle.tbl_data.specs.DataRead.{closed_block, data_line, whole_line}
@@ -38,11 +39,10 @@ format_line n line t =
 -- options, with a message for each that is ignored, and the format behind them
 abbrev pub with_options : ℕ → List ℕ → TableRead → TableRead
 with_options n text t =
-    with_notes (map (λ word. told_at n (ignored_message word)) (ignored_options text)) (record t { options = (options_read text).options })
+    with_notes (map (λ word. told_at n (ignored_message word)) (ignored_options text)) (record t { options = options_read text })
 
 abbrev pub options_line : ℕ → List ℕ → List ℕ → TableRead → TableRead
-options_line n text line t =
-    if (options_read text).are_built then format_line n line (with_options n text t) else bad n (with_options n text t)
+options_line n text line t = format_line n line (with_options n text t)
 
 -- the first line, by where its options end
 abbrev pub head_line : Option ℕ → ℕ → List ℕ → TableRead → TableRead
@@ -64,18 +64,10 @@ line_read n line t = line_in t.phase n line t
 abbrev pub columns_of : Format → ℕ
 columns_of f = length f.asked
 
--- the columns of the options' line: behind an option that can't be laid out no key counts
-abbrev pub columns_behind : List ℕ → List ℕ → ℕ
-columns_behind text line = if (options_read text).are_built then columns_of (format_read no_format line) else 0
-
--- where the reading of the format stands behind the options' line and its newline: behind an option that can't be laid out
--- at a fault
-abbrev pub place_behind_options : List ℕ → List ℕ → FormatPlace
-place_behind_options text line = if (options_read text).are_built then (format_read no_format (line ++ newline ∷ [])).place else AtFault
-
+-- where the reading of the format stands behind the first line and its newline, by where its options end
 abbrev pub head_place : Option ℕ → List ℕ → FormatPlace
 head_place None line = (format_read no_format (line ++ newline ∷ [])).place
-head_place (Some end) line = place_behind_options (take end line) (drop (suc end) line)
+head_place (Some end) line = (format_read no_format (drop (suc end) line ++ newline ∷ [])).place
 
 -- whether a line has its newline
 abbrev pub has_newline : List ℕ → Bool
@@ -86,7 +78,7 @@ has_newline (b ∷ c ∷ line) = has_newline (c ∷ line)
 -- the columns of the first line: without options its keys count once its newline has come
 abbrev pub head_columns : Option ℕ → List ℕ → ℕ
 head_columns None line = if has_newline line then columns_of (format_read no_format line) else 0
-head_columns (Some end) line = columns_behind (take end line) (drop (suc end) line)
+head_columns (Some end) line = columns_of (format_read no_format (drop (suc end) line))
 
 -- the columns that count behind bytes of a line, by what is read
 abbrev pub columns_in : Phase → TableRead → List ℕ → ℕ
@@ -155,13 +147,13 @@ told_at_cut t = notes t
 
 -- its columns, and how wide its picture is
 abbrev pub laid_out : ℕ → TableRead → Laid
-laid_out line_length t = laid t.options.boxing t.options.expanded line_length t.format.asked t.body
+laid_out line_length t = laid (table_bars t.options.boxing t.format) t.options.expanded line_length t.format.asked t.body
 
--- how it is boxed, and how wide it and its columns are
+-- its bars, and how wide it and its columns are
 abbrev pub sheet_of : ℕ → TableRead → Sheet
 sheet_of line_length t =
     let table = laid_out line_length t in
-    record { boxing = t.options.boxing; width = table.width; columns = table.columns }
+    record { bars = table_bars t.options.boxing t.format; width = table.width; columns = table.columns }
 
 abbrev pub width_in : Phase → ℕ → TableRead → ℕ
 width_in AtHead line_length t = 0

@@ -3,7 +3,7 @@
 ghost use Rattle.std.specs.Prelude.{◌≡◌, ◌+◌, ◌^◌, ◌<◌, ℕ, Bool, not, ◌&&◌, ◌==◌, ◌++◌, [], ◌∷◌};
 ghost use Rattle.std.specs.Prelude.{length};
 ghost use Rattle.roff_source.specs.Bytes.{newline};
-ghost use Rattle.tbl_table.specs.Begun.{FewKeys, begun_in, built_begun, count_of, head_begun};
+ghost use Rattle.tbl_table.specs.Begun.{FewKeys, begun_in, count_of, head_begun};
 ghost use Rattle.tbl_format.specs.Format.{Format, format_read, no_format};
 ghost use Rattle.tbl_format.specs.KeyCounts.{Counts, IsCount};
 ghost use Rattle.tbl_format.specs.Options.{options_end, options_read, semicolon};
@@ -127,15 +127,10 @@ fn ends_options(inside: bool, byte: u8) -> bool
 
 /// Behind these options.
 fn keys_behind(options: &[u8]) -> Begun
-    ensures value { result
-        ≡ built_begun (options_read options.now).are_built (length options.now + 1) [] }
+    ensures value { result ≡ Keys (length options.now + 1) (count_of (format_read no_format [])) }
     ensures few { (most : ℕ) → FewKeys most (length options.now + 1) result }
 {
-    if read_options(options).are_built {
-        Begun::Keys(options.len() + 1, KeyCount::NONE)
-    } else {
-        Begun::Nothing
-    }
+    Begun::Keys(options.len() + 1, KeyCount::NONE)
 }
 
 /// The columns behind one byte more of a line whose options haven't ended: they count once its

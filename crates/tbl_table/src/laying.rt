@@ -10,7 +10,7 @@ ghost use Rattle.tbl_picture.specs.Frame.{indent};
 ghost use Rattle.tbl_table.specs.Laying.{IsLaid, lacking_by, laid_by, with_places};
 
 use tbl_data::table_data::TableData;
-use tbl_format::options::Boxing;
+use tbl_layout::bars::Bars;
 use tbl_layout::columns::{all_gaps, lacking, width_of_all};
 
 /// How wide a picture is: its columns, or 2^64 - 1 if there are more, and how many of them are
@@ -26,7 +26,7 @@ pub struct LaidWidth {
 /// The columns of a table get their widths, and its blocks their lines; it lies in these bytes.
 pub fn lay_out(
     kept: &mut TableData,
-    boxing: Boxing,
+    bars: Bars,
     is_expanded: bool,
     settled: &[u8],
     line_length: u32,
@@ -36,18 +36,18 @@ pub fn lay_out(
     requires closed { kept.old.open ≡ Nothing }
     ensures laid { IsLaid settled.now line_length kept.old kept.new }
     ensures width { result.width
-        ≡ min (laid_by boxing is_expanded line_length settled.now kept.old).width (2 ^ 64 - 1) }
-    ensures more { result.more ≡ lacking_by boxing is_expanded line_length settled.now kept.old }
+        ≡ min (laid_by bars is_expanded line_length settled.now kept.old).width (2 ^ 64 - 1) }
+    ensures more { result.more ≡ lacking_by bars is_expanded line_length settled.now kept.old }
     ensures few { result.more < 2 ^ 32 }
 {
     kept.rows
         .set_widths(&mut kept.escapes, settled, &kept.format, line_length);
-    let width = width_of_all(boxing, kept.rows.columns(), kept.format.asked());
+    let width = width_of_all(bars, kept.rows.columns(), kept.format.asked());
     let more = lacking(
         is_expanded,
         line_length,
         width,
-        all_gaps(boxing, kept.format.asked()),
+        all_gaps(bars, kept.format.asked()),
     );
     LaidWidth {
         width: width.saturating_add(more),
@@ -56,15 +56,15 @@ pub fn lay_out(
 }
 
 /// Its columns get their places, where so many columns of the page are spread over the gaps.
-pub fn set_places(kept: &mut TableData, boxing: Boxing, more: usize)
-    requires { width_of_all boxing kept.old.rows.columns kept.old.format.format.asked + more
+pub fn set_places(kept: &mut TableData, bars: Bars, more: usize)
+    requires { width_of_all bars kept.old.rows.columns kept.old.format.format.asked + more
         < 2 ^ 32 }
-    ensures value { kept.new ≡ with_places boxing more kept.old }
+    ensures value { kept.new ≡ with_places bars more kept.old }
     ensures laid { (bytes : List ℕ) (formats : List FormatRow)
         → RowsLaid bytes formats kept.old.rows
         → RowsLaid bytes formats kept.new.rows }
 {
-    kept.rows.set_starts(boxing, kept.format.asked(), more);
+    kept.rows.set_starts(bars, kept.format.asked(), more);
 }
 
 /// How far a picture is indented that has so many columns.

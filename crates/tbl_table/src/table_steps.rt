@@ -11,10 +11,10 @@ ghost use Rattle.tbl_kept.specs.Rows.{entries_of};
 ghost use Rattle.tbl_kept.specs.RowsLaying.{AreOpened};
 ghost use Rattle.tbl_kept.specs.TableText.{block_of};
 ghost use Rattle.tbl_format.specs.Notes.{NotesWithin, told_of_all};
-ghost use Rattle.tbl_table.specs.Steps.{BlockEnds, built_letters, built_place, data_behind};
+ghost use Rattle.tbl_table.specs.Steps.{BlockEnds, data_behind};
 ghost use Rattle.tbl_table.specs.Steps.{emptied, fault_noted, head_letters, is_open, letters_noted};
 ghost use Rattle.tbl_table.specs.Steps.{options_told, phase_at_last, phase_behind, roomy};
-ghost use Rattle.tbl_table.specs.Steps.{with_built_keys, with_cause, with_keys};
+ghost use Rattle.tbl_table.specs.Steps.{with_cause, with_keys};
 ghost use Rattle.tbl_format.specs.declared.notes.Cause.TheVariants.{BadFormat};
 ghost use Rattle.tbl_data.specs.declared.phase.Phase.TheVariants.{Bad};
 
@@ -118,26 +118,6 @@ pub fn take_keys(kept: &mut TableData, keys: &[u8], line: u32) -> Phase
     go_behind_keys(kept, line)
 }
 
-/// The same of keys behind options, if these can be laid out.
-pub fn take_built_keys(are_built: bool, kept: &mut TableData, keys: &[u8], line: u32) -> Phase
-    requires keys { key_count kept.old.format.format + length keys.now
-        ≤ kept.old.format.key_room }
-    requires columns { are_built ≡ true
-        → length (format_read kept.old.format.format keys.now).asked
-        ≤ kept.old.format.column_room }
-    requires row_columns { kept.old.rows.column_room ≡ kept.old.format.column_room }
-    requires place { StandsOnLine 0 kept.old.format.format.place }
-    requires few { length kept.old.format.format.asked + length keys.now < 2 ^ 63 }
-    requires notes { length kept.old.notes.notes + length keys.now < kept.old.notes.note_room }
-    ensures kept { kept.new ≡ with_built_keys are_built line keys.now kept.old }
-    ensures phase { result ≡ phase_behind (built_place are_built kept.old.format.format keys.now) }
-{
-    if are_built {
-        return take_keys(kept, keys, line);
-    }
-    refuse(&mut kept.notes, line)
-}
-
 /// Behind keys of the format, by where their reading stands.
 fn go_behind_keys(kept: &mut TableData, line: u32) -> Phase
     requires notes { length kept.old.notes.notes < kept.old.notes.note_room }
@@ -232,31 +212,6 @@ pub fn tell_head_letters(
 {
     match end {
         None => notes.push_left_out(count, block, line),
-        Some(end) => tell_built_letters(
-            read_options(&block[..end]).are_built,
-            count,
-            notes,
-            &block[end + 1..],
-            line,
-        ),
-    }
-}
-
-/// Reports what is left out of keys behind options, if these are laid out.
-fn tell_built_letters(
-    are_built: bool,
-    count: KeyCount,
-    notes: &mut TableNotes,
-    keys: &[u8],
-    line: u32,
-)
-    requires is { IsCount 0 count }
-    requires few { count.columns + length keys.now < 2 ^ 63 }
-    requires room { length notes.old.notes + length keys.now ≤ notes.old.note_room }
-    ensures { (f : Format) → Counts f count → notes.new
-        ≡ letters_noted line (built_letters are_built f keys.now) notes.old }
-{
-    if are_built {
-        notes.push_left_out(count, keys, line);
+        Some(end) => notes.push_left_out(count, &block[end + 1..], line),
     }
 }

@@ -38,6 +38,10 @@ pub fn pictures()
         ≡ codes "\\&_    __\n" }
     ensures joined { lines_after 65 (codes "l l." ∷ codes "a\\" ∷ codes "b\t c " ∷ codes "\\" ∷ [])
         ≡ codes "\\&ab    c\n\\&\n" }
+    ensures bars { lines_after 65 (codes "l|r." ∷ codes "a\tbb" ∷ codes "longer\tc" ∷ [])
+        ≡ codes "\\&a      | bb\n\\&longer |  c\n" }
+    ensures double_box { lines_after 65 (codes "doublebox;" ∷ codes "l." ∷ codes "ab" ∷ [])
+        ≡ codes "\\&++====++\n\\&|| ab ||\n\\&++====++\n" }
 {}
 
 /// Tables that are reported.
@@ -64,9 +68,10 @@ pub fn reports()
         ≡ told_at 4 (NotMeasured 99) ∷ [] }
     ensures surplus_rule { notes_after (codes "l." ∷ codes "a\t_" ∷ [])
         ≡ told_at 2 TooManyFields ∷ [] }
-    ensures box_option { picture_after 65 (codes "doublebox;" ∷ codes "l." ∷ []) ≡ None }
-    ensures box_note { notes_after (codes "doublebox;" ∷ codes "l." ∷ [])
-        ≡ told_at 1 BadFormat ∷ [] }
+    ensures no_picture { picture_after 65 (codes "box;" ∷ codes "l_." ∷ []) ≡ None }
+    ensures double_box { notes_after (codes "doublebox;" ∷ codes "l|." ∷ []) ≡ [] }
+    ensures third_bar { notes_after (codes "box;" ∷ codes "l|||." ∷ [])
+        ≡ told_at 2 BadFormat ∷ [] }
     ensures key { notes_after (codes "l" ∷ codes "l=." ∷ codes "a" ∷ [])
         ≡ told_at 2 BadFormat ∷ [] }
     ensures joined_surplus { notes_after (codes "l." ∷ codes "a\\" ∷ codes "\tb" ∷ [])

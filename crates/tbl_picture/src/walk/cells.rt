@@ -60,7 +60,7 @@ impl Walk {
         self.behind.clear();
         self.place = 0;
         self.width = 0;
-        self.next = next_column(row.boxing, 0);
+        self.next = next_column(row.bars.has_any, 0);
         pieces.add(Piece::LineFront);
     }
 
@@ -68,7 +68,7 @@ impl Walk {
     /// goes on at a place.
     pub(super) fn pass(&mut self, row: &RowLent<'_>, block: BlockPlace, place: usize, width: usize)
         requires { length self.old.behind < self.old.room }
-        ensures { self.new ≡ passed row.now.boxing block (place + width) self.old }
+        ensures { self.new ≡ passed row.now.bars.has_any block (place + width) self.old }
     {
         self.behind.push_reserved(block);
         if self.count > 0 {
@@ -76,7 +76,7 @@ impl Walk {
         }
         self.place = place;
         self.width = width;
-        self.next = next_column(row.boxing, self.behind.len());
+        self.next = next_column(row.bars.has_any, self.behind.len());
     }
 
     /// How many columns of the page there are up to one from the place that is reached.

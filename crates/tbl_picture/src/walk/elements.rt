@@ -1,11 +1,11 @@
 //! The elements of a table, and the rules that its box adds, as a walk gives them.
 
 ghost use Rattle.std.specs.Prelude.{◌≡◌, ℕ, ◌+◌, ◌-◌, ◌<◌, ◌≤◌, ◌^◌, List, true, drop, length};
-ghost use Rattle.tbl_format.specs.Format.{FormatRow};
 ghost use Rattle.tbl_format.specs.RowsServed.{all_rows};
 ghost use Rattle.tbl_picture.specs.Pieces.{AreWithin};
+ghost use Rattle.tbl_picture.specs.RulesWalked.{AreServed, IsRowThere};
 
-use super::rules::{Beside, give_rule, is_boxed};
+use super::rules::{Beside, frame_sign, give_rule, next_behind_rule};
 use super::{Next, Walk};
 use crate::picture::Piece;
 use crate::piece_queue::PieceQueue;
@@ -22,17 +22,26 @@ impl Walk {
 
     /// The first pieces of the next element, or of a rule that the box adds. Answers whether there
     /// were some to come.
-    pub(super) fn step_at_element(&mut self, pieces: &mut PieceQueue, rows: &TableRows) -> bool
+    pub(super) fn step_at_element(
+        &mut self,
+        pieces: &mut PieceQueue,
+        rows: &TableRows,
+        format: &FormatRows,
+    ) -> bool
         requires next { self.old.next ≡ Next.AtElement }
         requires element { self.old.element ≤ length rows.now.elements }
+        requires served { AreServed (all_rows format.now.format) rows.now.elements }
+        requires above { IsRowThere rows.now.elements self.old.above }
         requires fits { FirstFits self.old.room (drop self.old.element rows.now.elements) }
         requires room { pieces.old.taken + 4 ≤ pieces.old.room }
-        ensures step { (bytes frame : List ℕ) (formats : List FormatRow)
-            → CanWalk bytes formats rows.now self.old → AreWithin bytes frame pieces.old.pieces
-            → StepsIf result bytes frame formats rows.now self.old self.new pieces.old pieces.new }
+        ensures step { (bytes frame : List ℕ)
+            → CanWalk bytes (all_rows format.now.format) rows.now self.old
+            → AreWithin bytes frame pieces.old.pieces
+            → StepsIf result bytes frame (all_rows format.now.format) rows.now self.old self.new
+            pieces.old pieces.new }
     {
         if self.element >= rows.count() {
-            return self.step_behind_all(pieces, rows);
+            return self.step_behind_all(pieces, rows, format);
         }
         match rows.element(self.element) {
             Lent::Command(from, to) => {
@@ -43,58 +52,85 @@ impl Walk {
             }
             Lent::Rule(sign) => {
                 self.element += 1;
-                self.step_at_rule(pieces, rows, sign);
+                self.step_at_rule(pieces, rows, format, sign, false);
                 true
             }
             Lent::Row(_, _, entries) => {
-                self.step_at_row(pieces, rows, entries);
+                self.step_at_row(pieces, rows, format, entries);
                 true
             }
         }
     }
 
     /// Behind all elements: the rule there, if the picture is boxed.
-    fn step_behind_all(&mut self, pieces: &mut PieceQueue, rows: &TableRows) -> bool
+    fn step_behind_all(
+        &mut self,
+        pieces: &mut PieceQueue,
+        rows: &TableRows,
+        format: &FormatRows,
+    ) -> bool
         requires next { self.old.next ≡ Next.AtElement }
         requires element { self.old.element ≡ length rows.now.elements }
+        requires served { AreServed (all_rows format.now.format) rows.now.elements }
+        requires above { IsRowThere rows.now.elements self.old.above }
         requires room { pieces.old.taken + 4 ≤ pieces.old.room }
-        ensures step { (bytes frame : List ℕ) (formats : List FormatRow)
-            → CanWalk bytes formats rows.now self.old → AreWithin bytes frame pieces.old.pieces
-            → StepsIf result bytes frame formats rows.now self.old self.new pieces.old pieces.new }
+        ensures step { (bytes frame : List ℕ)
+            → CanWalk bytes (all_rows format.now.format) rows.now self.old
+            → AreWithin bytes frame pieces.old.pieces
+            → StepsIf result bytes frame (all_rows format.now.format) rows.now self.old self.new
+            pieces.old pieces.new }
     {
-        if is_boxed(self.boxing) {
-            self.begin_rule(pieces, rows, RuleSign::Single, true);
-            true
-        } else {
-            false
+        let bars = self.bars.boxing.bars;
+        if bars == 0 {
+            return false;
         }
+        self.step_at_rule(pieces, rows, format, frame_sign(bars), true);
+        true
     }
 
-    /// A rule of the table, in front of the next element.
-    fn step_at_rule(&mut self, pieces: &mut PieceQueue, rows: &TableRows, sign: RuleSign)
+    /// A rule in front of the next element, which is the picture's last line or not.
+    pub(super) fn step_at_rule(
+        &mut self,
+        pieces: &mut PieceQueue,
+        rows: &TableRows,
+        format: &FormatRows,
+        sign: RuleSign,
+        is_last: bool,
+    )
         requires element { self.old.element ≤ length rows.now.elements }
+        requires served { AreServed (all_rows format.now.format) rows.now.elements }
+        requires above { IsRowThere rows.now.elements self.old.above }
         requires room { pieces.old.taken + 4 ≤ pieces.old.room }
-        ensures { (bytes frame : List ℕ) (formats : List FormatRow) → RuleAtElement
-            bytes frame formats rows.now sign self.old self.new pieces.old pieces.new }
+        ensures { (bytes frame : List ℕ) → RuleAtElement bytes frame (all_rows format.now.format)
+            rows.now sign is_last self.old self.new pieces.old pieces.new }
     {
-        if is_boxed(self.boxing) {
-            self.begin_rule(pieces, rows, sign, false);
+        if self.bars.has_any {
+            self.begin_rule(pieces, rows, format, sign, is_last);
         } else {
             give_rule(pieces, self.picture_width, sign);
             self.above = Beside::Nothing;
+            self.next = next_behind_rule(is_last);
         }
     }
 
     /// A row comes next, or a rule in front of it.
-    fn step_at_row(&mut self, pieces: &mut PieceQueue, rows: &TableRows, entries: &[Entry])
+    fn step_at_row(
+        &mut self,
+        pieces: &mut PieceQueue,
+        rows: &TableRows,
+        format: &FormatRows,
+        entries: &[Entry],
+    )
         requires element { self.old.element ≤ length rows.now.elements }
+        requires served { AreServed (all_rows format.now.format) rows.now.elements }
+        requires above { IsRowThere rows.now.elements self.old.above }
         requires fits { length entries.now ≤ self.old.room }
         requires room { pieces.old.taken + 4 ≤ pieces.old.room }
-        ensures { (bytes frame : List ℕ) (formats : List FormatRow) → RowAtElement
-            bytes frame formats rows.now entries.now self.old self.new pieces.old pieces.new }
+        ensures { (bytes frame : List ℕ) → RowAtElement bytes frame (all_rows format.now.format)
+            rows.now entries.now self.old self.new pieces.old pieces.new }
     {
         if self.rules_between() {
-            self.begin_rule(pieces, rows, RuleSign::Single, false);
+            self.step_at_rule(pieces, rows, format, RuleSign::Single, false);
         } else {
             self.begin_row(entries);
         }
@@ -122,10 +158,11 @@ impl Walk {
         match rows.element(self.element) {
             Lent::Row(keys, height, entries) => {
                 let row = RowLent {
-                    boxing: self.boxing,
+                    bars: self.bars,
                     width: self.picture_width,
                     bytes,
                     keys: format.row_of_all(keys),
+                    last_bars: format.bars_of_all(keys),
                     columns: rows.columns(),
                     entries,
                     height,

@@ -3,8 +3,12 @@
 ghost use Rattle.std.specs.Prelude.{◌≡◌, ℕ, ◌+◌, ◌-◌, ◌<◌, ◌≤◌, ◌^◌, true};
 ghost use Rattle.std.specs.Prelude.{List, drop, length};
 ghost use Rattle.std.specs.List.{AllByRecursion};
+ghost use Rattle.std.specs.Prelude.{false, []};
+ghost use Rattle.tbl_layout.specs.Entries.{up_to_last_glyph};
 ghost use Rattle.tbl_layout.specs.KeptEntries.{Lies};
-ghost use Rattle.tbl_picture.specs.RowsWalked.{AreGlyphless, AreNarrow, LastHasGlyph};
+ghost use Rattle.tbl_picture.specs.RowsLeft.{first_cell, first_of};
+ghost use Rattle.tbl_picture.specs.RowsWalked.{AreGlyphless, AreNarrow, HasGlyph};
+ghost use Rattle.tbl_picture.specs.RowsWalked.{LastHasGlyph};
 ghost use Rattle.tbl_picture.specs.RowsWalked.{PlacesLie};
 ghost use Rattle.tbl_picture.specs.Walks.{lent_row, line_cells, next_behind, next_column};
 
@@ -13,14 +17,13 @@ use super::{Next, Walk};
 use crate::fronts::{Front, front_at};
 use crate::picture::Piece;
 use crate::piece_queue::PieceQueue;
-use crate::row_columns::{RowLent, count_to_glyph};
+use crate::row_columns::{RowLent, column_at, count_to_glyph};
 use roff_escape::OpenEscapes;
-use tbl_format::options::Boxing;
 use tbl_layout::data_lines::{RuleSign, sign_byte};
 use tbl_text::block_parts::BlockPlace;
 
-/// How many cells of a line are given, with what stands in front of them: those of a boxed picture
-/// all, else up to the last that has a glyph.
+/// How many cells of a line are given, with what stands in front of them: up to the last that has a
+/// glyph.
 pub(super) fn count_given(
     escapes: &mut OpenEscapes,
     row: &RowLent<'_>,
@@ -36,24 +39,86 @@ pub(super) fn count_given(
     ensures behind { AreGlyphless (drop result (line_cells (lent_row row.now) line places.now)) }
     ensures room { escapes.new.room ≡ escapes.old.room }
 {
-    match row.boxing {
-        Boxing::Nothing => count_to_glyph(escapes, row, places, line),
-        _ => row.entries.len() + row.columns.len().max(1) + 1,
+    if row.bars.has_any {
+        count_to_mark(escapes, row, places, line)
+    } else {
+        count_to_glyph(escapes, row, places, line)
     }
 }
 
-/// What comes next in front of a column.
-pub(super) fn next_column(boxing: Boxing, column: usize) -> Next
-    ensures { result ≡ next_column boxing column }
+/// How many of them are given where the picture may have bars, each of which has a glyph.
+fn count_to_mark(
+    escapes: &mut OpenEscapes,
+    row: &RowLent<'_>,
+    places: &[BlockPlace],
+    line: u32,
+) -> usize
+    requires columns { length row.now.entries.now ≤ length row.now.columns.now }
+    requires narrow { AreNarrow row.now.columns.now }
+    requires lie { AllByRecursion (Lies row.now.bytes.now) row.now.entries.now }
+    requires places { PlacesLie row.now.bytes.now row.now.entries.now places.now }
+    requires any { row.now.bars.has_any ≡ true }
+    ensures few { result ≤ length (line_cells (lent_row row.now) line places.now) }
+    ensures last { LastHasGlyph result (line_cells (lent_row row.now) line places.now) }
+    ensures behind { AreGlyphless (drop result (line_cells (lent_row row.now) line places.now)) }
+    ensures room { escapes.new.room ≡ escapes.old.room }
 {
-    match boxing {
-        Boxing::Nothing => Next::AtCell,
-        _ => Next::AtFront(column),
+    let mut count = row.entries.len() + row.columns.len().max(1) + 1;
+    while count > 0 {
+        let last = count - 1;
+        if has_mark(escapes, row, places, line, last) {
+            return count;
+        }
+        count = last;
+    }
+    0
+}
+
+/// Whether that has a glyph on a line which stands at this place among its cells and what stands in
+/// front of them.
+fn has_mark(
+    escapes: &mut OpenEscapes,
+    row: &RowLent<'_>,
+    places: &[BlockPlace],
+    line: u32,
+    at: usize,
+) -> bool
+    requires columns { length row.now.entries.now ≤ length row.now.columns.now }
+    requires narrow { AreNarrow row.now.columns.now }
+    requires lie { AllByRecursion (Lies row.now.bytes.now) row.now.entries.now }
+    requires places { PlacesLie row.now.bytes.now row.now.entries.now places.now }
+    requires any { row.now.bars.has_any ≡ true }
+    requires within { at < length (line_cells (lent_row row.now) line places.now) }
+    ensures yes { result ≡ true
+        → HasGlyph (first_of
+        (first_cell (drop at (line_cells (lent_row row.now) line places.now)))) }
+    ensures no { result ≡ false → up_to_last_glyph
+        (first_of (first_cell (drop at (line_cells (lent_row row.now) line places.now)))) ≡ [] }
+    ensures room { escapes.new.room ≡ escapes.old.room }
+{
+    let fields = row.entries.len();
+    if at > 2 * fields {
+        return front_at(row, at - fields).is_some();
+    }
+    if at % 2 == 0 {
+        return front_at(row, at / 2).is_some();
+    }
+    column_at(row, places, at / 2).has_glyph(escapes, row.bytes, line)
+}
+
+/// What comes next in front of a column.
+pub(super) fn next_column(has_bars: bool, column: usize) -> Next
+    ensures { result ≡ next_column has_bars column }
+{
+    if has_bars {
+        Next::AtFront(column)
+    } else {
+        Next::AtCell
     }
 }
 
 impl Walk {
-    ghost use Rattle.tbl_picture.specs.PictureLines.{bar_at, crossed_at};
+    ghost use Rattle.tbl_picture.specs.PictureLines.{bars_at, crossed_at};
     ghost use Rattle.tbl_picture.specs.Walks.{FrontStands, InFront, RowSteps, front_passed};
 
     /// What stands in front of a column, or behind the last.
@@ -66,55 +131,69 @@ impl Walk {
     {
         match front_at(row, at) {
             Front::Nothing => self.pass_front(row, at, self.place, self.width),
-            Front::Bar(place) => self.give_bar(pieces, row, at, place),
-            Front::Crossed(place, sign, end) => {
+            Front::Bars(place, bars) => self.give_bars(pieces, row, at, place, bars),
+            Front::Crossed(place, bars, sign, end) => {
                 if self.line == 0 {
-                    self.give_crossing(pieces, row, at, place, sign, end);
+                    self.give_crossing(pieces, row, at, place, bars, sign, end);
                 } else {
-                    self.give_bar(pieces, row, at, place);
+                    self.give_bars(pieces, row, at, place, bars);
                 }
             }
         }
     }
 
-    /// A bar.
-    fn give_bar(&mut self, pieces: &mut PieceQueue, row: &RowLent<'_>, at: usize, place: usize)
+    /// So many bars.
+    fn give_bars(
+        &mut self,
+        pieces: &mut PieceQueue,
+        row: &RowLent<'_>,
+        at: usize,
+        place: usize,
+        bars: u8,
+    )
         requires next { self.old.next ≡ Next.AtFront at }
-        requires front { FrontStands (lent_row row.now) at (bar_at place) self.old }
+        requires front { FrontStands (lent_row row.now) at (bars_at place bars) self.old }
+        requires some { 0 < bars }
         requires room { pieces.old.taken + 4 ≤ pieces.old.room }
         ensures { (frame : List ℕ)
             → RowSteps frame (lent_row row.now) self.old self.new pieces.old pieces.new }
     {
         give(pieces, self.count, Piece::Blanks(self.gap_to(place)));
-        give(pieces, self.count, Piece::Repeated(b'|', 1));
-        self.pass_front(row, at, place, 1);
+        give(pieces, self.count, Piece::Repeated(b'|', bars as usize));
+        self.pass_front(row, at, place, bars as usize);
     }
 
-    /// A bar that rules of this sign cross, the second of which goes on behind it up to a place.
+    /// So many bars that rules of this sign cross, the second of which goes on behind them up to a
+    /// place.
     fn give_crossing(
         &mut self,
         pieces: &mut PieceQueue,
         row: &RowLent<'_>,
         at: usize,
         place: usize,
+        bars: u8,
         sign: RuleSign,
         end: usize,
     )
         requires next { self.old.next ≡ Next.AtFront at }
-        requires front { FrontStands (lent_row row.now) at (crossed_at place sign end) self.old }
+        requires front { FrontStands (lent_row row.now) at (crossed_at place bars sign end)
+            self.old }
+        requires some { 0 < bars }
         requires line { self.old.line ≡ 0 }
         requires room { pieces.old.taken + 4 ≤ pieces.old.room }
         ensures { (frame : List ℕ)
             → RowSteps frame (lent_row row.now) self.old self.new pieces.old pieces.new }
     {
-        let rest = end.saturating_sub(place).saturating_sub(1);
+        let crossed = bars as usize;
+        let rest = end.saturating_sub(place).saturating_sub(crossed);
         give(pieces, self.count, Piece::Blanks(self.gap_to(place)));
-        give(pieces, self.count, Piece::Repeated(b'+', 1));
+        give(pieces, self.count, Piece::Repeated(b'+', crossed));
         give(pieces, self.count, Piece::Repeated(sign_byte(sign), rest));
-        self.pass_front(row, at, place, rest + 1);
+        self.pass_front(row, at, place, crossed + rest);
     }
 
-    /// What stands in front of a column is given: it begins at a column of the page and has so many.
+    /// What stands in front of a column is given: it begins at a column of the page and has so
+    /// many.
     fn pass_front(&mut self, row: &RowLent<'_>, at: usize, place: usize, width: usize)
         ensures { self.new ≡ front_passed (lent_row row.now) at (place + width) self.old }
     {

@@ -1,20 +1,26 @@
 //! The rules over a whole picture, as a walk gives them: with crossings, if it is boxed.
 
-ghost use Rattle.std.specs.Prelude.{◌≡◌, ℕ, ◌+◌, ◌-◌, ◌<◌, ◌≤◌, ◌^◌, ◌||◌, ◌&&◌};
-ghost use Rattle.std.specs.Prelude.{List, [], false, true, drop, is_some, length, not, ◌==◌};
+ghost use Rattle.std.specs.Prelude.{◌≡◌, ℕ, ◌+◌, ◌-◌, ◌<◌, ◌≤◌, ◌^◌, max, ◌||◌, ◌&&◌};
+ghost use Rattle.std.specs.Prelude.{Bool, List, [], false, true, drop, is_some, length, not, ◌==◌};
+ghost use Rattle.std.specs.Prelude.{if◌then◌else◌};
 ghost use Rattle.tbl_format.specs.Format.{FormatRow};
-ghost use Rattle.tbl_kept.specs.Rows.{KeptRows, elements_of};
-ghost use Rattle.tbl_picture.specs.PictureLines.{line_below, rule_line, shows_behind};
+ghost use Rattle.tbl_format.specs.RowsServed.{all_rows, row_at};
+ghost use Rattle.tbl_kept.specs.Rows.{elements_of};
+ghost use Rattle.tbl_picture.specs.PictureLines.{bars_of, frame_sign, line_below, rule_line};
+ghost use Rattle.tbl_picture.specs.PictureLines.{shown_at_edge, shown_behind};
 ghost use Rattle.tbl_picture.specs.PieceQueue.{Adds};
-ghost use Rattle.tbl_picture.specs.RulesWalked.{IsRowThere, boxes_each, edge_places, is_boxed};
-ghost use Rattle.tbl_picture.specs.RulesWalked.{is_row, line_beside, next_behind_rule};
+ghost use Rattle.tbl_picture.specs.RulesWalked.{AreServed, IsRowThere, crossed_by, is_row};
+ghost use Rattle.tbl_picture.specs.RulesWalked.{line_beside, next_behind_rule};
 
 use super::{Next, Walk};
 use crate::fronts::joined_at;
 use crate::picture::Piece;
 use crate::piece_queue::PieceQueue;
+use crate::row_columns::bars_among;
+use tbl_format::format_rows::FormatRows;
 use tbl_format::options::Boxing;
 use tbl_kept::rows::{Lent, TableRows};
+use tbl_layout::bars::{edge_bars, inner_bars};
 use tbl_layout::columns::bar_place;
 use tbl_layout::data_lines::{RuleSign, sign_byte};
 
@@ -36,8 +42,6 @@ pub struct RuleBegun {
     pub column: usize,
     /// What stands below.
     pub below: Beside,
-    /// Whether it crosses the bars of the edges.
-    pub has_edges: bool,
     /// Whether it is the picture's last line.
     pub is_last: bool,
 }
@@ -45,23 +49,14 @@ pub struct RuleBegun {
 /// What is drawn where a rule crosses a bar.
 const CROSSING: u8 = b'+';
 
-/// Whether a picture is boxed.
-pub(super) fn is_boxed(boxing: Boxing) -> bool
-    ensures { result ≡ is_boxed boxing }
+/// How the rules above and below a picture are drawn, at whose edges so many bars stand.
+pub(super) fn frame_sign(bars: u8) -> RuleSign
+    ensures { result ≡ frame_sign bars }
 {
-    match boxing {
-        Boxing::Nothing => false,
-        _ => true,
-    }
-}
-
-/// Whether each of its fields is.
-fn boxes_each(boxing: Boxing) -> bool
-    ensures { result ≡ boxes_each boxing }
-{
-    match boxing {
-        Boxing::EachField => true,
-        _ => false,
+    if bars > 1 {
+        RuleSign::Double
+    } else {
+        RuleSign::Single
     }
 }
 
@@ -75,20 +70,6 @@ fn is_row(beside: Beside) -> bool
     }
 }
 
-/// Whether a rule between two lines crosses the bars of the edges.
-fn crosses_edges(above: Beside, below: Beside) -> bool
-    ensures { result ≡ (is_row above || is_row below) }
-{
-    is_row(above) || is_row(below)
-}
-
-/// The places of an edge's crossing, if the rule crosses the edges.
-fn edge_places(has_edges: bool) -> usize
-    ensures { result ≡ edge_places has_edges }
-{
-    if has_edges { 1 } else { 0 }
-}
-
 /// What comes next behind a boundary.
 fn next_boundary(rule: RuleBegun) -> Next
     requires { rule.column < 2 ^ 64 - 1 }
@@ -98,13 +79,12 @@ fn next_boundary(rule: RuleBegun) -> Next
         sign: rule.sign,
         column: rule.column + 1,
         below: rule.below,
-        has_edges: rule.has_edges,
         is_last: rule.is_last,
     })
 }
 
 /// What comes next behind a rule line, which was the picture's last line or not.
-fn next_behind_rule(is_last: bool) -> Next
+pub(super) fn next_behind_rule(is_last: bool) -> Next
     ensures { result ≡ next_behind_rule is_last }
 {
     if is_last {
@@ -119,7 +99,7 @@ fn row_below(rows: &TableRows, element: usize) -> Beside
     requires { element ≤ length rows.now.elements }
     ensures there { IsRowThere rows.now.elements result }
     ensures line { (bytes : List ℕ) (formats : List FormatRow)
-        → line_beside bytes true rows.now.elements result
+        → line_beside bytes formats true rows.now.elements result
         ≡ line_below (elements_of bytes formats (drop element rows.now.elements)) }
 {
     let mut at = element;
@@ -133,24 +113,72 @@ fn row_below(rows: &TableRows, element: usize) -> Beside
     Beside::Nothing
 }
 
-/// Whether the line that stands there, above a rule or below it, shows a bar between a column and
-/// the next.
-fn shows_bar(rows: &TableRows, beside: Beside, is_below: bool, column: usize) -> bool
+/// How many bars the line that stands there shows in front of a column, which is the first, or
+/// behind the last.
+fn shown_at_edge(
+    boxing: Boxing,
+    rows: &TableRows,
+    format: &FormatRows,
+    beside: Beside,
+    at: usize,
+) -> u8
     requires there { IsRowThere rows.now.elements beside }
-    requires small { column < 2 ^ 64 - 1 }
-    ensures { (bytes : List ℕ) → result
-        ≡ shows_behind (line_beside bytes is_below rows.now.elements beside) column }
+    requires served { AreServed (all_rows format.now.format) rows.now.elements }
+    ensures { (bytes : List ℕ) (is_below : Bool) → result
+        ≡ shown_at_edge boxing (line_beside bytes (all_rows format.now.format) is_below
+        rows.now.elements beside) at }
 {
     match beside {
-        Beside::Nothing => false,
-        Beside::Row(at) => match rows.element(at) {
-            Lent::Row(_, height, entries) => {
-                let joined = joined_at(entries, column);
-                is_bar(is_first_line(is_below, height), joined)
-            }
-            _ => false,
+        Beside::Nothing => 0,
+        Beside::Row(element) => match rows.element(element) {
+            Lent::Row(keys, _, _) => edge_bars(boxing, format_bars(format, keys, at)),
+            _ => 0,
         },
     }
+}
+
+/// How many bars the line that stands there, above a rule or below it, shows behind a column.
+fn shown_behind(
+    boxing: Boxing,
+    rows: &TableRows,
+    format: &FormatRows,
+    beside: Beside,
+    is_below: bool,
+    column: usize,
+) -> u8
+    requires there { IsRowThere rows.now.elements beside }
+    requires served { AreServed (all_rows format.now.format) rows.now.elements }
+    requires small { column < 2 ^ 64 - 1 }
+    ensures { (bytes : List ℕ) → result
+        ≡ shown_behind boxing (line_beside bytes (all_rows format.now.format) is_below
+        rows.now.elements beside) column }
+{
+    match beside {
+        Beside::Nothing => 0,
+        Beside::Row(element) => match rows.element(element) {
+            Lent::Row(keys, height, entries) => {
+                let joined = joined_at(entries, column);
+                let bars = inner_bars(boxing, format_bars(format, keys, column + 1));
+                bars_if(is_bar(is_first_line(is_below, height), joined), bars)
+            }
+            _ => 0,
+        },
+    }
+}
+
+/// How many bars a row of the formats has in front of a column, or behind the last key.
+fn format_bars(format: &FormatRows, row: usize, at: usize) -> u8
+    requires { row < length (all_rows format.now.format) }
+    ensures { result ≡ bars_of (row_at (all_rows format.now.format) row) at }
+{
+    bars_among(format.row_of_all(row), format.bars_of_all(row), at)
+}
+
+/// So many bars, if this holds, else none.
+fn bars_if(is_bar: bool, bars: u8) -> u8
+    ensures { result ≡ (if is_bar then bars else 0) }
+{
+    if is_bar { bars } else { 0 }
 }
 
 /// Whether the line of a row that is so high is its first, which stands below a rule or above one.
@@ -171,7 +199,7 @@ fn is_bar(is_first: bool, joined: Option<RuleSign>) -> bool
     }
 }
 
-/// A rule over a picture that isn't boxed and is so wide.
+/// A rule over a picture that has no bars and is so wide.
 pub(super) fn give_rule(pieces: &mut PieceQueue, width: usize, sign: RuleSign)
     requires { pieces.old.taken + 4 ≤ pieces.old.room }
     ensures { (block frame : List ℕ)
@@ -188,91 +216,120 @@ impl Walk {
 
     /// Whether a rule is to be given between the row above and the row that comes next.
     pub(super) fn rules_between(&self) -> bool
-        ensures { result ≡ (boxes_each self.now.boxing && is_row self.now.above) }
+        ensures { result ≡ (self.now.bars.boxing.is_inside && is_row self.now.above) }
     {
-        boxes_each(self.boxing) && is_row(self.above)
+        self.bars.boxing.is_inside && is_row(self.above)
     }
 
-    /// A rule line of a boxed picture begins, in front of the next element.
+    /// A rule line begins, in front of the next element, in a picture that may have bars.
     pub(super) fn begin_rule(
         &mut self,
         pieces: &mut PieceQueue,
         rows: &TableRows,
+        format: &FormatRows,
         sign: RuleSign,
         is_last: bool,
     )
         requires element { self.old.element ≤ length rows.now.elements }
+        requires served { AreServed (all_rows format.now.format) rows.now.elements }
+        requires above { IsRowThere rows.now.elements self.old.above }
         requires room { pieces.old.taken + 4 ≤ pieces.old.room }
-        ensures { (bytes frame : List ℕ) (formats : List FormatRow) → RuleBegins bytes frame formats
+        ensures { (bytes frame : List ℕ) → RuleBegins bytes frame (all_rows format.now.format)
             rows.now sign is_last self.old self.new pieces.old pieces.new }
     {
         let below = row_below(rows, self.element);
-        let has_edges = crosses_edges(self.above, below);
-        let edge = edge_places(has_edges);
+        let crossed = self.crossed_at_edge(rows, format, below, 0);
         pieces.add(Piece::LineFront);
-        pieces.add(Piece::Repeated(CROSSING, edge));
-        self.place = edge;
+        pieces.add(Piece::Repeated(CROSSING, crossed));
+        self.place = crossed;
         self.width = 0;
         self.next = Next::AtRule(RuleBegun {
             sign,
             column: 0,
             below,
-            has_edges,
             is_last,
         });
     }
 
-    /// The next pieces of a rule line, up to the next boundary between columns that it may cross, or
-    /// up to its end.
+    /// How many bars a rule crosses at an edge of the picture.
+    fn crossed_at_edge(
+        &self,
+        rows: &TableRows,
+        format: &FormatRows,
+        below: Beside,
+        at: usize,
+    ) -> usize
+        requires served { AreServed (all_rows format.now.format) rows.now.elements }
+        requires above { IsRowThere rows.now.elements self.now.above }
+        requires below { IsRowThere rows.now.elements below }
+        ensures { (bytes : List ℕ) → result
+            ≡ crossed_by bytes (all_rows format.now.format) rows.now below self.now at }
+    {
+        let boxing = self.bars.boxing;
+        let above = shown_at_edge(boxing, rows, format, self.above, at);
+        above.max(shown_at_edge(boxing, rows, format, below, at)) as usize
+    }
+
+    /// The next pieces of a rule line, up to the next boundary between columns that it may cross,
+    /// or up to its end.
     pub(super) fn step_in_rule(
         &mut self,
         pieces: &mut PieceQueue,
         rows: &TableRows,
+        format: &FormatRows,
         rule: RuleBegun,
     )
         requires rule { RuleStands rows.now rule self.old }
+        requires served { AreServed (all_rows format.now.format) rows.now.elements }
         requires room { pieces.old.taken + 4 ≤ pieces.old.room }
-        ensures { (bytes frame : List ℕ) → RuleDoes bytes frame rows.now rule self.old self.new
-            pieces.old pieces.new }
+        ensures { (bytes frame : List ℕ) → RuleDoes bytes frame (all_rows format.now.format)
+            rows.now rule self.old self.new pieces.old pieces.new }
     {
-        if boxes_each(self.boxing) {
-            if rows.columns().len() - rule.column > 1 {
-                self.come_behind(pieces, rows, rule);
-            } else {
-                self.end_rule(pieces, rule);
-            }
+        if rows.columns().len() - rule.column > 1 {
+            self.come_behind(pieces, rows, format, rule);
         } else {
-            self.end_rule(pieces, rule);
+            self.end_rule(pieces, rows, format, rule);
         }
     }
 
-    /// Whether a rule crosses a bar at the next boundary between columns.
-    fn is_crossed(&self, rows: &TableRows, rule: RuleBegun) -> bool
+    /// How many bars a rule crosses at the next boundary between columns.
+    fn crossed_behind(&self, rows: &TableRows, format: &FormatRows, rule: RuleBegun) -> u8
         requires rule { RuleStands rows.now rule self.now }
+        requires served { AreServed (all_rows format.now.format) rows.now.elements }
         requires small { rule.column < 2 ^ 64 - 1 }
-        ensures { (bytes : List ℕ) → result ≡ (shows_behind
-            (line_beside bytes false rows.now.elements self.now.above) rule.column || shows_behind
-            (line_beside bytes true rows.now.elements rule.below) rule.column) }
+        ensures { (bytes : List ℕ) → result ≡ max
+            (shown_behind self.now.bars.boxing (line_beside bytes (all_rows format.now.format) false
+            rows.now.elements self.now.above) rule.column)
+            (shown_behind self.now.bars.boxing (line_beside bytes (all_rows format.now.format) true
+            rows.now.elements rule.below) rule.column) }
     {
-        shows_bar(rows, self.above, false, rule.column)
-            || shows_bar(rows, rule.below, true, rule.column)
+        let boxing = self.bars.boxing;
+        let above = shown_behind(boxing, rows, format, self.above, false, rule.column);
+        above.max(shown_behind(boxing, rows, format, rule.below, true, rule.column))
     }
 
     /// A rule comes behind a boundary between columns, and crosses the bars there.
-    fn come_behind(&mut self, pieces: &mut PieceQueue, rows: &TableRows, rule: RuleBegun)
+    fn come_behind(
+        &mut self,
+        pieces: &mut PieceQueue,
+        rows: &TableRows,
+        format: &FormatRows,
+        rule: RuleBegun,
+    )
         requires rule { RuleStands rows.now rule self.old }
-        requires each { boxes_each self.old.boxing ≡ true }
+        requires served { AreServed (all_rows format.now.format) rows.now.elements }
         requires within { rule.column + 1 < length rows.now.columns }
         requires room { pieces.old.taken + 4 ≤ pieces.old.room }
-        ensures { (bytes frame : List ℕ) → RuleCrosses bytes frame rows.now rule self.old self.new
-            pieces.old pieces.new }
+        ensures { (bytes frame : List ℕ) → RuleCrosses bytes frame (all_rows format.now.format)
+            rows.now rule self.old self.new pieces.old pieces.new }
     {
         let columns = rows.columns();
-        if self.is_crossed(rows, rule) {
-            let at = bar_place(columns[rule.column], columns[rule.column + 1]);
+        let bars = self.crossed_behind(rows, format, rule);
+        if bars > 0 {
+            let at = bar_place(bars, columns[rule.column], columns[rule.column + 1]);
             pieces.add(Piece::Repeated(sign_byte(rule.sign), self.gap_to(at)));
-            pieces.add(Piece::Repeated(CROSSING, 1));
-            self.place = at + 1;
+            pieces.add(Piece::Repeated(CROSSING, bars as usize));
+            self.place = at + bars as usize;
             self.width = 0;
             self.next = next_boundary(rule);
         } else {
@@ -281,16 +338,24 @@ impl Walk {
     }
 
     /// A rule line ends.
-    fn end_rule(&mut self, pieces: &mut PieceQueue, rule: RuleBegun)
+    fn end_rule(
+        &mut self,
+        pieces: &mut PieceQueue,
+        rows: &TableRows,
+        format: &FormatRows,
+        rule: RuleBegun,
+    )
+        requires rule { RuleStands rows.now rule self.old }
+        requires served { AreServed (all_rows format.now.format) rows.now.elements }
+        requires last { length rows.now.columns ≤ rule.column + 1 }
         requires room { pieces.old.taken + 4 ≤ pieces.old.room }
-        ensures { (bytes frame : List ℕ) (rows : KeptRows)
-            → (boxes_each self.old.boxing ≡ true → length rows.columns ≤ rule.column + 1)
-            → RuleEnds bytes frame rows rule self.old self.new pieces.old pieces.new }
+        ensures { (bytes frame : List ℕ) → RuleEnds bytes frame (all_rows format.now.format)
+            rows.now rule self.old self.new pieces.old pieces.new }
     {
-        let edge = edge_places(rule.has_edges);
-        let end = self.picture_width.saturating_sub(edge);
+        let crossed = self.crossed_at_edge(rows, format, rule.below, rows.columns().len());
+        let end = self.picture_width.saturating_sub(crossed);
         pieces.add(Piece::Repeated(sign_byte(rule.sign), self.gap_to(end)));
-        pieces.add(Piece::Repeated(CROSSING, edge));
+        pieces.add(Piece::Repeated(CROSSING, crossed));
         pieces.add(Piece::LineEnd);
         self.above = Beside::Nothing;
         self.next = next_behind_rule(rule.is_last);

@@ -18,6 +18,7 @@ use crate::laying::{indent, lay_out, set_places};
 use crate::table_steps::{end_block, refuse};
 use roff_num::Limit;
 use tbl_data::phase::Phase;
+use tbl_layout::bars::Bars;
 
 impl Table {
     /// A line that goes on is done, and then a text block that is open.
@@ -198,13 +199,8 @@ impl Table {
     {
         let settled = &self.text.block()[..self.text.line_start()];
         let options = self.options;
-        let laid = lay_out(
-            &mut self.kept,
-            options.boxing,
-            options.expanded,
-            settled,
-            line_length,
-        );
+        let bars = Bars::of(options.boxing, &self.kept.format);
+        let laid = lay_out(&mut self.kept, bars, options.expanded, settled, line_length);
         self.phase = Phase::Bad;
         self.begun = Begun::Nothing;
         self.kept.notes.tell();
@@ -212,10 +208,10 @@ impl Table {
             self.giving.give_nothing();
             return Some(Limit::Width);
         }
-        set_places(&mut self.kept, options.boxing, laid.more);
+        set_places(&mut self.kept, bars, laid.more);
         self.giving.give_picture(
             indent(options.centered, line_length, laid.width),
-            options.boxing,
+            bars,
             laid.width,
             has_newline,
         );

@@ -3,12 +3,12 @@
 ghost use Rattle.std.specs.Prelude.{◌≡◌, ◌+◌, ◌-◌, ◌<◌, ◌≤◌, suc, ◌++◌, [], ◌∷◌, length, drop};
 ghost use Rattle.std.specs.Prelude.{take, true, None};
 ghost use Rattle.roff_source.specs.Bytes.{newline};
-ghost use Rattle.tbl_format.specs.Format.{format_read};
+ghost use Rattle.tbl_format.specs.Format.{format_read, no_format};
 ghost use Rattle.tbl_kept.specs.Joined.{behind_joined, ends_joined};
 ghost use Rattle.tbl_format.specs.Options.{options_end};
 ghost use Rattle.tbl_table.specs.Reading.{bytes_read, line_ended};
 ghost use Rattle.tbl_table.specs.Steps.{ended_with, is_front};
-ghost use Rattle.tbl_table.specs.Table.{columns_at, columns_behind, columns_of};
+ghost use Rattle.tbl_table.specs.Table.{columns_at, columns_of};
 ghost use Rattle.tbl_table.specs.Table.{ends_in, ends_in_data, format_line, head_columns};
 ghost use Rattle.tbl_table.specs.Table.{head_line, options_line, rows_behind};
 ghost use Rattle.tbl_data.specs.DataRead.{data_line, whole_line};
@@ -16,7 +16,7 @@ ghost use Rattle.tbl_data.specs.declared.phase.Phase.TheVariants.{AtHead, Bad, I
 
 use super::Table;
 use crate::begun::Begun;
-use crate::table_steps::{goes_on, is_open, take_built_keys, take_keys};
+use crate::table_steps::{goes_on, is_open, take_keys};
 use tbl_data::phase::Phase;
 use tbl_format::options::{options_end, read_options};
 use tbl_layout::data_lines::ends_row;
@@ -126,8 +126,8 @@ impl Table {
         requires room { length (bytes_read self.old.reading) < self.old.limits.text }
         requires phase { self.old.reading.table.phase ≡ AtHead }
         requires end { end < length self.old.reading.line }
-        requires columns { columns_behind (take end self.old.reading.line)
-            (drop (suc end) self.old.reading.line ++ newline ∷ []) ≤ self.old.limits.columns }
+        requires columns { columns_of (format_read no_format
+            (drop (suc end) self.old.reading.line ++ newline ∷ [])) ≤ self.old.limits.columns }
         ensures { self.new ≡ record self.old {
           reading = ended_with
               (options_line number (take end self.old.reading.line)
@@ -136,19 +136,14 @@ impl Table {
           to_come = [];
         } }
     {
-        let settings = read_options(&self.text.line()[..end]);
+        let options = read_options(&self.text.line()[..end]);
         self.giving.give_nothing();
         self.text.end_line();
-        self.options = settings.options;
+        self.options = options;
         self.kept
             .notes
             .push_ignored(self.text.block(), 0, end, number);
-        self.phase = take_built_keys(
-            settings.are_built,
-            &mut self.kept,
-            &self.text.block()[end + 1..],
-            number,
-        );
+        self.phase = take_keys(&mut self.kept, &self.text.block()[end + 1..], number);
         self.begun = Begun::at_start(self.phase, self.kept.format.count());
     }
 

@@ -1,7 +1,7 @@
 use Rattle.std.proofs.Common.{◌++◌, ℕ, List, false, map, sym, ap, ◌∙◌, arith}
 use Rattle.std.specs.Prelude.{slice_range}
 use Rattle.tbl_format.specs.Notes.{ignored_message, told_at, told_of_all}
-use Rattle.tbl_format.specs.Options.{ignored_behind, nothing_set, options_of, words_behind}
+use Rattle.tbl_format.specs.Options.{ignored_of, options_of, words_behind}
 use Rattle.tbl_format.proofs.Words.{empty-part, told-end, told-other, told-separator}
 use Rattle.tbl_format.proofs.options.push_ignored.Goals as goal
 use Rattle.tbl_format.proofs.options.push_ignored.Goals.{then-ends_word, else-ends_word}
@@ -10,7 +10,7 @@ pub loop-at-init : goal.loop-at-init
 loop-at-init c =
     let block = c.args.block.now in
     record {
-      told = ap (λ (word : List ℕ). told_of_all block c.args.notes.now.items ++ map (λ (w : List ℕ). told_at c.args.line (ignored_message w)) (ignored_behind nothing_set (options_of (words_behind false word (slice_range block c.args.from c.args.to))))) (empty-part block c.args.from);
+      told = ap (λ (word : List ℕ). told_of_all block c.args.notes.now.items ++ map (λ (w : List ℕ). told_at c.args.line (ignored_message w)) (ignored_of (options_of (words_behind false word (slice_range block c.args.from c.args.to))))) (empty-part block c.args.from);
       begun = omega arith;
       held = record { order = omega arith; within = omega arith };
       within = c.requires.within;

@@ -7,7 +7,7 @@ use Rattle.tbl_format.proofs.options.read_options.Given as goal
 
 abbrev pub invariant-loop-at : goal.invariant-loop-at
 invariant-loop-at l = record {
-  read : fold with_said l.read.settings (options_of (held_words l.text l.read ++ words_behind l.inside (slice_range l.text l.from l.at) (drop l.at l.text))) ≡ options_read l.text;
+  read : fold with_said l.read.options (options_of (held_words l.text l.read ++ words_behind l.inside (slice_range l.text l.from l.at) (drop l.at l.text))) ≡ options_read l.text;
   begun : l.from ≤ l.at;
   held : IsHeld (length l.text) l.read;
 }

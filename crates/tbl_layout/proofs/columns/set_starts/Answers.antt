@@ -2,7 +2,7 @@ use Rattle.std.proofs.Common.{◌≡◌, ℕ, ◌+◌, ◌-◌, ◌≤◌, ◌<�
 use Rattle.std.proofs.lemmas.List.{length-set}
 use Rattle.std.specs.Prelude.{None, false}
 use Rattle.tbl_format.specs.declared.format.Asked.{Asked}
-use Rattle.tbl_format.specs.declared.options.Boxing.{Boxing}
+use Rattle.tbl_layout.specs.declared.bars.Bars.{Bars}
 use Rattle.tbl_layout.specs.Columns.{gaps, gaps_from, placed, placed_with, share, spread, total}
 use Rattle.tbl_layout.specs.declared.columns.Column.{Column}
 use Rattle.tbl_layout.proofs.ColumnsEnd.{all_done}
@@ -14,25 +14,25 @@ abbrev no_column : Column
 no_column = record { needs = record { alone = 0; strip = 0; left = 0; right = 0; split = 0 }; measure = 0; width = 0; start = 0 }
 
 abbrev no_asked : Asked
-no_asked = record { separation = None; least = None; is_equal = false }
+no_asked = record { separation = None; least = None; is_equal = false; bars = 0 }
 
 -- what is left to place
-abbrev left : Boxing → ℕ → ℕ → ℕ → ℕ → ℕ → List Asked → List Column → List Column
-left boxing place more all front gap asked columns = placed place (spread more all front (gaps_from boxing gap asked)) columns
+abbrev left : Bars → ℕ → ℕ → ℕ → ℕ → ℕ → List Asked → List Column → List Column
+left bars place more all front gap asked columns = placed place (spread more all front (gaps_from bars gap asked)) columns
 
-none_left : (boxing : Boxing) (place more all front gap : ℕ) (asked : List Asked) → left boxing place more all front gap asked [] ≡ []
-none_left boxing place more all front gap [] = refl
-none_left boxing place more all front gap (a ∷ asked) = refl
+none_left : (bars : Bars) (place more all front gap : ℕ) (asked : List Asked) → left bars place more all front gap asked [] ≡ []
+none_left bars place more all front gap [] = refl
+none_left bars place more all front gap (a ∷ asked) = refl
 
 pub overflow_add-front : goal.overflow_add-front
 overflow_add-front c =
     let a = c.args.asked.now in
     let in_asked : c.loop-at.at < length a = omega (arith, c.min-at-end.ensures, c.loop-at-test.true) in
     let in_columns : c.loop-at.at < length c.loop-at.columns = omega (arith, c.min-at-end.ensures, c.loop-at-test.true, c.loop-at.invariant.same) in
-    let gap = next_gap c.args.boxing a c.loop-at.at c.loop-at.gap no_asked in_asked in
+    let gap = next_gap c.args.bars a c.loop-at.at c.loop-at.gap no_asked in_asked in
     let width = next_width c.loop-at.columns c.loop-at.at no_column in_columns in
-    let all : c.all_gaps-all.result ≡ total (gaps c.args.boxing a) = omega (arith, c.all_gaps-all.ensures, c.requires) in
-    let few : c.loop-at.front + c.loop-at.gap ≤ total (gaps c.args.boxing a) = omega (arith, c.loop-at.invariant.front, gap) in
+    let all : c.all_gaps-all.result ≡ total (gaps c.args.bars a) = omega (arith, c.all_gaps-all.ensures, c.requires) in
+    let few : c.loop-at.front + c.loop-at.gap ≤ total (gaps c.args.bars a) = omega (arith, c.loop-at.invariant.front, gap) in
     omega (arith, few, c.requires)
 
 pub share-requires-clause-front : goal.share-requires-clause-front
@@ -40,10 +40,10 @@ share-requires-clause-front c =
     let a = c.args.asked.now in
     let in_asked : c.loop-at.at < length a = omega (arith, c.min-at-end.ensures, c.loop-at-test.true) in
     let in_columns : c.loop-at.at < length c.loop-at.columns = omega (arith, c.min-at-end.ensures, c.loop-at-test.true, c.loop-at.invariant.same) in
-    let gap = next_gap c.args.boxing a c.loop-at.at c.loop-at.gap no_asked in_asked in
+    let gap = next_gap c.args.bars a c.loop-at.at c.loop-at.gap no_asked in_asked in
     let width = next_width c.loop-at.columns c.loop-at.at no_column in_columns in
-    let all : c.all_gaps-all.result ≡ total (gaps c.args.boxing a) = omega (arith, c.all_gaps-all.ensures, c.requires) in
-    let few : c.loop-at.front + c.loop-at.gap ≤ total (gaps c.args.boxing a) = omega (arith, c.loop-at.invariant.front, gap) in
+    let all : c.all_gaps-all.result ≡ total (gaps c.args.bars a) = omega (arith, c.all_gaps-all.ensures, c.requires) in
+    let few : c.loop-at.front + c.loop-at.gap ≤ total (gaps c.args.bars a) = omega (arith, c.loop-at.invariant.front, gap) in
     omega (arith, few, c.requires)
 
 pub overflow_add-column : goal.overflow_add-column
@@ -51,10 +51,10 @@ overflow_add-column c =
     let a = c.args.asked.now in
     let in_asked : c.loop-at.at < length a = omega (arith, c.min-at-end.ensures, c.loop-at-test.true) in
     let in_columns : c.loop-at.at < length c.loop-at.columns = omega (arith, c.min-at-end.ensures, c.loop-at-test.true, c.loop-at.invariant.same) in
-    let gap = next_gap c.args.boxing a c.loop-at.at c.loop-at.gap no_asked in_asked in
+    let gap = next_gap c.args.bars a c.loop-at.at c.loop-at.gap no_asked in_asked in
     let width = next_width c.loop-at.columns c.loop-at.at no_column in_columns in
-    let all : c.all_gaps-all.result ≡ total (gaps c.args.boxing a) = omega (arith, c.all_gaps-all.ensures, c.requires) in
-    let few : c.loop-at.front + c.loop-at.gap ≤ total (gaps c.args.boxing a) = omega (arith, c.loop-at.invariant.front, gap) in
+    let all : c.all_gaps-all.result ≡ total (gaps c.args.bars a) = omega (arith, c.all_gaps-all.ensures, c.requires) in
+    let few : c.loop-at.front + c.loop-at.gap ≤ total (gaps c.args.bars a) = omega (arith, c.loop-at.invariant.front, gap) in
     let grows = share-grows c.args.more c.loop-at.front c.loop-at.gap c.all_gaps-all.result in
     let most = share-most c.args.more (c.loop-at.front + c.loop-at.gap) c.all_gaps-all.result (omega (arith, all, few)) in
     omega (arith, c.loop-at.invariant.front, c.loop-at.invariant.room, gap, width, all, few, c.requires, grows, most, c.share-before.ensures, c.share.ensures, c.saturating_sub.ensures)
@@ -64,10 +64,10 @@ overflow_add-column-in-loop-at c =
     let a = c.args.asked.now in
     let in_asked : c.loop-at.at < length a = omega (arith, c.min-at-end.ensures, c.loop-at-test.true) in
     let in_columns : c.loop-at.at < length c.loop-at.columns = omega (arith, c.min-at-end.ensures, c.loop-at-test.true, c.loop-at.invariant.same) in
-    let gap = next_gap c.args.boxing a c.loop-at.at c.loop-at.gap no_asked in_asked in
+    let gap = next_gap c.args.bars a c.loop-at.at c.loop-at.gap no_asked in_asked in
     let width = next_width c.loop-at.columns c.loop-at.at no_column in_columns in
-    let all : c.all_gaps-all.result ≡ total (gaps c.args.boxing a) = omega (arith, c.all_gaps-all.ensures, c.requires) in
-    let few : c.loop-at.front + c.loop-at.gap ≤ total (gaps c.args.boxing a) = omega (arith, c.loop-at.invariant.front, gap) in
+    let all : c.all_gaps-all.result ≡ total (gaps c.args.bars a) = omega (arith, c.all_gaps-all.ensures, c.requires) in
+    let few : c.loop-at.front + c.loop-at.gap ≤ total (gaps c.args.bars a) = omega (arith, c.loop-at.invariant.front, gap) in
     let grows = share-grows c.args.more c.loop-at.front c.loop-at.gap c.all_gaps-all.result in
     let most = share-most c.args.more (c.loop-at.front + c.loop-at.gap) c.all_gaps-all.result (omega (arith, all, few)) in
     omega (arith, c.loop-at.invariant.front, c.loop-at.invariant.room, gap, width, all, few, c.requires, grows, most, c.share-before.ensures, c.share.ensures, c.saturating_sub.ensures)
@@ -77,10 +77,10 @@ overflow_add-place c =
     let a = c.args.asked.now in
     let in_asked : c.loop-at.at < length a = omega (arith, c.min-at-end.ensures, c.loop-at-test.true) in
     let in_columns : c.loop-at.at < length c.loop-at.columns = omega (arith, c.min-at-end.ensures, c.loop-at-test.true, c.loop-at.invariant.same) in
-    let gap = next_gap c.args.boxing a c.loop-at.at c.loop-at.gap no_asked in_asked in
+    let gap = next_gap c.args.bars a c.loop-at.at c.loop-at.gap no_asked in_asked in
     let width = next_width c.loop-at.columns c.loop-at.at no_column in_columns in
-    let all : c.all_gaps-all.result ≡ total (gaps c.args.boxing a) = omega (arith, c.all_gaps-all.ensures, c.requires) in
-    let few : c.loop-at.front + c.loop-at.gap ≤ total (gaps c.args.boxing a) = omega (arith, c.loop-at.invariant.front, gap) in
+    let all : c.all_gaps-all.result ≡ total (gaps c.args.bars a) = omega (arith, c.all_gaps-all.ensures, c.requires) in
+    let few : c.loop-at.front + c.loop-at.gap ≤ total (gaps c.args.bars a) = omega (arith, c.loop-at.invariant.front, gap) in
     let grows = share-grows c.args.more c.loop-at.front c.loop-at.gap c.all_gaps-all.result in
     let most = share-most c.args.more (c.loop-at.front + c.loop-at.gap) c.all_gaps-all.result (omega (arith, all, few)) in
     omega (arith, c.loop-at.invariant.front, c.loop-at.invariant.room, gap, width, all, few, c.requires, grows, most, c.share-before.ensures, c.share.ensures, c.saturating_sub.ensures)
@@ -90,27 +90,27 @@ loop-at-preserved c =
     let a = c.args.asked.now in
     let in_asked : c.loop-at.at < length a = omega (arith, c.min-at-end.ensures, c.loop-at-test.true) in
     let in_columns : c.loop-at.at < length c.loop-at.columns = omega (arith, c.min-at-end.ensures, c.loop-at-test.true, c.loop-at.invariant.same) in
-    let gap = next_gap c.args.boxing a c.loop-at.at c.loop-at.gap no_asked in_asked in
+    let gap = next_gap c.args.bars a c.loop-at.at c.loop-at.gap no_asked in_asked in
     let width = next_width c.loop-at.columns c.loop-at.at no_column in_columns in
-    let all : c.all_gaps-all.result ≡ total (gaps c.args.boxing a) = omega (arith, c.all_gaps-all.ensures, c.requires) in
-    let few : c.loop-at.front + c.loop-at.gap ≤ total (gaps c.args.boxing a) = omega (arith, c.loop-at.invariant.front, gap) in
+    let all : c.all_gaps-all.result ≡ total (gaps c.args.bars a) = omega (arith, c.all_gaps-all.ensures, c.requires) in
+    let few : c.loop-at.front + c.loop-at.gap ≤ total (gaps c.args.bars a) = omega (arith, c.loop-at.invariant.front, gap) in
     let grows = share-grows c.args.more c.loop-at.front c.loop-at.gap c.all_gaps-all.result in
     let most = share-most c.args.more (c.loop-at.front + c.loop-at.gap) c.all_gaps-all.result (omega (arith, all, few)) in
     let sub : c.saturating_sub.result ≡ share c.args.more (c.loop-at.front + c.loop-at.gap) c.all_gaps-all.result - share c.args.more c.loop-at.front c.all_gaps-all.result =
     omega (arith, c.share-before.ensures, c.share.ensures, c.saturating_sub.ensures) in
     let start = c.loop-at.place + (c.loop-at.gap + c.saturating_sub.result) in
-    let behind = ap (λ (g : ℕ). total (gaps_from c.args.boxing g (drop (c.loop-at.at + 1) a))) c.separation-gap.ensures.value in
+    let behind = ap (λ (g : ℕ). total (gaps_from c.args.bars g (drop (c.loop-at.at + 1) a))) c.separation-gap.ensures.value in
     let placed_so : ℕ → ℕ → Type 0 = λ between more.
     take (c.loop-at.at + 1) (set c.loop-at.columns c.loop-at.at (next c.loop-at.columns c.loop-at.at no_column (c.loop-at.place + (c.loop-at.gap + more))))
     ++ placed (c.loop-at.place + (c.loop-at.gap + more) + (get_or c.loop-at.columns c.loop-at.at no_column).width)
-    (spread c.args.more c.all_gaps-all.result (c.loop-at.front + c.loop-at.gap) (gaps_from c.args.boxing between (drop (c.loop-at.at + 1) a)))
+    (spread c.args.more c.all_gaps-all.result (c.loop-at.front + c.loop-at.gap) (gaps_from c.args.bars between (drop (c.loop-at.at + 1) a)))
     (drop (c.loop-at.at + 1) (set c.loop-at.columns c.loop-at.at (next c.loop-at.columns c.loop-at.at no_column (c.loop-at.place + (c.loop-at.gap + more)))))
-    ≡ placed_with c.args.boxing c.args.more a c.args.columns.now in
+    ≡ placed_with c.args.bars c.args.more a c.args.columns.now in
     record {
       done = subst (placed_so c.separation-gap.result) (sym sub)
           (subst (λ (g : ℕ). placed_so g (share c.args.more (c.loop-at.front + c.loop-at.gap) c.all_gaps-all.result - share c.args.more c.loop-at.front c.all_gaps-all.result))
           (sym c.separation-gap.ensures.value)
-          (next_placed c.args.boxing c.args.more c.all_gaps-all.result c.loop-at.columns a c.loop-at.at no_column no_asked in_columns in_asked c.loop-at.place c.loop-at.front c.loop-at.gap
+          (next_placed c.args.bars c.args.more c.all_gaps-all.result c.loop-at.columns a c.loop-at.at no_column no_asked in_columns in_asked c.loop-at.place c.loop-at.front c.loop-at.gap
           ∙ c.loop-at.invariant.done));
       same = length-set c.loop-at.columns c.loop-at.at _ ∙ c.loop-at.invariant.same;
       front = omega (arith, c.loop-at.invariant.front, gap, behind);
@@ -119,7 +119,7 @@ loop-at-preserved c =
 
 pub returns : goal.returns
 returns c =
-    sym (all_done (left c.args.boxing c.loop-at.place c.args.more c.all_gaps-all.result c.loop-at.front c.loop-at.gap) (λ (columns : List Column). refl)
-    (none_left c.args.boxing c.loop-at.place c.args.more c.all_gaps-all.result c.loop-at.front c.loop-at.gap) c.loop-at.columns c.args.asked.now c.loop-at.at
+    sym (all_done (left c.args.bars c.loop-at.place c.args.more c.all_gaps-all.result c.loop-at.front c.loop-at.gap) (λ (columns : List Column). refl)
+    (none_left c.args.bars c.loop-at.place c.args.more c.all_gaps-all.result c.loop-at.front c.loop-at.gap) c.loop-at.columns c.args.asked.now c.loop-at.at
     (omega (arith, c.min-at-end.ensures, c.loop-at-test.false, c.loop-at.invariant.same)))
     ∙ c.loop-at.invariant.done

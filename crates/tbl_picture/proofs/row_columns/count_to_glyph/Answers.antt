@@ -4,16 +4,17 @@ use Rattle.tbl_picture.specs.RowsLeft.{cell_left, row_columns}
 use Rattle.tbl_picture.specs.RowsWalked.{AreGlyphless, LastHasGlyph}
 use Rattle.tbl_picture.proofs.RowColumns.{column-lies, length-places, length-row_columns, map-at}
 use Rattle.tbl_picture.proofs.RunsGiven.{glyphless-more, last-at, last-none}
+use Rattle.tbl_picture.specs.Walks.{lent_format}
 use Rattle.tbl_picture.proofs.row_columns.count_to_glyph.Goals as goal
 
 pub loop-count-init : goal.loop-count-init
 loop-count-init c =
     let row = c.args.row.now in
     let places = c.args.places.now in
-    let all = row_columns row.boxing row.keys.now 0 row.columns.now row.entries.now places in
+    let all = row_columns row.bars.boxing (lent_format row) 0 row.columns.now row.entries.now places in
     let cells = map (cell_left row.bytes.now c.args.line) all in
     let n = length row.entries.now in
-    let many = length-row_columns row.boxing row.keys.now row.bytes.now 0 row.columns.now row.entries.now places c.requires.columns c.requires.places in
+    let many = length-row_columns row.bars.boxing (lent_format row) row.bytes.now 0 row.columns.now row.entries.now places c.requires.columns c.requires.places in
     let many_cells : length cells ≡ length all = length-map all (cell_left row.bytes.now c.args.line) in
     record {
       few = omega arith;
@@ -35,8 +36,9 @@ has_glyph-requires-clause-lies c =
     let row = c.args.row.now in
     let places = c.args.places.now in
     let n = c.loop-count.count - 1 in
-    let all = row_columns row.boxing row.keys.now 0 row.columns.now row.entries.now places in
-    (column-lies row.bytes.now row.boxing row.keys.now 0 n row.columns.now row.entries.now places c.column_at-column.result (drop (suc n) all)
+    let all = row_columns row.bars.boxing (lent_format row) 0 row.columns.now row.entries.now places in
+    (column-lies row.bytes.now row.bars.boxing (lent_format row) 0 n row.columns.now row.entries.now places c.column_at-column.result
+    (drop (suc n) all)
     c.column_at-column.ensures c.requires.lie c.requires.narrow c.requires.places).lies
 
 pub has_glyph-requires-clause-within : goal.has_glyph-requires-clause-within
@@ -44,15 +46,16 @@ has_glyph-requires-clause-within c =
     let row = c.args.row.now in
     let places = c.args.places.now in
     let n = c.loop-count.count - 1 in
-    let all = row_columns row.boxing row.keys.now 0 row.columns.now row.entries.now places in
-    (column-lies row.bytes.now row.boxing row.keys.now 0 n row.columns.now row.entries.now places c.column_at-column.result (drop (suc n) all)
+    let all = row_columns row.bars.boxing (lent_format row) 0 row.columns.now row.entries.now places in
+    (column-lies row.bytes.now row.bars.boxing (lent_format row) 0 n row.columns.now row.entries.now places c.column_at-column.result
+    (drop (suc n) all)
     c.column_at-column.ensures c.requires.lie c.requires.narrow c.requires.places).within
 
 pub returns-then-has_glyph-clause-last : goal.returns-then-has_glyph-clause-last
 returns-then-has_glyph-clause-last c =
     let row = c.args.row.now in
     let n = c.loop-count.count - 1 in
-    let all = row_columns row.boxing row.keys.now 0 row.columns.now row.entries.now c.args.places.now in
+    let all = row_columns row.bars.boxing (lent_format row) 0 row.columns.now row.entries.now c.args.places.now in
     let f = cell_left row.bytes.now c.args.line in
     let held = c.column_at-column.result in
     let same : suc n ≡ c.loop-count.count = omega (arith, c.loop-count-test.true) in
@@ -63,7 +66,7 @@ pub loop-count-preserved : goal.loop-count-preserved
 loop-count-preserved c =
     let row = c.args.row.now in
     let n = c.loop-count.count - 1 in
-    let all = row_columns row.boxing row.keys.now 0 row.columns.now row.entries.now c.args.places.now in
+    let all = row_columns row.bars.boxing (lent_format row) 0 row.columns.now row.entries.now c.args.places.now in
     let f = cell_left row.bytes.now c.args.line in
     let held = c.column_at-column.result in
     let same : c.loop-count.count ≡ suc n = omega (arith, c.loop-count-test.true) in
@@ -77,4 +80,5 @@ loop-count-preserved c =
 pub returns-clause-last : goal.returns-clause-last
 returns-clause-last c =
     let row = c.args.row.now in
-    last-none (map (cell_left row.bytes.now c.args.line) (row_columns row.boxing row.keys.now 0 row.columns.now row.entries.now c.args.places.now))
+    last-none (map (cell_left row.bytes.now c.args.line) (row_columns row.bars.boxing
+    (lent_format row) 0 row.columns.now row.entries.now c.args.places.now))

@@ -3,9 +3,10 @@ use Rattle.std.proofs.lemmas.List.{drop_all}
 use Rattle.tbl_layout.specs.declared.columns.Column.{Column}
 use Rattle.tbl_layout.specs.declared.entry.Entry.{Entry}
 use Rattle.tbl_layout.specs.declared.entry.EntryKind.TheVariants.{Text}
-use Rattle.tbl_picture.specs.PictureLines.{joint}
-use Rattle.tbl_picture.specs.RowsLeft.{rule_end_by}
+use Rattle.tbl_picture.specs.PictureLines.{bars_between, joint}
+use Rattle.tbl_picture.specs.RowsLeft.{is_ruled_by, rule_end_by}
 use Rattle.tbl_picture.proofs.RowColumns.{rule_end-last, rule_end-next}
+use Rattle.tbl_picture.specs.Walks.{lent_format}
 use Rattle.tbl_picture.proofs.row_columns.rule_end.Goals as goal
 
 pub returns-then-next-row : goal.returns-then-next-row
@@ -14,13 +15,21 @@ returns-then-next-row c =
     let next : c.args.at + 1 ≡ suc c.args.at = omega arith in
     let no_column : Column = record { needs = record { alone = 0; strip = 0; left = 0; right = 0; split = 0 }; measure = 0; width = 0; start = 0 } in
     let no_entry : Entry = record { from = 0; to = 0; kind = Text 0 0 } in
-    c.rule_end_before.ensures ∙ ap (λ (t : Bool). if t then joint row.boxing c.args.column (get_or row.columns.now (c.args.at + 1) no_column) else c.args.column.start + c.args.column.width) c.is_ruled-is_joined.ensures
-    ∙ sym (rule_end-next row.boxing c.args.sign c.args.column (c.args.at + 1) row.columns.now row.entries.now no_column no_entry
+    let column = c.args.column in
+    let sign = c.args.sign in
+    let at = c.args.at + 1 in
+    let bars : ℕ → ℕ = λ n. bars_between row.bars.boxing (lent_format row) n in
+    let ends : ℕ → Bool → ℕ = λ n t. if t then joint n column (get_or row.columns.now at no_column) else column.start + column.width in
+    c.rule_end_before.ensures
+    ∙ ap (ends c.bars_between.result) c.is_ruled-is_joined.ensures
+    ∙ ap (λ (n : ℕ). ends n (is_ruled_by sign (get_or row.entries.now at no_entry).kind)) c.bars_between.ensures
+    ∙ sym (rule_end-next (bars at) sign column at row.columns.now row.entries.now no_column no_entry
     (omega (arith, c.if-next-row.true, c.requires.column)) (omega (arith, c.if-next-row.true)))
-    ∙ ap (λ (n : ℕ). rule_end_by row.boxing c.args.sign c.args.column (drop n row.columns.now) (drop n row.entries.now)) next
+    ∙ ap (λ (n : ℕ). rule_end_by (bars n) sign column (drop n row.columns.now) (drop n row.entries.now)) next
 
 pub returns-else-next-row : goal.returns-else-next-row
 returns-else-next-row c =
     let row = c.args.row.now in
-    sym (rule_end-last row.boxing c.args.sign c.args.column (drop (suc c.args.at) row.columns.now) (drop (suc c.args.at) row.entries.now)
+    sym (rule_end-last (bars_between row.bars.boxing (lent_format row) (suc c.args.at)) c.args.sign c.args.column
+    (drop (suc c.args.at) row.columns.now) (drop (suc c.args.at) row.entries.now)
     (drop_all (suc c.args.at) row.entries.now (omega (arith, c.if-next-row.false))))

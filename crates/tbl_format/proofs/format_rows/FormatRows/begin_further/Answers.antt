@@ -11,4 +11,4 @@ returns c =
     let len : c.len-self-inside.result ≡ length old.ends.items = omega (arith, c.len-self-inside.ensures, old.ends.ok.0) in
     rw (← c.self.view_is, len)
     (ap (λ (f : Format). let k : KeptFormat = record { format = f; key_room = old.key_room; column_room = old.column_room } in k)
-    (further-is old.keys.items old.ends.items old.row_bars.items old.first old.asked.items old.bars old.place _ c.self.invariant.first none refl))
+    (further-is old.keys.items old.ends.items old.row_bars.items old.first old.asked.items old.front old.bars old.place _ c.self.invariant.first none refl))

@@ -10,7 +10,7 @@ returns-then-len-self c =
     let none : old.first ≡ length old.ends.items = omega (arith, c.if-len-self.true, c.len.ensures, old.ends.ok.0) in
     rw (← c.self.view_is)
     (ap (λ (f : Format). let k : KeptFormat = record { format = f; key_room = old.key_room; column_room = old.column_room } in k)
-    (end-none old.keys.items old.ends.items old.row_bars.items old.first old.asked.items old.bars old.place none))
+    (end-none old.keys.items old.ends.items old.row_bars.items old.first old.asked.items old.front old.bars old.place none))
 
 pub returns-else-len-self : goal.returns-else-len-self
 returns-else-len-self c =
@@ -18,4 +18,4 @@ returns-else-len-self c =
     let some : old.first < length old.ends.items = omega (arith, c.if-len-self.false, c.len.ensures, old.ends.ok.0, c.self.invariant.first) in
     rw (← c.self.view_is)
     (ap (λ (f : Format). let k : KeptFormat = record { format = f; key_room = old.key_room; column_room = old.column_room } in k)
-    (end-some old.keys.items old.ends.items old.row_bars.items old.first old.asked.items old.bars old.place some))
+    (end-some old.keys.items old.ends.items old.row_bars.items old.first old.asked.items old.front old.bars old.place some))

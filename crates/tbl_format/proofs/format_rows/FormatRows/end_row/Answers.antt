@@ -53,4 +53,4 @@ returns-then-row_len-gt0 c =
     let items = rw (c.len.ensures, old.keys.ok.0) at c.push_reserved.ensures.items in
     rw (← c.self.view_is, items, c.push_reserved-then-row_len-gt0.ensures.items)
     (ap (λ (f : Format). let k : KeptFormat = record { format = f; key_room = old.key_room; column_room = old.column_room } in k)
-    (format-whole old.keys.items old.ends.items old.row_bars.items old.first old.asked.items old.bars old.place before.ends (omega (arith, row, c.if-row_len-gt0.true)) before.bars before.first))
+    (format-whole old.keys.items old.ends.items old.row_bars.items old.first old.asked.items old.front old.bars old.place before.ends (omega (arith, row, c.if-row_len-gt0.true)) before.bars before.first))

@@ -11,7 +11,7 @@ pub push_reserved-requires : goal.push_reserved-requires
 push_reserved-requires c =
     let old = c.self.inside in
     let room = rw (← c.self.view_is) at c.requires.keys in
-    omega (arith, room, key_count-all old.keys.items old.ends.items old.row_bars.items old.first old.asked.items old.bars old.place c.self.invariant.ends, c.self.invariant.keys_reserved, old.keys.ok.0)
+    omega (arith, room, key_count-all old.keys.items old.ends.items old.row_bars.items old.first old.asked.items old.front old.bars old.place c.self.invariant.ends, c.self.invariant.keys_reserved, old.keys.ok.0)
 
 pub invariant_of-self : goal.invariant_of-self
 invariant_of-self c =
@@ -32,7 +32,7 @@ invariant_of-self c =
       ends_reserved = before.ends_reserved;
       bars_reserved = before.bars_reserved;
       columns_reserved = omega (arith, before.columns_reserved, c.push_column.ensures.capacity);
-      keys_within = omega (arith, room, key_count-all old.keys.items old.ends.items old.row_bars.items old.first old.asked.items old.bars old.place before.ends, longer, len);
+      keys_within = omega (arith, room, key_count-all old.keys.items old.ends.items old.row_bars.items old.first old.asked.items old.front old.bars old.place before.ends, longer, len);
       ends = EndWithin-more (length old.keys.items) _ 0 old.ends.items (omega (arith, longer, len)) before.ends;
       bars = before.bars;
       first = before.first;
@@ -47,4 +47,4 @@ returns c =
     let items = rw c.new.ensures at c.push_reserved.ensures.items in
     rw (← c.self.view_is, items, columns)
     (ap (λ (f : Format). let k : KeptFormat = record { format = f; key_room = old.key_room; column_room = old.column_room } in k)
-    (format-key old.keys.items old.ends.items old.row_bars.items old.first old.asked.items old.bars old.place c.self.invariant.ends c.args.key))
+    (format-key old.keys.items old.ends.items old.row_bars.items old.first old.asked.items old.front old.bars old.place c.self.invariant.ends c.args.key))

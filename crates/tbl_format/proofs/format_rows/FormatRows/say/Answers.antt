@@ -14,5 +14,5 @@ returns-then-row_len-gt0 c =
     let at : c.len-last.result - 1 ≡ length old.keys.items - 1 = omega (arith, c.len-last.ensures, old.keys.ok.0) in
     rw (← c.self.view_is)
     (ap (λ (f : Format). let k : KeptFormat = record { format = f; key_room = old.key_room; column_room = old.column_room } in k)
-    (format-said (said_by c.args.does) old.ends.items old.row_bars.items old.first old.asked.items old.bars old.place old.keys.items (c.len-last.result - 1) c.said_by.result c.index.result.now c.self.invariant.ends some at
+    (format-said (said_by c.args.does) old.ends.items old.row_bars.items old.first old.asked.items old.front old.bars old.place old.keys.items (c.len-last.result - 1) c.said_by.result c.index.result.now c.self.invariant.ends some at
     (c.said_by.ensures ∙ ap (said_by c.args.does) c.index.ensures)))

@@ -1,12 +1,12 @@
 use Rattle.std.proofs.Common.{sym}
 use Rattle.tbl_layout.specs.Columns.{gaps, placed_with, spread, total}
-use Rattle.tbl_layout.specs.Widths.{edge}
+use Rattle.tbl_layout.specs.Widths.{left_edge}
 use Rattle.tbl_kept.proofs.RowsFilled.{RowsLaid-measures, measures-placed}
 use Rattle.tbl_kept.proofs.rows.TableRows.set_starts.Goals as goal
 
 pub returns-clause-laid : goal.returns-clause-laid
 returns-clause-laid c = λ bytes formats laid.
     let k = c.args.self.now in
-    let g = gaps c.args.boxing c.args.asked.now in
-    rw c.place.ensures (RowsLaid-measures bytes k.columns formats (placed_with c.args.boxing c.args.more c.args.asked.now k.columns)
-    (sym (measures-placed (edge c.args.boxing) (spread c.args.more (total g) 0 g) k.columns)) k.elements laid)
+    let g = gaps c.args.bars c.args.asked.now in
+    rw c.place.ensures (RowsLaid-measures bytes k.columns formats (placed_with c.args.bars c.args.more c.args.asked.now k.columns)
+    (sym (measures-placed (left_edge c.args.bars) (spread c.args.more (total g) 0 g) k.columns)) k.elements laid)

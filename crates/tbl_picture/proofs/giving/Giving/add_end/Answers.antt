@@ -1,9 +1,9 @@
-use Rattle.std.proofs.Common.{◌≡◌, ℕ, ◌+◌, Bool, List, [], ◌++◌, length, drop, refl, sym, ap, subst, ◌∙◌, arith, append_assoc, append-nil}
+use Rattle.std.proofs.Common.{◌≡◌, ℕ, ◌+◌, List, [], ◌++◌, length, drop, sym, ap, subst, ◌∙◌, arith, append_assoc, append-nil}
 use Rattle.std.specs.List.{slice_range}
 use Rattle.tbl_format.proofs.Parts.{length-slice_range}
 use Rattle.tbl_kept.specs.TableText.{block_of}
 use Rattle.tbl_picture.specs.Giving.{KeptGiving, last_piece, with_newline}
-use Rattle.tbl_picture.specs.PieceQueue.{KeptPieces, bytes_left}
+use Rattle.tbl_picture.specs.PieceQueue.{bytes_left}
 use Rattle.tbl_picture.specs.Pieces.{AreWithin, bytes_of, piece_len}
 use Rattle.tbl_picture.specs.declared.picture.Piece.{Piece}
 use Rattle.tbl_picture.proofs.Adding.{adds-more}

@@ -22,7 +22,7 @@ returns-clause-coming c = λ t r k laid.
       columns = c.start.new.self.room;
     } in
     rw c.set_one.ensures
-    (coming-picture t r k g c.args.indent c.args.boxing c.args.width frame.ensures.front frame.ensures.end
+    (coming-picture t r k g c.args.indent c.args.bars c.args.width frame.ensures.front frame.ensures.end
     (c.start.ensures.lines (block_of t) (all_rows k.format) r))
 
 pub returns-clause-can : goal.returns-clause-can

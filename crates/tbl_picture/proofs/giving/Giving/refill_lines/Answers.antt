@@ -1,4 +1,4 @@
-use Rattle.std.proofs.Common.{◌≡◌, ℕ, Bool, ◌+◌, ◌≤◌, ◌<◌, ◌++◌, List, [], length, drop, ap, refl, sym, subst, ◌∙◌, arith, append_assoc, append-nil}
+use Rattle.std.proofs.Common.{◌≡◌, ℕ, Bool, ◌+◌, ◌≤◌, ◌++◌, List, [], drop, ap, refl, sym, subst, ◌∙◌, arith, append-nil}
 use Rattle.tbl_kept.specs.TableText.{block_of}
 use Rattle.tbl_picture.specs.Giving.{KeptGiving, lines_left, with_newline}
 use Rattle.tbl_picture.specs.PieceQueue.{KeptPieces, bytes_left}

@@ -57,7 +57,8 @@ returns-in-Some-EmptyLine-default-clause-steps c = λ frame.
     (subst (λ (b : List ℕ). parts_at b r.place ≡ EmptyLine ∷ parts_at b arm.behind) value parts)
     (subst (λ (b : List ℕ). IsWithin b arm.behind) value arm.ensures.on.within) in
     subst (λ (k : KeptWalk). RowSteps frame row w k pieces pieces) (sym c.pass-in-Some-EmptyLine-default.ensures)
-    (subst (λ (n : ℕ). RowSteps frame row w (passed row.boxing arm.behind n w) pieces pieces) (sym (ap (λ (k : KeptWalk). k.place) c.pass.view_is)) steps)
+    (subst (λ (n : ℕ). RowSteps frame row w (passed row.bars.has_any arm.behind n w) pieces pieces)
+    (sym (ap (λ (k : KeptWalk). k.place) c.pass.view_is)) steps)
 
 pub returns-in-None-clause-steps : goal.returns-in-None-clause-steps
 returns-in-None-clause-steps c = λ frame.
@@ -68,4 +69,5 @@ returns-in-None-clause-steps c = λ frame.
     let steps = ended-steps row w r c.requires.at c.requires.kind frame pieces c.requires.next
     (subst (λ (b : List ℕ). parts_at b r.place ≡ []) c.block_bytes-block.ensures.value c.in-None.ensures.parts) in
     subst (λ (k : KeptWalk). RowSteps frame row w k pieces pieces) (sym c.pass-in-None-2.ensures)
-    (subst (λ (n : ℕ). RowSteps frame row w (passed row.boxing AtEnd n w) pieces pieces) (sym (ap (λ (k : KeptWalk). k.place) c.pass-in-None.view_is)) steps)
+    (subst (λ (n : ℕ). RowSteps frame row w (passed row.bars.has_any AtEnd n w) pieces pieces)
+    (sym (ap (λ (k : KeptWalk). k.place) c.pass-in-None.view_is)) steps)

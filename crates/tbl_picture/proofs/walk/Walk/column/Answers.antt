@@ -23,6 +23,7 @@ returns c =
     let left : length w.behind < length row.entries = subst (λ (k : KeptWalk). length k.behind < length row.entries) (sym c.self.view_is) c.requires.left in
     let same : c.len.result ≡ length w.behind = omega (arith, c.len.ensures, c.self.inside.behind.ok.0) in
     let all : List BlockPlace → ℕ → Type 0 = λ places n.
-    drop n (row_columns row.boxing row.keys 0 row.columns row.entries places) ≡ r ∷ drop (suc n) (row_columns row.boxing row.keys 0 row.columns row.entries places) in
+    drop n (row_columns row.bars.boxing row.format 0 row.columns row.entries places)
+    ≡ r ∷ drop (suc n) (row_columns row.bars.boxing row.format 0 row.columns row.entries places) in
     let first = subst (λ (n : ℕ). all w.places n) same (subst (λ (places : List BlockPlace). all places c.len.result) c.as_slice.ensures.value c.column_at.ensures) in
     subst (λ (k : KeptWalk). AtColumn row k r) c.self.view_is (at-column row w r line left first)

@@ -21,7 +21,8 @@ returns-else-self-eq0-clause-steps c = λ frame.
     let steps = none-steps row w r at c.requires.next frame pieces r.place first
     (text-moved row.bytes r w.line c.in-Text.glyphs c.in-Text.width c.in-Text.is) at.within in
     subst (λ (k : KeptWalk). RowSteps frame row w k pieces pieces) (sym c.pass-else-self-eq0.ensures)
-    (subst (λ (n : ℕ). RowSteps frame row w (passed row.boxing r.place n w) pieces pieces) (sym (ap (λ (k : KeptWalk). k.place) c.pass.view_is)) steps)
+    (subst (λ (n : ℕ). RowSteps frame row w (passed row.bars.has_any r.place n w) pieces pieces)
+    (sym (ap (λ (k : KeptWalk). k.place) c.pass.view_is)) steps)
 
 pub returns-else-self-eq0-2-clause-steps : goal.returns-else-self-eq0-2-clause-steps
 returns-else-self-eq0-2-clause-steps c = λ frame.
@@ -35,4 +36,5 @@ returns-else-self-eq0-2-clause-steps c = λ frame.
     let steps = none-steps row w r at c.requires.next frame pieces r.place first
     (split-moved row.bytes r w.line c.in-Split.split c.in-Split.is) at.within in
     subst (λ (k : KeptWalk). RowSteps frame row w k pieces pieces) (sym c.pass-else-self-eq0-2-2.ensures)
-    (subst (λ (n : ℕ). RowSteps frame row w (passed row.boxing r.place n w) pieces pieces) (sym (ap (λ (k : KeptWalk). k.place) c.pass-else-self-eq0-2.view_is)) steps)
+    (subst (λ (n : ℕ). RowSteps frame row w (passed row.bars.has_any r.place n w) pieces pieces)
+    (sym (ap (λ (k : KeptWalk). k.place) c.pass-else-self-eq0-2.view_is)) steps)

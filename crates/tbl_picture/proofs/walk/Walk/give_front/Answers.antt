@@ -1,15 +1,16 @@
 use Rattle.std.proofs.Common.{◌≡◌, ◌≢◌, ℕ, suc, ◌∷◌, drop, sym, ap, subst}
-use Rattle.tbl_picture.specs.PictureLines.{bar_at, crossed_at, no_bar}
+use Rattle.tbl_picture.specs.PictureLines.{bars_at, crossed_at, nothing_there}
 use Rattle.tbl_picture.specs.RowsLeft.{cell_of_front, fronts_by}
+use Rattle.tbl_picture.specs.RowsWalked.{HasBars}
 use Rattle.tbl_picture.specs.Walks.{KeptWalk, RowSteps, WalkedRow, front_passed, lent_row}
 use Rattle.tbl_picture.specs.declared.fronts.Front.{Front}
-use Rattle.tbl_picture.proofs.FrontSteps.{front-stands, no-bar-steps, stands-late}
+use Rattle.tbl_picture.proofs.FrontSteps.{front-stands, nothing-steps, stands-late}
 use Rattle.tbl_picture.proofs.walk.Walk.give_front.Goals as goal
 
 -- what was found stands there
 abbrev with-front : WalkedRow → ℕ → Front → Type 0
 with-front row at front =
-    let all = fronts_by row.boxing row.width row.columns row.entries in drop at all ≡ cell_of_front front ∷ drop (suc at) all
+    let all = fronts_by row.bars row.width row.format row.columns row.entries in drop at all ≡ cell_of_front front ∷ drop (suc at) all
 
 pub returns-in-Nothing : goal.returns-in-Nothing
 returns-in-Nothing c = λ frame.
@@ -17,29 +18,41 @@ returns-in-Nothing c = λ frame.
     let w = c.args.self.now in
     let pieces = c.args.pieces.now in
     let at = c.args.at in
-    let stands = front-stands row w at no_bar c.requires.front (subst (with-front row at) c.in-Nothing.is c.front_at.ensures) in
-    let steps = no-bar-steps row w at c.requires.next frame pieces stands in
+    let stands = front-stands row w at nothing_there c.requires.front (subst (with-front row at) c.in-Nothing.is c.front_at.ensures.at) in
+    let steps = nothing-steps row w at c.requires.next frame pieces stands in
     subst (λ (k : KeptWalk). RowSteps frame row w k pieces pieces) (sym c.pass_front-in-Nothing.ensures)
     (subst (λ (n : ℕ). RowSteps frame row w (front_passed row at n w) pieces pieces) (sym (ap (λ (k : KeptWalk). k.place) c.pass_front.view_is)) steps)
 
-pub give_bar-requires-clause-front : goal.give_bar-requires-clause-front
-give_bar-requires-clause-front c =
+pub give_bars-requires-clause-front : goal.give_bars-requires-clause-front
+give_bars-requires-clause-front c =
     let row = lent_row c.args.row.now in
-    front-stands row c.args.self.now c.args.at (bar_at c.in-Bar.place) c.requires.front (subst (with-front row c.args.at) c.in-Bar.is c.front_at.ensures)
+    let arm = c.in-Bars in
+    front-stands row c.args.self.now c.args.at (bars_at arm.place arm.bars) c.requires.front
+    (subst (with-front row c.args.at) arm.is c.front_at.ensures.at)
+
+pub give_bars-requires-clause-some : goal.give_bars-requires-clause-some
+give_bars-requires-clause-some c = subst HasBars c.in-Bars.is c.front_at.ensures.some
 
 pub give_crossing-requires-clause-front : goal.give_crossing-requires-clause-front
 give_crossing-requires-clause-front c =
     let row = lent_row c.args.row.now in
     let arm = c.in-Crossed in
-    front-stands row c.args.self.now c.args.at (crossed_at arm.place arm.sign arm.end) c.requires.front
-    (subst (with-front row c.args.at) arm.is c.front_at.ensures)
+    front-stands row c.args.self.now c.args.at (crossed_at arm.place arm.bars arm.sign arm.end) c.requires.front
+    (subst (with-front row c.args.at) arm.is c.front_at.ensures.at)
 
-pub give_bar-requires-else-self-eq0-clause-front : goal.give_bar-requires-else-self-eq0-clause-front
-give_bar-requires-else-self-eq0-clause-front c =
+pub give_crossing-requires-clause-some : goal.give_crossing-requires-clause-some
+give_crossing-requires-clause-some c = subst HasBars c.in-Crossed.is c.front_at.ensures.some
+
+pub give_bars-requires-else-self-eq0-clause-front : goal.give_bars-requires-else-self-eq0-clause-front
+give_bars-requires-else-self-eq0-clause-front c =
     let row = lent_row c.args.row.now in
     let w = c.args.self.now in
     let arm = c.in-Crossed in
+    let some = subst HasBars arm.is c.front_at.ensures.some in
     let line_is : c.self.inside.line ≡ w.line = ap (λ (k : KeptWalk). k.line) c.self.view_is in
-    stands-late row w c.args.at arm.place arm.end arm.sign (subst (λ (n : ℕ). n ≢ 0) line_is c.if-self-eq0.false)
-    (front-stands row w c.args.at (crossed_at arm.place arm.sign arm.end) c.requires.front
-    (subst (with-front row c.args.at) arm.is c.front_at.ensures))
+    stands-late row w c.args.at arm.place arm.bars arm.end arm.sign some (subst (λ (n : ℕ). n ≢ 0) line_is c.if-self-eq0.false)
+    (front-stands row w c.args.at (crossed_at arm.place arm.bars arm.sign arm.end) c.requires.front
+    (subst (with-front row c.args.at) arm.is c.front_at.ensures.at))
+
+pub give_bars-requires-else-self-eq0-clause-some : goal.give_bars-requires-else-self-eq0-clause-some
+give_bars-requires-else-self-eq0-clause-some c = subst HasBars c.in-Crossed.is c.front_at.ensures.some

@@ -24,7 +24,8 @@ returns-then-self-ne0 c = λ frame.
     (repeated-late row.bytes r c.args.byte c.args.count c.requires.repeats w.line (subst (λ (n : ℕ). n ≢ 0) line_is c.if-self-ne0.true))
     (repeated-moved row.bytes r c.args.byte c.args.count c.requires.repeats w.line) c.requires.at.within in
     subst (λ (k : KeptWalk). RowSteps frame row w k pieces pieces) (sym c.pass-then-self-ne0.ensures)
-    (subst (λ (n : ℕ). RowSteps frame row w (passed row.boxing r.place n w) pieces pieces) (sym (ap (λ (k : KeptWalk). k.place) c.pass.view_is)) steps)
+    (subst (λ (n : ℕ). RowSteps frame row w (passed row.bars.has_any r.place n w) pieces pieces)
+    (sym (ap (λ (k : KeptWalk). k.place) c.pass.view_is)) steps)
 
 pub returns : goal.returns
 returns c = λ frame.
@@ -57,4 +58,4 @@ returns c = λ frame.
     gap_is (ap (λ (n : ℕ). n + count) c.begins_at-at.ensures.value)
     (subst (λ (more : List ℕ). Adds bytes frame 4 before after (if_given w.count (replicate gap blank) ++ more)) (sym (repeated-last w.count b count has)) both) in
     subst (λ (k : KeptWalk). RowSteps frame row c.args.self.now k before after) (sym c.pass-2.ensures)
-    (subst (λ (k : KeptWalk). RowSteps frame row k (passed row.boxing r.place reached k) before after) view steps)
+    (subst (λ (k : KeptWalk). RowSteps frame row k (passed row.bars.has_any r.place reached k) before after) view steps)

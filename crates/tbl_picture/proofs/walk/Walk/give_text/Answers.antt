@@ -43,4 +43,4 @@ returns c = λ frame.
     gap_is (ap (λ (n : ℕ). n + width) c.begins_at-at.ensures.value)
     (subst (λ (more : List ℕ). Adds bytes frame 4 before after (if_given w.count (replicate gap blank) ++ more)) last both) in
     subst (λ (k : KeptWalk). RowSteps frame row c.args.self.now k before after) (sym c.pass.ensures)
-    (subst (λ (k : KeptWalk). RowSteps frame row k (passed row.boxing r.place reached k) before after) view steps)
+    (subst (λ (k : KeptWalk). RowSteps frame row k (passed row.bars.has_any r.place reached k) before after) view steps)

@@ -23,7 +23,7 @@ column-held-requires-clause-left c =
     omega (
       arith,
       some-left row.bytes c.args.word c.args.width c.args.place (length w.behind) (columns_walked row w) c.requires.word.next,
-      length-row_columns row.boxing row.keys row.bytes 0 row.columns row.entries w.places b.short b.places,
+      length-row_columns row.bars.boxing row.format row.bytes 0 row.columns row.entries w.places b.short b.places,
     )
 
 pub returns-in-Joins-clause-steps : goal.returns-in-Joins-clause-steps
@@ -99,4 +99,4 @@ returns-in-Ends-clause-steps c = λ frame.
     (ap (λ (n : ℕ). given (one_less w.count) (n + c.args.width) (cells_behind row w r at)) c.begins_at.ensures.value)
     adds in
     subst (λ (k : KeptWalk). RowSteps frame row c.args.self.now k before after) (sym c.pass.ensures)
-    (subst (λ (k : KeptWalk). RowSteps frame row k (passed row.boxing c.args.place reached k) before after) view steps)
+    (subst (λ (k : KeptWalk). RowSteps frame row k (passed row.bars.has_any c.args.place reached k) before after) view steps)

@@ -1,18 +1,20 @@
 use Rattle.std.proofs.Common.{◌≡◌, suc, ◌+◌, [], ◌∷◌, ◌++◌, drop, refl, sym, ap, subst, ◌∙◌, arith}
 use Rattle.std.specs.List.{slice_range}
 use Rattle.roff_source.specs.Bytes.{newline}
+use Rattle.tbl_format.specs.RowsServed.{all_rows}
 use Rattle.tbl_kept.specs.Rows.{Row}
 use Rattle.tbl_picture.specs.ElementsWalked.{CanWalk, Steps}
 use Rattle.tbl_picture.specs.Walks.{KeptWalk, kept_by}
 use Rattle.tbl_picture.specs.declared.walk.Next.TheVariants.{AtElement}
 use Rattle.tbl_text.proofs.BlockSlices.{length-slice_range}
 use Rattle.tbl_picture.proofs.Adding.{adds-fewer, adds-more}
-use Rattle.tbl_picture.proofs.PictureSteps.{command-lies, command-steps, row-at, rule-at}
+use Rattle.tbl_picture.proofs.PictureSteps.{command-lies, command-steps, row-at, rule-element}
 use Rattle.tbl_picture.proofs.walk.Walk.step_at_element.Goals as goal
 
 pub returns-in-Command : goal.returns-in-Command
 returns-in-Command c = record {
-  step = λ bytes frame formats can within.
+  step = λ bytes frame can within.
+      let formats = all_rows c.args.format.now.format in
       let rows = c.args.rows.now in
       let w = kept_by c.self.inside in
       let view = c.self.view_is in
@@ -36,7 +38,8 @@ returns-in-Command c = record {
 
 pub returns-in-Rule : goal.returns-in-Rule
 returns-in-Rule c = record {
-  step = λ bytes frame formats can within.
+  step = λ bytes frame can within.
+      let formats = all_rows c.args.format.now.format in
       let rows = c.args.rows.now in
       let w = kept_by c.self.inside in
       let view = c.self.view_is in
@@ -46,13 +49,14 @@ returns-in-Rule c = record {
       let after = c.step_at_rule.new.pieces in
       let new = c.step_at_rule.new.self in
       subst (λ (k : KeptWalk). Steps bytes frame formats rows k new before after) view
-      (rule-at bytes frame formats rows w here before after within next c.in-Rule.sign (drop (suc w.element) rows.elements) c.in-Rule.ensures new
-      (c.step_at_rule.ensures bytes frame formats));
+      (rule-element bytes frame formats rows w here before after within next c.in-Rule.sign (drop (suc w.element) rows.elements) new c.in-Rule.ensures
+      (c.step_at_rule.ensures bytes frame));
 }
 
 pub returns-in-Row : goal.returns-in-Row
 returns-in-Row c = record {
-  step = λ bytes frame formats can within.
+  step = λ bytes frame can within.
+      let formats = all_rows c.args.format.now.format in
       let rows = c.args.rows.now in
       let w = c.args.self.now in
       let before = c.args.pieces.now in
@@ -61,5 +65,5 @@ returns-in-Row c = record {
       let at = subst (λ (k : KeptWalk). drop k.element rows.elements ≡ Row row.field-0 row.field-1 row.entries.now ∷ drop (suc k.element) rows.elements)
       c.self.view_is row.ensures in
       row-at bytes frame formats rows w can before after within c.requires.next row.field-0 row.field-1 row.entries.now
-      (drop (suc w.element) rows.elements) at c.step_at_row.new.self (c.step_at_row.ensures bytes frame formats);
+      (drop (suc w.element) rows.elements) at c.step_at_row.new.self (c.step_at_row.ensures bytes frame);
 }

@@ -1,12 +1,13 @@
-use Rattle.std.proofs.Common.{◌≡◌, ℕ, ◌+◌, suc, List, [], ◌∷◌, drop, sym, ap, subst, arith}
+use Rattle.std.proofs.Common.{◌≡◌, ℕ, suc, List, [], ◌∷◌, drop, sym, ap, subst, arith}
+use Rattle.tbl_format.specs.Format.{FormatRow}
 use Rattle.tbl_format.specs.RowsServed.{all_rows, row_at}
 use Rattle.tbl_format.specs.declared.format.FormatKey.{FormatKey}
-use Rattle.tbl_format.specs.declared.options.Boxing.{Boxing}
-use Rattle.tbl_kept.specs.Rows.{KeptElement, Row}
+use Rattle.tbl_kept.specs.Rows.{Row}
+use Rattle.tbl_layout.specs.declared.bars.Bars.{Bars}
 use Rattle.tbl_layout.specs.declared.columns.Column.{Column}
 use Rattle.tbl_picture.specs.ElementsWalked.{IsInRow, Steps}
 use Rattle.tbl_picture.specs.Walks.{KeptWalk, RowEndsOrGoesOn, WalkedRow}
-use Rattle.tbl_picture.proofs.PictureSteps.{does-element, row-by, within-drop}
+use Rattle.tbl_picture.proofs.RowSteps.{does-element, row-by, within-drop}
 use Rattle.tbl_picture.proofs.walk.Walk.step_in_element.Goals as goal
 
 pub returns-in-Row-clause-step : goal.returns-in-Row-clause-step
@@ -26,12 +27,15 @@ returns-in-Row-clause-step c = λ frame within.
     let after = c.step_in_row-has_ended.new.pieces in
     let elements = drop (suc w.element) rows.elements in
     let at = subst (λ (k : KeptWalk). drop k.element rows.elements ≡ Row keys height entries ∷ drop (suc k.element) rows.elements) view c.in-Row.ensures in
-    let row : Boxing → ℕ → List FormatKey → List Column → WalkedRow = λ b n ks cs.
-    record { boxing = b; width = n; bytes = bytes; keys = ks; columns = cs; height = height; entries = entries } in
-    let does = subst (λ (k : KeptWalk). RowEndsOrGoesOn t frame (row k.boxing k.picture_width (row_at formats keys).keys rows.columns) w mid before after) view
-    (subst (λ (cs : List Column). RowEndsOrGoesOn t frame (row a.boxing a.picture_width (row_at formats keys).keys cs) w mid before after) c.columns.ensures
-    (subst (λ (ks : List FormatKey). RowEndsOrGoesOn t frame (row a.boxing a.picture_width ks c.columns.result.now) w mid before after) c.row_of_all.ensures
-    (c.step_in_row-has_ended.ensures.steps frame))) in
+    let format = row_at formats keys in
+    let row : Bars → ℕ → FormatRow → List Column → WalkedRow = λ b n f cs.
+    record { bars = b; width = n; bytes = bytes; format = f; columns = cs; height = height; entries = entries } in
+    let lent : List FormatKey → ℕ → WalkedRow = λ ks n. row a.bars a.picture_width (record { keys = ks; bars = n }) c.columns.result.now in
+    let does = subst (λ (k : KeptWalk). RowEndsOrGoesOn t frame (row k.bars k.picture_width format rows.columns) w mid before after) view
+    (subst (λ (cs : List Column). RowEndsOrGoesOn t frame (row a.bars a.picture_width format cs) w mid before after) c.columns.ensures
+    (subst (λ (n : ℕ). RowEndsOrGoesOn t frame (lent format.keys n) w mid before after) c.bars_of_all.ensures
+    (subst (λ (ks : List FormatKey). RowEndsOrGoesOn t frame (lent ks c.bars_of_all.result) w mid before after) c.row_of_all.ensures
+    (c.step_in_row-has_ended.ensures.steps frame)))) in
     let under = subst (IsInRow bytes formats rows w) at c.requires.row in
     subst (λ (k : KeptWalk). Steps bytes frame formats rows w k before after) (sym c.go_on.ensures)
     (row-by bytes frame formats rows w c.requires.can before after within keys height entries elements at t mid under does)
@@ -41,10 +45,10 @@ go_on-requires c = λ _.
     let a = c.self.inside in
     let rows = c.args.rows.now in
     let row : WalkedRow = record {
-      boxing = a.boxing;
+      bars = a.bars;
       width = a.picture_width;
       bytes = c.args.bytes.now;
-      keys = c.row_of_all.result.now;
+      format = record { keys = c.row_of_all.result.now; bars = c.bars_of_all.result };
       columns = c.columns.result.now;
       height = c.in-Row.height;
       entries = c.in-Row.entries.now;

@@ -7,7 +7,7 @@ use Rattle.tbl_picture.proofs.walk.rules.row_below.Goals as goal
 
 pub returns-in-Row-clause-line : goal.returns-in-Row-clause-line
 returns-in-Row-clause-line c = λ bytes formats.
-    ap (line_of_first bytes true) c.in-Row.ensures
+    ap (line_of_first bytes formats true) c.in-Row.ensures
     ∙ sym (ap (λ (es : List KeptElement). line_below (elements_of bytes formats es)) c.in-Row.ensures)
     ∙ c.loop-at.invariant.line bytes formats
 

@@ -1,6 +1,6 @@
 use Rattle.std.proofs.Common.{refl, sym, ◌∙◌}
 use Rattle.tbl_format.specs.Options.{options_end}
-use Rattle.tbl_table.proofs.BegunLines.{columns-format, columns-keys, columns-nothing, counts-behind}
+use Rattle.tbl_table.proofs.BegunLines.{columns-format, columns-keys, counts-behind, nothing-head}
 use Rattle.tbl_table.proofs.begun.Begun.columns_with.Goals as goal
 
 pub returns-in-Keys-clause-head : goal.returns-in-Keys-clause-head
@@ -9,7 +9,7 @@ returns-in-Keys-clause-head c = λ is.
 
 pub returns-in-Nothing-clause-head : goal.returns-in-Nothing-clause-head
 returns-in-Nothing-clause-head c = λ is.
-    columns-nothing c.args.line.now c.args.byte (options_end c.args.line.now) refl (sym c.in-Nothing.is ∙ is)
+    absurd (nothing-head c.args.line.now (options_end c.args.line.now) (sym c.in-Nothing.is ∙ is))
 
 pub returns-in-Keys-clause-format : goal.returns-in-Keys-clause-format
 returns-in-Keys-clause-format c = λ f is.

@@ -1,7 +1,7 @@
 use Rattle.std.proofs.Common.{sym, ◌∙◌}
 use Rattle.roff_source.specs.Bytes.{newline}
 use Rattle.tbl_format.specs.Options.{options_end}
-use Rattle.tbl_table.proofs.BegunLines.{counts-behind, place-format, place-front, place-keys, place-nothing}
+use Rattle.tbl_table.proofs.BegunLines.{counts-behind, nothing-head, place-format, place-front, place-keys}
 use Rattle.tbl_table.proofs.begun.Begun.place_at_end.Goals as goal
 
 pub returns-in-Keys-clause-head : goal.returns-in-Keys-clause-head
@@ -17,4 +17,4 @@ returns-in-Front-clause-head c = λ is.
     place-front c.args.line.now c.in-Front.field-0 c.whole_line.result.place c.whole_line.ensures.place (sym c.in-Front.is ∙ is)
 
 pub returns-in-Nothing-clause-head : goal.returns-in-Nothing-clause-head
-returns-in-Nothing-clause-head c = λ is. place-nothing c.args.line.now (sym c.in-Nothing.is ∙ is)
+returns-in-Nothing-clause-head c = λ is. absurd (nothing-head c.args.line.now (options_end c.args.line.now) (sym c.in-Nothing.is ∙ is))

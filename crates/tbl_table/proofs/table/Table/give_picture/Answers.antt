@@ -1,4 +1,4 @@
-use Rattle.std.proofs.Common.{◌≡◌, ◌+◌, ◌-◌, ◌<◌, ◌≤◌, ◌^◌, min, nat_lt, ℕ, Bool, true, false, List, [], ◌++◌, length, map, take, None, Some, sym, ap, subst, ◌∙◌, arith, if◌then◌else◌}
+use Rattle.std.proofs.Common.{◌≡◌, ◌+◌, ◌-◌, ◌<◌, ◌≤◌, ◌^◌, min, nat_lt, ℕ, Bool, true, false, List, ◌++◌, map, take, None, Some, sym, ap, subst, ◌∙◌, arith, if◌then◌else◌}
 use Rattle.roff_num.specs.declared.limit.Limit.TheVariants.{Width}
 use Rattle.tbl_data.specs.declared.table_data.OpenBlock.TheVariants.{Nothing}
 use Rattle.tbl_data.specs.declared.table_data.TableData.{TableData}
@@ -8,6 +8,8 @@ use Rattle.tbl_kept.specs.Rows.{KeptRows, RowsLaid, SameRoom}
 use Rattle.tbl_kept.specs.TableNotes.{KeptNotes}
 use Rattle.tbl_layout.specs.Columns.{width_of_all}
 use Rattle.tbl_layout.specs.KeptEntries.{content_of}
+use Rattle.tbl_layout.specs.Widths.{table_bars}
+use Rattle.tbl_layout.specs.declared.bars.Bars.{Bars}
 use Rattle.tbl_layout.specs.declared.columns.Column.{Column}
 use Rattle.tbl_picture.specs.Frame.{indent, picture}
 use Rattle.tbl_table.specs.Kept.{PartsFit, table_of}
@@ -44,10 +46,12 @@ invariant_of-self c =
     ∙ settled-is a.limits a.phase a.begun a.text a.kept fits is none closed c.line_start.result c.line_start.ensures.value in
     let new : TableData = c.lay_out-laid.new.kept in
     let line_length = c.args.line_length in
+    let bars : Bars = table_bars a.options.boxing a.kept.format.format in
+    let bars_is : c.of-bars.result ≡ bars = c.of-bars.ensures in
     let laid : IsLaid a.text.settled line_length a.kept new = rw slice at c.lay_out-laid.ensures.laid in
     let t = table_of a.phase a.options a.text a.kept in
     let wide = (laid_out line_length t).width in
-    let width : c.lay_out-laid.result.width ≡ min wide (2 ^ 64 - 1) = rw slice at c.lay_out-laid.ensures.width in
+    let width : c.lay_out-laid.result.width ≡ min wide (2 ^ 64 - 1) = rw (slice, bars_is) at c.lay_out-laid.ensures.width in
     record {
       parts = rw c.tell.ensures
           (subst (λ (e : TableData). PartsFit a.limits Bad NothingBegun a.text (record e { notes = record e.notes { to_tell = e.notes.notes } })) (sym laid.same)
@@ -69,10 +73,12 @@ returns-then-laid-self-clause-answer c =
     ∙ settled-is a.limits a.phase a.begun a.text a.kept fits is none closed c.line_start.result c.line_start.ensures.value in
     let new : TableData = c.lay_out-laid.new.kept in
     let line_length = c.args.line_length in
+    let bars : Bars = table_bars a.options.boxing a.kept.format.format in
+    let bars_is : c.of-bars.result ≡ bars = c.of-bars.ensures in
     let laid : IsLaid a.text.settled line_length a.kept new = rw slice at c.lay_out-laid.ensures.laid in
     let t = table_of a.phase a.options a.text a.kept in
     let wide = (laid_out line_length t).width in
-    let width : c.lay_out-laid.result.width ≡ min wide (2 ^ 64 - 1) = rw slice at c.lay_out-laid.ensures.width in
+    let width : c.lay_out-laid.result.width ≡ min wide (2 ^ 64 - 1) = rw (slice, bars_is) at c.lay_out-laid.ensures.width in
     let over : nat_lt a.limits.width wide ≡ true = over-test a.limits.width wide c.lay_out-laid.result.width fits.rooms.wide width c.if-laid-self.true in
     rw (← c.self.view_is) (sym (ap (λ (b : Bool). if b then Some Width else None) over))
 
@@ -88,23 +94,25 @@ invariant_of-self-2 c =
     ∙ settled-is a.limits a.phase a.begun a.text a.kept fits is none closed c.line_start.result c.line_start.ensures.value in
     let new : TableData = c.lay_out-laid.new.kept in
     let line_length = c.args.line_length in
+    let bars : Bars = table_bars a.options.boxing a.kept.format.format in
+    let bars_is : c.of-bars.result ≡ bars = c.of-bars.ensures in
     let laid : IsLaid a.text.settled line_length a.kept new = rw slice at c.lay_out-laid.ensures.laid in
     let t = table_of a.phase a.options a.text a.kept in
     let wide = (laid_out line_length t).width in
-    let width : c.lay_out-laid.result.width ≡ min wide (2 ^ 64 - 1) = rw slice at c.lay_out-laid.ensures.width in
+    let width : c.lay_out-laid.result.width ≡ min wide (2 ^ 64 - 1) = rw (slice, bars_is) at c.lay_out-laid.ensures.width in
     let more = c.lay_out-laid.result.more in
-    let more_is : more ≡ lacking_by a.options.boxing a.options.expanded line_length a.text.settled a.kept = rw slice at c.lay_out-laid.ensures.more in
+    let more_is : more ≡ lacking_by bars a.options.expanded line_length a.text.settled a.kept = rw (slice, bars_is) at c.lay_out-laid.ensures.more in
     let within : wide ≤ a.limits.width = within-test a.limits.width wide c.lay_out-laid.result.width fits.rooms.wide width c.if-laid-self.false in
     let rows : KeptRows = places a.limits a.phase a.begun a.text a.kept fits is none closed line_length a.options new laid more in
     let kept_is : c.set_places.new.kept ≡ record a.kept { rows = rows; escapes = new.escapes; notes = record a.kept.notes { to_tell = a.kept.notes.notes } } =
-    c.set_places.ensures.value
-    ∙ ap (λ (ns : KeptNotes). with_places a.options.boxing more (record new { notes = ns })) c.tell.ensures
-    ∙ ap (λ (e : TableData). with_places a.options.boxing more (record e { notes = record e.notes { to_tell = e.notes.notes } })) laid.same in
+    rw bars_is at c.set_places.ensures.value
+    ∙ ap (λ (ns : KeptNotes). with_places bars more (record new { notes = ns })) c.tell.ensures
+    ∙ ap (λ (e : TableData). with_places bars more (record e { notes = record e.notes { to_tell = e.notes.notes } })) laid.same in
     let formats = all_rows a.kept.format.format in
     let rows_laid : RowsLaid a.text.settled formats rows =
     subst (λ (e : TableData). RowsLaid a.text.settled formats e.rows) kept_is (c.set_places.ensures.laid a.text.settled formats laid.laid) in
-    let narrow : width_of_all a.options.boxing new.rows.columns a.kept.format.format.asked + more < 4294967296 =
-    omega (arith, within, fits.rooms.wide, more_is, ap (λ (cs : List Column). width_of_all a.options.boxing cs a.kept.format.format.asked) laid.columns) in
+    let narrow : width_of_all bars new.rows.columns a.kept.format.format.asked + more < 4294967296 =
+    omega (arith, within, fits.rooms.wide, more_is, ap (λ (cs : List Column). width_of_all bars cs a.kept.format.format.asked) laid.columns) in
     let can : IsLaidOut a.text rows a.kept.format a.giving.columns =
     laid-out a.limits a.phase a.begun a.text a.kept fits is none closed line_length a.options new laid a.giving.columns more c.self.invariant.columns narrow rows_laid in
     let rooms : SameRoom a.kept.rows rows = record { entries = laid.rooms.entries; elements = laid.rooms.elements; columns = laid.rooms.columns } in
@@ -128,10 +136,12 @@ returns-clause-answer c =
     ∙ settled-is a.limits a.phase a.begun a.text a.kept fits is none closed c.line_start.result c.line_start.ensures.value in
     let new : TableData = c.lay_out-laid.new.kept in
     let line_length = c.args.line_length in
+    let bars : Bars = table_bars a.options.boxing a.kept.format.format in
+    let bars_is : c.of-bars.result ≡ bars = c.of-bars.ensures in
     let laid : IsLaid a.text.settled line_length a.kept new = rw slice at c.lay_out-laid.ensures.laid in
     let t = table_of a.phase a.options a.text a.kept in
     let wide = (laid_out line_length t).width in
-    let width : c.lay_out-laid.result.width ≡ min wide (2 ^ 64 - 1) = rw slice at c.lay_out-laid.ensures.width in
+    let width : c.lay_out-laid.result.width ≡ min wide (2 ^ 64 - 1) = rw (slice, bars_is) at c.lay_out-laid.ensures.width in
     let none_over : nat_lt a.limits.width wide ≡ false = none-test a.limits.width wide c.lay_out-laid.result.width fits.rooms.wide width c.if-laid-self.false in
     rw (← c.self.view_is) (sym (ap (λ (b : Bool). if b then Some Width else None) none_over))
 
@@ -147,30 +157,33 @@ returns-clause-to_come c =
     ∙ settled-is a.limits a.phase a.begun a.text a.kept fits is none closed c.line_start.result c.line_start.ensures.value in
     let new : TableData = c.lay_out-laid.new.kept in
     let line_length = c.args.line_length in
+    let bars : Bars = table_bars a.options.boxing a.kept.format.format in
+    let bars_is : c.of-bars.result ≡ bars = c.of-bars.ensures in
     let laid : IsLaid a.text.settled line_length a.kept new = rw slice at c.lay_out-laid.ensures.laid in
     let t = table_of a.phase a.options a.text a.kept in
     let wide = (laid_out line_length t).width in
-    let width : c.lay_out-laid.result.width ≡ min wide (2 ^ 64 - 1) = rw slice at c.lay_out-laid.ensures.width in
+    let width : c.lay_out-laid.result.width ≡ min wide (2 ^ 64 - 1) = rw (slice, bars_is) at c.lay_out-laid.ensures.width in
     let more = c.lay_out-laid.result.more in
-    let more_is : more ≡ lacking_by a.options.boxing a.options.expanded line_length a.text.settled a.kept = rw slice at c.lay_out-laid.ensures.more in
+    let more_is : more ≡ lacking_by bars a.options.expanded line_length a.text.settled a.kept = rw (slice, bars_is) at c.lay_out-laid.ensures.more in
     let within : wide ≤ a.limits.width = within-test a.limits.width wide c.lay_out-laid.result.width fits.rooms.wide width c.if-laid-self.false in
     let rows : KeptRows = places a.limits a.phase a.begun a.text a.kept fits is none closed line_length a.options new laid more in
     let kept_is : c.set_places.new.kept ≡ record a.kept { rows = rows; escapes = new.escapes; notes = record a.kept.notes { to_tell = a.kept.notes.notes } } =
-    c.set_places.ensures.value
-    ∙ ap (λ (ns : KeptNotes). with_places a.options.boxing more (record new { notes = ns })) c.tell.ensures
-    ∙ ap (λ (e : TableData). with_places a.options.boxing more (record e { notes = record e.notes { to_tell = e.notes.notes } })) laid.same in
+    rw bars_is at c.set_places.ensures.value
+    ∙ ap (λ (ns : KeptNotes). with_places bars more (record new { notes = ns })) c.tell.ensures
+    ∙ ap (λ (e : TableData). with_places bars more (record e { notes = record e.notes { to_tell = e.notes.notes } })) laid.same in
     let formats = all_rows a.kept.format.format in
     let rows_laid : RowsLaid a.text.settled formats rows =
     subst (λ (e : TableData). RowsLaid a.text.settled formats e.rows) kept_is (c.set_places.ensures.laid a.text.settled formats laid.laid) in
-    let narrow : width_of_all a.options.boxing new.rows.columns a.kept.format.format.asked + more < 4294967296 =
-    omega (arith, within, fits.rooms.wide, more_is, ap (λ (cs : List Column). width_of_all a.options.boxing cs a.kept.format.format.asked) laid.columns) in
+    let narrow : width_of_all bars new.rows.columns a.kept.format.format.asked + more < 4294967296 =
+    omega (arith, within, fits.rooms.wide, more_is, ap (λ (cs : List Column). width_of_all bars cs a.kept.format.format.asked) laid.columns) in
     let can : IsLaidOut a.text rows a.kept.format a.giving.columns =
     laid-out a.limits a.phase a.begun a.text a.kept fits is none closed line_length a.options new laid a.giving.columns more c.self.invariant.columns narrow rows_laid in
     let wide_is : c.lay_out-laid.result.width ≡ wide = omega (arith, width, within, fits.rooms.wide) in
     let indent_is : c.indent.result ≡ indent a.options.centered line_length wide = c.indent.ensures ∙ ap (λ (n : ℕ). indent a.options.centered line_length n) wide_is in
     rw (← c.self.view_is, kept_is)
     (c.give_picture.ensures.coming a.text rows a.kept.format can
-    ∙ ap (λ (n : ℕ). with_newline c.args.has_newline (picture n (lines_laid a.options.boxing c.lay_out-laid.result.width a.text rows a.kept.format) ++ a.text.line)) indent_is
-    ∙ ap (λ (n : ℕ). with_newline c.args.has_newline (picture (indent a.options.centered line_length wide) (lines_laid a.options.boxing n a.text rows a.kept.format) ++ a.text.line)) wide_is
+    ∙ ap (λ (b : Bars). with_newline c.args.has_newline (picture c.indent.result (lines_laid b c.lay_out-laid.result.width a.text rows a.kept.format) ++ a.text.line)) bars_is
+    ∙ ap (λ (n : ℕ). with_newline c.args.has_newline (picture n (lines_laid bars c.lay_out-laid.result.width a.text rows a.kept.format) ++ a.text.line)) indent_is
+    ∙ ap (λ (n : ℕ). with_newline c.args.has_newline (picture (indent a.options.centered line_length wide) (lines_laid bars n a.text rows a.kept.format) ++ a.text.line)) wide_is
     ∙ ap (λ (lines : List ℕ). with_newline c.args.has_newline (picture (indent a.options.centered line_length wide) lines ++ a.text.line))
     (lines-are a.limits a.phase a.begun a.text a.kept fits is none closed line_length a.options new laid wide more more_is rows_laid))

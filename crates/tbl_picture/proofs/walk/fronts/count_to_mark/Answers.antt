@@ -1,0 +1,48 @@
+use Rattle.std.proofs.Common.{◌≡◌, ◌<◌, ℕ, suc, ◌+◌, ◌-◌, drop, length, refl, sym, subst, ◌∙◌, arith}
+use Rattle.std.proofs.lemmas.List.{drop_all}
+use Rattle.tbl_picture.specs.RowsLeft.{first_cell}
+use Rattle.tbl_picture.specs.RowsWalked.{AreGlyphless, LastHasGlyph}
+use Rattle.tbl_picture.specs.Walks.{lent_row, line_cells}
+use Rattle.tbl_picture.proofs.RowMarks.{first-left, many-cells}
+use Rattle.tbl_picture.proofs.RunsGiven.{glyphless-more, last-at, last-none}
+use Rattle.tbl_picture.proofs.walk.fronts.count_to_mark.Goals as goal
+
+pub loop-count-init : goal.loop-count-init
+loop-count-init c =
+    let row = lent_row c.args.row.now in
+    let cells = line_cells row c.args.line c.args.places.now in
+    let n = length row.entries + c.max.result + 1 in
+    let many = many-cells row c.args.line c.args.places.now c.requires.columns c.requires.places c.requires.any in
+    record {
+      few = omega (arith, many, c.max.ensures);
+      behind = subst AreGlyphless (sym (drop_all n cells (omega (arith, many, c.max.ensures)))) tt;
+      room = refl;
+    }
+
+pub has_mark-requires-clause-within : goal.has_mark-requires-clause-within
+has_mark-requires-clause-within c = omega (arith, c.loop-count-test.true, c.loop-count.invariant.few)
+
+pub returns-then-has_mark-clause-last : goal.returns-then-has_mark-clause-last
+returns-then-has_mark-clause-last c =
+    let cells = line_cells (lent_row c.args.row.now) c.args.line c.args.places.now in
+    let n = c.loop-count.count - 1 in
+    let same : suc n ≡ c.loop-count.count = omega (arith, c.loop-count-test.true) in
+    let few : n < length cells = omega (arith, c.loop-count-test.true, c.loop-count.invariant.few) in
+    subst (λ (k : ℕ). LastHasGlyph k cells) same
+    (last-at n cells (first_cell (drop n cells)) (drop (suc n) cells) (first-left n cells few) (c.has_mark.ensures.yes c.if-has_mark.true))
+
+pub loop-count-preserved : goal.loop-count-preserved
+loop-count-preserved c =
+    let cells = line_cells (lent_row c.args.row.now) c.args.line c.args.places.now in
+    let n = c.loop-count.count - 1 in
+    let same : c.loop-count.count ≡ suc n = omega (arith, c.loop-count-test.true) in
+    let few : n < length cells = omega (arith, c.loop-count-test.true, c.loop-count.invariant.few) in
+    record {
+      few = omega (arith, c.loop-count.invariant.few);
+      behind = glyphless-more n cells (first_cell (drop n cells)) (first-left n cells few) (c.has_mark.ensures.no c.if-has_mark.false)
+          (subst (λ (k : ℕ). AreGlyphless (drop k cells)) same c.loop-count.invariant.behind);
+      room = c.has_mark.ensures.room ∙ c.loop-count.invariant.room;
+    }
+
+pub returns-clause-last : goal.returns-clause-last
+returns-clause-last c = last-none (line_cells (lent_row c.args.row.now) c.args.line c.args.places.now)
