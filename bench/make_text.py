@@ -17,6 +17,7 @@
     bench/make_text.py loop MEGABYTES       macros that call each other until so many bytes of them were read; writes nothing
     bench/make_text.py tables MEGABYTES     tables of 200 rows of three columns, with a line of text before each
     bench/make_text.py measured MEGABYTES   the same with escapes in half of the fields
+    bench/make_text.py boxes MEGABYTES      tables as in `tables`, each field of which stands in a box
     bench/make_text.py blocks MEGABYTES     tables of 20 rows of two columns, of which one has blocks of forty words
 """
 import functools
@@ -24,7 +25,7 @@ import random
 import sys
 
 KINDS = ("text", "requests", "registers", "code", "tabs", "fields", "skipped", "macros", "springs", "pages", "headers", "diversions",
-         "diverting", "loop", "tables", "measured", "blocks")
+         "diverting", "loop", "tables", "measured", "boxes", "blocks")
 
 MEGABYTE = 1_000_000
 
@@ -205,10 +206,10 @@ LOOPED = '.\\\\" counted in a register\n.nr a +1\n.if \\\\na<0 .tm below\n'
 
 CALLERS = "bc"
 
-# The formats of tables, and how many rows they have.
-FORMATS = {"tables": "l l r.", "measured": "l l r.", "blocks": "l lw(40)."}
+# The options and formats of tables, and how many rows they have.
+FORMATS = {"tables": "l l r.", "measured": "l l r.", "boxes": "allbox;\nl l r.", "blocks": "l lw(40)."}
 
-TABLE_ROWS = {"tables": 200, "measured": 200, "blocks": 20}
+TABLE_ROWS = {"tables": 200, "measured": 200, "boxes": 200, "blocks": 20}
 
 # The words of a block, and of a line of it.
 BLOCK_WORDS, LINE_WORDS = 40, 10

@@ -13,16 +13,21 @@ be. A long document may take no more than its share beside one of a quarter of i
 named for it, or by none, and some must begin as they are said to. Documents whose lines or spaces go far are formatted
 once: of their output, which is up to 200 megabytes, the beginning and the length are compared, and the line on which a
 limit stops them. Short documents that tell hundreds of megabytes are stopped by a limit on messages, and at once where that
-is small. GNU time measures both time and memory. It takes about five minutes. The exit status is 1 if something
-is wrong.
+is small. Tables of rules and bars are given room for four times as many, which may take 4.5 times as long. GNU time measures the
+memory. Four kinds are run at a time, and each is told as it ends, with the seconds that it took; what is wrong is told again
+behind them all. On four quiet cores it takes less than five minutes. The exit status is 1 if something is wrong.
 """
+import concurrent.futures
+import os
 import pathlib
 import random
 import re
 import resource
+import signal
 import subprocess
 import sys
 import tempfile
+import time
 
 TOP = pathlib.Path(__file__).resolve().parent.parent
 PROGRAM = TOP / "crates" / "roff" / "out" / "roff"
@@ -35,9 +40,13 @@ MOST_SECONDS = 5
 MOST_KILOBYTES = 8_000
 MOST_KILOBYTES_OF_TABLES = 20_000
 STOPPED_SECONDS = 60
+# How many kinds are run at a time.
+AT_ONCE = 4
 # What a long document may take beside one of a quarter of its length, and seconds that don't count there.
 MOST_RATIO = 6
 SMALL_CHANGE = 0.2
+# How often more than twice a document is formatted where it takes too long, as other work on the machine makes it slower.
+MORE_ROUNDS = 4
 # How many bytes of an output are shown where it isn't what it should be.
 SHOWN = 60
 
@@ -633,6 +642,35 @@ TOLD_IN_ORDER = {
     "notes_of_a_block_of_joined_lines": (b".TS\nl.\nT{\n", b"\\c\\\n", b"\nT}\n.TE\n", NOTES, True, rb"not measured: \c"),
     "notes_of_options": (b".TS\n", b"abc ", b";l.\na\n.TE\n", NOTES, False, b"option ignored: abc"),
 }
+# Tables of which four times as many repetitions may take 4.5 times as long: what stands in front, what is repeated, what stands
+# behind, and how often. The two are formatted in turns, so often at least, and on until the quickest of both are as wanted.
+WIDEST = 4_096
+FILLING = b".TS\nbox;\nl.\n%s\n"
+GROWING = {
+    "rule_lines": (b".TS\nl l.\na\tb\n", b"_\n", b".TE\n", 5_000),
+    "rule_lines_over_bars": (b".TS\ndoublebox;\n" + 39 * b"l||" + b"l.\na\n", b"=\n", b".TE\n", 5_000),
+    "rule_lines_with_rows_of_bars_between": (b".TS\n||" + 40 * b"l||" + b".\n", b"_\n" + 39 * b"\t" + b"\n", b".TE\n", 5_000),
+    "rule_lines_that_fill_the_width": (FILLING % ((WIDEST - 4) * b"x"), b"_\n", b".TE\n", 1_000),
+    "rules_of_fields": (b".TS\n" + 40 * b"l" + b".\n", 39 * b"_\t" + b"_\n", b".TE\n", 2_500),
+    "rules_of_fields_that_take_turns": (b".TS\n" + 40 * b"l|" + b".\n", 19 * b"_\t=\t" + b"_\t\\_\n", b".TE\n", 2_500),
+}
+GROWING_OPTIONS = ("--rows=50000", "--text=4000000", "--width=%d" % WIDEST)
+MOST_GROWTH = 4.5
+# Seconds that don't count there: beside other work on the machine the larger one is slowed more, as it needs more memory.
+CHANGE_OF_GROWTH = 0.02
+LEAST_ROUNDS, MOST_ROUNDS = 3, 12
+KILOBYTES_OF_GROWN_TABLES = 4 * MOST_KILOBYTES_OF_TABLES
+# Tables that fill the width of their pictures to its last column, and tables of one column more.
+FILLED = {
+    "width_filled": (FILLING % ((WIDEST - 4) * b"x") + b"_\n.TE\n", FILLING % ((WIDEST - 3) * b"x") + b"_\n.TE\n"),
+    "width_filled_by_bars": (
+        b".TS\n||" + 40 * b"l||" + b".\n%s\n_\n.TE\n" % ((WIDEST - 6 - 39 * 4) * b"x"),
+        b".TS\n||" + 40 * b"l||" + b".\n%s\n_\n.TE\n" % ((WIDEST - 5 - 39 * 4) * b"x")),
+    "width_filled_by_a_separation": (
+        b".TS\n|l%d|l|.\na\tb\n_\n.TE\n" % (WIDEST - 6), b".TS\n|l%d|l|.\na\tb\n_\n.TE\n" % (WIDEST - 5)),
+    "width_filled_by_expand": (b".TS\nexpand allbox;\nl l.\na\tb\n.TE\n", b".TS\nexpand allbox;\nlw(4090) l.\na\tb\n.TE\n"),
+}
+
 # Columns that are far apart, with the limit that stops each command; `nroff` counts blanks for its line at the glyph behind.
 FAR_TABLES = {
     "columns_far_apart": (b".TS\nl40000000 l.\na\tb\n.TE\n", {"tbl": None, "both": "line"}),
@@ -897,17 +935,17 @@ class Run:
 
     def __init__(self, folder, options, read=lambda output: output.read(), command="nroff"):
         measured, messages = folder / "measured", folder / "messages"
-        words = [GNU_TIME, "-q", "-o", measured, "-f", "%U %S %M", PROGRAM, command, *options, folder / "document"]
+        words = [GNU_TIME, "-q", "-o", measured, "-f", "%M", PROGRAM, command, *options, folder / "document"]
         with messages.open("wb") as told:
-            run = subprocess.Popen(words, stdin=subprocess.DEVNULL, stdout=subprocess.PIPE, stderr=told,
-                                   preexec_fn=limit_time)
+            run = subprocess.Popen(words, stdin=subprocess.DEVNULL, stdout=subprocess.PIPE, stderr=told)
             output = read(run.stdout)
             run.stdout.close()
-            status = run.wait()
-        user, system, kilobytes = measured.read_text().split()
-        self.given = status, output, messages.read_bytes()
-        self.seconds = float(user) + float(system)
-        self.kilobytes = int(kilobytes)
+            _, status, usage = os.wait4(run.pid, 0)
+            run.returncode = os.waitstatus_to_exitcode(status)
+        self.given = run.returncode, output, messages.read_bytes()
+        # GNU time's own part of it is below a millisecond.
+        self.seconds = usage.ru_utime + usage.ru_stime
+        self.kilobytes = int(measured.read_text())
 
     def stopped_at(self):
         """The limit that stopped the run, and the line on which it was reached."""
@@ -921,7 +959,9 @@ class Run:
 
 
 def limit_time():
-    resource.setrlimit(resource.RLIMIT_CPU, (STOPPED_SECONDS, STOPPED_SECONDS))
+    """Bounds the time of each run that this process starts; the process itself hears of it, and goes on."""
+    signal.signal(signal.SIGXCPU, lambda number, frame: None)
+    resource.setrlimit(resource.RLIMIT_CPU, (STOPPED_SECONDS, resource.RLIM_INFINITY))
 
 
 def too_much(run, kilobytes, most=MOST_KILOBYTES):
@@ -940,6 +980,9 @@ def formatted(folder, name, document, options=(), command="nroff"):
     """Formats a document twice. Answers the quicker run, and what is wrong."""
     (folder / "document").write_bytes(document)
     first, second = sorted((Run(folder, options, command=command) for _ in range(2)), key=lambda run: run.seconds)
+    for _ in range(MORE_ROUNDS):
+        if first.seconds > MOST_SECONDS:
+            first = min(first, Run(folder, options, command=command), key=lambda run: run.seconds)
     most = MOST_KILOBYTES if command == "nroff" else MOST_KILOBYTES_OF_TABLES
     wrong = too_much(first, max(first.kilobytes, second.kilobytes), most)
     if first.given != second.given:
@@ -961,17 +1004,30 @@ def check_tables(folder, name):
     return wrong + check_beside_a_quarter(folder, name + ", both", parts, options, limits["both"], b"", "both")
 
 
+def too_much_longer(folder, name, whole, quarter, longer, shorter, options, command):
+    """What is wrong with the time of a document beside that of a quarter of it."""
+    most, least = whole.seconds, quarter.seconds
+    for _ in range(MORE_ROUNDS):
+        if most > MOST_RATIO * least + SMALL_CHANGE:
+            (folder / "document").write_bytes(shorter)
+            least = min(least, Run(folder, options, command=command).seconds)
+            (folder / "document").write_bytes(longer)
+            most = min(most, Run(folder, options, command=command).seconds)
+    if most > MOST_RATIO * least + SMALL_CHANGE:
+        return ["%s: %.2f seconds, and %.2f for a quarter of it" % (name, most, least)]
+    return []
+
+
 def check_beside_a_quarter(folder, name, parts, options, limit, beginning, command="nroff"):
     """A document that repeats a text, and one that repeats it a quarter as often."""
     front, text, behind, size = parts
     times = (size - len(front + behind)) // len(text)
     if times < 4:
         raise SystemExit("tests/hostile.py: %s repeats its text %d times" % (name, times))
-    whole, wrong = formatted(folder, name, front + text * times + behind, options, command)
-    shorter = front + text * (times // 4) + behind
+    longer, shorter = front + text * times + behind, front + text * (times // 4) + behind
+    whole, wrong = formatted(folder, name, longer, options, command)
     quarter, wrong_of_quarter = formatted(folder, name + ", a quarter", shorter, options, command)
-    if whole.seconds > MOST_RATIO * quarter.seconds + SMALL_CHANGE:
-        wrong.append("%s: %.2f seconds, and %.2f for a quarter of it" % (name, whole.seconds, quarter.seconds))
+    wrong += too_much_longer(folder, name, whole, quarter, longer, shorter, options, command)
     if whole.stopped_by() != limit:
         wrong.append("%s: stopped by %s, and not by %s" % (name, whole.stopped_by(), limit))
     if not whole.given[1].startswith(beginning):
@@ -1049,6 +1105,46 @@ def check_far_table(folder, name):
     return ["%s: %s" % (name, what) for what in wrong]
 
 
+def check_growing(folder, name):
+    """A table, and one of four times as many repetitions, by both commands."""
+    front, text, behind, count = GROWING[name]
+    sizes = {count: MOST_KILOBYTES_OF_TABLES, 4 * count: KILOBYTES_OF_GROWN_TABLES}
+    wrong = []
+    for command in ("tbl", "both"):
+        quickest = {}
+        for rounds in range(1, MOST_ROUNDS + 1):
+            for times in sizes:
+                (folder / "document").write_bytes(front + times * text + behind)
+                run = Run(folder, GROWING_OPTIONS, beginning_and_length, command)
+                quickest[times] = min(quickest.get(times, run), run, key=lambda one: one.seconds)
+            if rounds >= LEAST_ROUNDS and quickest[4 * count].seconds <= MOST_GROWTH * quickest[count].seconds + CHANGE_OF_GROWTH:
+                break
+        else:
+            wrong.append("%s: %.4f seconds, and %.4f for a quarter of it" % (command, quickest[4 * count].seconds, quickest[count].seconds))
+        for times, most in sizes.items():
+            run = quickest[times]
+            wrong += too_much(run, run.kilobytes, most)
+            if run.given[::2] != (0, b""):
+                wrong.append("%s of %d: status %d, and %r" % (command, times, run.given[0], run.given[2][:SHOWN]))
+    return ["%s: %s" % (name, what) for what in wrong]
+
+
+def check_filled(folder, name):
+    """A table that fills the width, and one of one column more, by both commands."""
+    wrong = []
+    for command in ("tbl", "both"):
+        for document, limit in zip(FILLED[name], (None, "width")):
+            options = ("--width=%d" % WIDEST, "--line-length=%d" % WIDEST)
+            run, more = formatted(folder, "%s, %s" % (name, command), document, options, command)
+            wrong += more
+            if run.stopped_by() != limit:
+                wrong.append("%s: %s is stopped by %s, and not by %s" % (name, command, run.stopped_by(), limit))
+            widest = max(map(len, run.given[1].splitlines()), default=0)
+            if command == "both" and limit is None and widest != WIDEST:
+                wrong.append("%s: %d columns" % (name, widest))
+    return wrong
+
+
 def check_bytes_of_tables(folder, name):
     """Each byte in all places of tables, by both commands."""
     wrong = []
@@ -1099,27 +1195,40 @@ def check_random(folder, name):
     return wrong
 
 
-def main():
+CHECKS = dict.fromkeys(RANDOM, check_random) | dict.fromkeys(RANDOM_TABLES, check_random_tables)
+CHECKS |= {"bytes": check_bytes, "bytes_of_tables": check_bytes_of_tables}
+CHECKS |= dict.fromkeys(LONG, check_long) | dict.fromkeys(FAR, check_far) | dict.fromkeys(NESTED, check_nested)
+CHECKS |= dict.fromkeys(TABLES, check_tables) | dict.fromkeys(FAR_TABLES, check_far_table)
+CHECKS |= dict.fromkeys(TELLING, check_telling) | dict.fromkeys(TOLD_IN_ORDER, check_told_in_order)
+CHECKS |= dict.fromkeys(GROWING, check_growing) | dict.fromkeys(FILLED, check_filled)
+
+
+def check(program, kind):
+    """Runs a kind in a folder of its own. Answers what is wrong, and the seconds that it took."""
     global PROGRAM
-    words = sys.argv[1:]
+    PROGRAM, start = program, time.monotonic()
+    with tempfile.TemporaryDirectory() as folder:
+        return CHECKS[kind](pathlib.Path(folder), kind), time.monotonic() - start
+
+
+def main():
+    program, words = PROGRAM, sys.argv[1:]
     if words[:1] == ["--program"]:
-        PROGRAM, words = pathlib.Path(words[1]).resolve(), words[2:]
-    if not PROGRAM.exists():
-        raise SystemExit("tests/hostile.py: %s is missing; ./roff --version builds it" % PROGRAM)
+        program, words = pathlib.Path(words[1]).resolve(), words[2:]
+    if not program.exists():
+        raise SystemExit("tests/hostile.py: %s is missing; ./roff --version builds it" % program)
     if not GNU_TIME.exists():
         raise SystemExit("tests/hostile.py: %s is missing, which measures" % GNU_TIME)
-    checks = dict.fromkeys(LONG, check_long) | dict.fromkeys(FAR, check_far) | dict.fromkeys(NESTED, check_nested)
-    checks |= {"bytes": check_bytes} | dict.fromkeys(RANDOM, check_random)
-    checks |= dict.fromkeys(TABLES, check_tables) | dict.fromkeys(RANDOM_TABLES, check_random_tables)
-    checks |= {"bytes_of_tables": check_bytes_of_tables} | dict.fromkeys(FAR_TABLES, check_far_table)
-    checks |= dict.fromkeys(TELLING, check_telling) | dict.fromkeys(TOLD_IN_ORDER, check_told_in_order)
-    kinds = words or list(checks)
-    for kind in set(kinds) - set(checks):
+    for kind in set(words) - set(CHECKS):
         raise SystemExit("tests/hostile.py: no documents are named %s" % kind)
+    kinds = words or list(CHECKS)
     failures = []
-    with tempfile.TemporaryDirectory() as folder:
-        for kind in kinds:
-            failures += checks[kind](pathlib.Path(folder), kind)
+    with concurrent.futures.ProcessPoolExecutor(AT_ONCE, initializer=limit_time) as pool:
+        running = {pool.submit(check, program, kind): kind for kind in kinds}
+        for ended in concurrent.futures.as_completed(running):
+            wrong, seconds = ended.result()
+            print("%-50s %6.1f s%s" % (running[ended], seconds, "  FAILED" if wrong else ""), *wrong, sep="\n  ", flush=True)
+            failures += wrong
     for failure in failures:
         print(failure)
     print("%d kinds of documents, %d failures" % (len(kinds), len(failures)))

@@ -1,13 +1,14 @@
 #!/usr/bin/env python3
-"""Counts the built program's instructions on twelve small documents, beside those that are stored.
+"""Counts the built program's instructions on thirteen small documents, beside those that are stored.
 
     tests/instructions.py [PROGRAM]        # crates/roff/out/roff, if none is given
     tests/instructions.py --store          # stores what the built program takes now
 
 A document of 60 KB of each kind (bench/make_text.py) is formatted under callgrind, and one of the same kind without text, which is
 taken away. What is stored stands in tests/instructions.txt: a kind, and its instructions. More by a twentieth than there is a
-failure, and so are fields that take more than half as much again as tabs; the exit status is 1 then. Fewer is told too, so that a new count can be stored. The count is the same in each run of
-a program, whatever else the machine does; C libraries differ by less than a hundredth. It wants valgrind, and takes half a minute.
+failure, and so are fields that take more than half as much again as tabs, and tables with boxes that take more than 250 a byte; the
+exit status is 1 then. Fewer is told too, so that a new count can be stored. The count is the same in each run of a program, whatever
+else the machine does; C libraries differ by less than a hundredth. It wants valgrind, and takes half a minute.
 """
 import os
 import pathlib
@@ -26,10 +27,13 @@ STORED = TOP / "tests" / "instructions.txt"
 SIZE = 60_000
 # A kind of document, and the command that formats it.
 KINDS = {"text": "nroff", "requests": "nroff", "registers": "nroff", "macros": "nroff", "headers": "nroff", "diversions": "nroff",
-         "code": "nroff", "tabs": "nroff", "fields": "nroff", "tables": "both", "measured": "tbl", "blocks": "tbl"}
+         "code": "nroff", "tabs": "nroff", "fields": "nroff", "tables": "both", "measured": "tbl", "boxes": "tbl",
+         "blocks": "tbl"}
 MORE = 1.05
 # As much as tabs that open fields may take beside those that open none.
 MOST_OF_FIELDS = 1.5
+# As many instructions a byte as tables with boxes may take.
+MOST_OF_BOXES = 250
 
 
 def count_of(program, command, kind, size, folder):
@@ -78,6 +82,9 @@ def main():
     fields = counts["fields"] / counts["tabs"]
     failures += fields > MOST_OF_FIELDS
     print(f"fields take {fields:.2f} times as much as tabs{'  too many' if fields > MOST_OF_FIELDS else ''}")
+    boxes = counts["boxes"] / SIZE
+    failures += boxes > MOST_OF_BOXES
+    print(f"boxes take {boxes:.1f} instructions a byte, and may take {MOST_OF_BOXES}{'  too many' if boxes > MOST_OF_BOXES else ''}")
     print(f"{len(counts)} kinds, {failures} failures")
     sys.exit(1 if failures else 0)
 

@@ -2,7 +2,7 @@
 use Rattle.std.proofs.Common.{◌≡◌, ℕ, ◌+◌, ◌≤◌, Bool, true, false, List, [], ◌∷◌, ◌++◌, length, drop, refl, sym, ap, ◌∙◌, arith, append_assoc, length-append, if◌then◌else◌, ◌==◌}
 use Rattle.std.proofs.lemmas.Bool.{eqb-true}
 use Rattle.std.proofs.lemmas.List.{append-nil, drop-append-le}
-use Rattle.tbl_picture.specs.PieceQueue.{Adds, IsInFirst, KeptPieces, bytes_left, with_piece}
+use Rattle.tbl_picture.specs.PieceQueue.{Adds, AddsFitting, IsInFirst, KeptPieces, bytes_left, with_piece}
 use Rattle.tbl_picture.specs.Pieces.{AreWithin, bytes_of, bytes_of_all, piece_len, some_piece}
 use Rattle.tbl_picture.specs.declared.picture.Piece.{Piece}
 use Rattle.tbl_picture.proofs.PiecesWithin.{AreWithin-append, AreWithin-some}
@@ -93,4 +93,21 @@ module _ (block frame : List ℕ) where
     few = omega (arith, few, adds.few);
     grown = adds.grown;
     room = adds.room;
+  }
+
+  -- those of a step fit
+  pub adds-fitting : (old new : KeptPieces) (xs : List ℕ) → Adds block frame 4 old new xs → AddsFitting block frame old new xs
+  adds-fitting old new xs adds = record {
+    count = 4;
+    adds = adds;
+    fits = λ room. omega (arith, adds.few, adds.room, room);
+  }
+
+  -- and more behind them, where there is still room for those of a step
+  pub fitting-more : (old between new : KeptPieces) (xs ys : List ℕ) → between.taken + 4 ≤ between.room
+      → AddsFitting block frame old between xs → AddsFitting block frame between new ys → AddsFitting block frame old new (xs ++ ys)
+  fitting-more old between new xs ys room first second = record {
+    count = first.count + second.count;
+    adds = adds-more first.count second.count old between new xs ys first.adds second.adds;
+    fits = λ _. second.fits room;
   }

@@ -1,7 +1,10 @@
 -- What a step does that gives a column of a row, or begins a word of it.
-use Rattle.std.proofs.Common.{◌≡◌, ℕ, suc, ◌+◌, ◌-◌, ◌<◌, ◌≤◌, Bool, true, false, List, [], ◌∷◌, ◌++◌, length, take, drop, map, refl, sym, ap, subst, ◌∙◌, arith, append_assoc, length-append, length-drop}
+use Rattle.std.proofs.Common.{◌≡◌, ℕ, suc, ◌+◌, ◌-◌, ◌<◌, ◌≤◌, Bool, true, false, List, [], ◌∷◌, ◌++◌, length, take, drop, get_or, map, refl, None, sym, ap, subst, ◌∙◌, arith, append_assoc, length-append, length-drop}
+use Rattle.std.proofs.Math.Seq.{drop-cons}
 use Rattle.std.proofs.lemmas.List.{drop-map, map-append}
+use Rattle.tbl_layout.specs.declared.columns.Column.{Column}
 use Rattle.tbl_layout.specs.declared.entry.Entry.{Entry}
+use Rattle.tbl_layout.specs.declared.entry.EntryKind.TheVariants.{Text}
 use Rattle.tbl_picture.specs.PictureLines.{Cell, with_fronts}
 use Rattle.tbl_picture.specs.PieceQueue.{Adds, KeptPieces}
 use Rattle.tbl_picture.specs.RowsLeft.{behind_first, block_text, cell_left, fronts_by, given, one_less, row_columns, then_fronts}
@@ -10,11 +13,13 @@ use Rattle.tbl_picture.specs.Walks.{AtColumn, InLine, IsOn, IsUnderWay, KeptWalk
 use Rattle.tbl_picture.specs.declared.row_columns.RowColumn.{RowColumn}
 use Rattle.tbl_picture.specs.declared.walk.Next.{Next}
 use Rattle.tbl_picture.specs.declared.walk.Next.TheVariants.{AtCell, AtFront, AtWord}
+use Rattle.tbl_picture.proofs.Adding.{adds-fitting}
 use Rattle.tbl_picture.proofs.FrontCells.{many-fronts, no-fronts}
-use Rattle.tbl_picture.proofs.RowColumns.{column-lies, places-push, row_columns-push, take-next}
+use Rattle.tbl_picture.proofs.RowColumns.{column-lies, length-places, places-push, row-column, row_columns-push, take-next}
 use Rattle.tbl_picture.proofs.RunsGiven.{last-behind}
 use Rattle.tbl_text.specs.BlockPlaces.{IsWithin}
 use Rattle.tbl_text.specs.declared.block_parts.BlockPlace.{BlockPlace}
+use Rattle.tbl_text.specs.declared.block_parts.BlockPlace.TheVariants.{AtLine as AtPlace}
 use Rattle.tbl_text.specs.declared.block_words.BlockWord.{BlockWord}
 
 length-push : {A : Type 0} (xs : List A) (x : A) → length (xs ++ x ∷ []) ≡ suc (length xs)
@@ -36,6 +41,30 @@ at-column row w r line few first =
       narrow = stands.narrow;
       free = omega (arith, few, before.room);
     }
+
+-- the column that stands there, where fields are left
+pub record ColumnThere (row : WalkedRow) (w : KeptWalk) : Type 0 where
+  pub column : RowColumn
+  pub at : AtColumn row w column
+  pub few : length w.behind < length w.places
+  pub place : column.place ≡ get_or w.places (length w.behind) (AtPlace 0 None)
+
+pub column-there : (row : WalkedRow) (w : KeptWalk) → InLine row w → length w.behind < length row.entries → ColumnThere row w
+column-there row w line few =
+    let before = line.on.before in
+    let no_column : Column = record { needs = record { alone = 0; strip = 0; left = 0; right = 0; split = 0 }; measure = 0; width = 0; start = 0 } in
+    let no_entry : Entry = record { from = 0; to = 0; kind = Text 0 0 } in
+    let less : length w.behind < length w.places = omega (arith, few, length-places row.bytes row.entries w.places before.places) in
+    let first = row-column row.bars.boxing row.format 0 (length w.behind) row.columns row.entries w.places no_column no_entry (AtPlace 0 None)
+    few before.short less in
+    record { column = _; at = at-column row w _ line few first; few = less; place = refl }
+
+-- its field
+pub entry-there : (row : WalkedRow) (w : KeptWalk) (r : RowColumn) (e : Entry) → AtColumn row w r
+    → get_or row.entries (length w.behind) e ≡ r.entry
+entry-there row w r e at =
+    let few : length w.behind < length row.entries = omega (arith, ap length at.entries, length-drop (length w.behind) row.entries) in
+    ap (λ (es : List Entry). get_or es 0 e) (sym (drop-cons row.entries (length w.behind) e few) ∙ at.entries)
 
 -- cells of which none has anything in front of it
 pub then-none : (cells : List Cell) → then_fronts [] cells ≡ cells
@@ -120,8 +149,7 @@ module _ (row : WalkedRow) (w : KeptWalk) (r : RowColumn) (at : AtColumn row w r
       }
 
   -- what is left behind it: where nothing stands in front of columns, and where something does
-  cells-plain : (p : BlockPlace) (reached : ℕ) → row.bars.has_any ≡ false → cells_left row (passed row.bars.has_any p reached w)
-      ≡ cells_behind
+  cells-plain : (p : BlockPlace) (reached : ℕ) → row.bars.has_any ≡ false → cells_left row (passed row.bars.has_any p reached w) ≡ cells_behind
   cells-plain p reached is =
       let none : fronts_of row w.line ≡ [] = no-fronts row w.line is in
       let fields = fields_left row (passed row.bars.has_any p reached w) in
@@ -133,8 +161,7 @@ module _ (row : WalkedRow) (w : KeptWalk) (r : RowColumn) (at : AtColumn row w r
   cells-boxed : (p : BlockPlace) (reached : ℕ)
       → cells_in_front (length (w.behind ++ p ∷ [])) row (passed row.bars.has_any p reached w) ≡ cells_behind
   cells-boxed p reached =
-      ap (λ (n : ℕ). with_fronts (drop n (fronts_of row w.line)) (fields_left row (passed row.bars.has_any p reached w)))
-      (length-push w.behind p)
+      ap (λ (n : ℕ). with_fronts (drop n (fronts_of row w.line)) (fields_left row (passed row.bars.has_any p reached w))) (length-push w.behind p)
       ∙ ap (λ (columns : List RowColumn). with_fronts fronts_behind (map (cell_left row.bytes w.line) columns)) (left-passed p)
 
   -- the last cell that is given has a glyph
@@ -193,17 +220,13 @@ module _ (row : WalkedRow) (w : KeptWalk) (r : RowColumn) (at : AtColumn row w r
       let next = next-passed row.bars.has_any p reached refl (on-passed p reached within moved) in
       record {
         added = added;
-        adds = adds;
+        adds = adds-fitting row.bytes frame before after added adds;
         joins = left ∙ append_assoc added (given (one_less w.count) reached cells_behind) (further_lines row w)
             ∙ ap (λ (rest : List ℕ). added ++ rest) (sym next.left);
         on = next.on;
         can = next.can;
         less = omega (arith, less, next.few);
-        element = refl;
-        above = refl;
-        bars = refl;
-        width = refl;
-        room = refl;
+        stays = record { element = refl; above = refl; bars = refl; width = refl; room = refl };
       }
 
   -- the steps of its cell
@@ -242,7 +265,7 @@ module _ (row : WalkedRow) (w : KeptWalk) (r : RowColumn) (at : AtColumn row w r
       let b = l.before in
       record {
         added = added;
-        adds = adds;
+        adds = adds-fitting row.bytes frame before after added adds;
         joins = left;
         on = tt;
         can = record {
@@ -258,9 +281,5 @@ module _ (row : WalkedRow) (w : KeptWalk) (r : RowColumn) (at : AtColumn row w r
           next = subst (StandsInFirst row.bytes word width p) (sym at.first) stands;
         };
         less = less;
-        element = refl;
-        above = refl;
-        bars = refl;
-        width = refl;
-        room = refl;
+        stays = record { element = refl; above = refl; bars = refl; width = refl; room = refl };
       }

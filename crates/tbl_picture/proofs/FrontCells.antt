@@ -36,8 +36,7 @@ drop-one zero [] = refl
 drop-one (suc n) [] = refl
 drop-one n (e ∷ entries) = refl
 
-between-at : (b : Boxing) (format : FormatRow) (k : ℕ) (columns : List Column) (entries : List Entry) (rest : List Cell) (n : ℕ)
-    (d : Column)
+between-at : (b : Boxing) (format : FormatRow) (k : ℕ) (columns : List Column) (entries : List Entry) (rest : List Cell) (n : ℕ) (d : Column)
     → suc n < length columns
     → drop n (all_between_by b format k columns entries ++ rest)
     ≡ bars_by (joined_first (drop n entries)) (bars_between b format (suc (k + n))) (get_or columns n d) (get_or columns (suc n) d)
@@ -98,7 +97,10 @@ module _ (bars : Bars) (width : ℕ) (format : FormatRow) (columns : List Column
     pub many-fronts : (n : ℕ) → suc n ≤ length entries → length entries ≤ length columns → suc n < length these
     many-fronts n few short = omega (arith, few, short, front-count)
 
-    -- one of them: behind the last column
+    -- one of them: in front of the first column
+    pub front-begins : these ≡ at-left ∷ drop 1 these
+    front-begins = fronts-are ∙ ap (λ (xs : List Cell). at-left ∷ drop 1 xs) (sym fronts-are)
+
     past-edge : (at : ℕ) → at ≢ 0 → length columns ≤ at → at < front_count columns → drop at all ≡ at-right ∷ drop (suc at) all
     past-edge zero other past few = absurd (other refl)
     past-edge (suc n) other past few =

@@ -15,7 +15,7 @@ use Rattle.tbl_picture.specs.RowsWalked.{HasGlyph, LastHasGlyph, front_count, mo
 use Rattle.tbl_picture.specs.Walks.{FrontStands, InFront, IsOn, IsUnderWay, KeptWalk, OnLine, RowSteps, WalkedRow, cells_in_front, cells_left, columns_left, columns_walked, fields_left, fronts_of, front_passed, further_lines, next_behind, row_left, row_steps, steps_of_rest}
 use Rattle.tbl_picture.specs.declared.walk.Next.{Next}
 use Rattle.tbl_picture.specs.declared.walk.Next.TheVariants.{AtCell, AtFront}
-use Rattle.tbl_picture.proofs.Adding.{adds-fewer, adds-none}
+use Rattle.tbl_picture.proofs.Adding.{adds-fewer, adds-fitting, adds-none}
 use Rattle.tbl_picture.proofs.CellsGiven.{none-given, repeated-last, run-given}
 use Rattle.tbl_picture.proofs.ColumnSteps.{steps-cells}
 use Rattle.tbl_picture.proofs.FrontCells.{any-some, front-count}
@@ -41,8 +41,7 @@ none-long (x ∷ xs) is = absurd (omega (arith, is))
 
 -- what stands in front of a column
 pub front-stands : (row : WalkedRow) (w : KeptWalk) (at : ℕ) (f : Cell) → InFront row at w
-    → drop at (fronts_by row.bars row.width row.format row.columns row.entries)
-    ≡ f ∷ drop (suc at) (fronts_by row.bars row.width row.format row.columns row.entries)
+    → drop at (fronts_by row.bars row.width row.format row.columns row.entries) ≡ f ∷ drop (suc at) (fronts_by row.bars row.width row.format row.columns row.entries)
     → FrontStands row at f w
 front-stands row w at f front is = record {
   front = front;
@@ -182,7 +181,7 @@ module _ (row : WalkedRow) (w : KeptWalk) (at : ℕ) (f : Cell) (stands : FrontS
       let behind = next-by (nat_lt (length w.behind) (length row.entries)) (nat_lt at (max 1 (length row.columns))) refl refl in
       record {
         added = added;
-        adds = adds;
+        adds = adds-fitting row.bytes frame before after added adds;
         joins =
             ap (λ (n : Next). row_left n row w) next
             ∙ ap (λ (cells : List Cell). given w.count w.place cells ++ further_lines row w) front-first
@@ -192,11 +191,7 @@ module _ (row : WalkedRow) (w : KeptWalk) (at : ℕ) (f : Cell) (stands : FrontS
         on = behind.on;
         can = behind.can;
         less = omega (arith, behind.less, ap (λ (n : Next). row_steps n row w) next);
-        element = refl;
-        above = refl;
-        bars = refl;
-        width = refl;
-        room = refl;
+        stays = record { element = refl; above = refl; bars = refl; width = refl; room = refl };
       }
 
 -- a line of bars
@@ -260,28 +255,24 @@ module _ (row : WalkedRow) (w : KeptWalk) (at : ℕ) (next : w.next ≡ AtFront 
       let text = if_given w.count (replicate (suc m) bar) in
       front-passed row w at f stands reached frame before after (if_given w.count (replicate gap blank) ++ text) next adds
       (run-given w.count w.place (from_line w.line f) run behind first (λ _. subst HasGlyph (sym first) has)
-      ∙ ap (λ (last : List ℕ). (if_given w.count (replicate (place - w.place) blank) ++ last) ++ given (one_less w.count)
-      (place + suc m) behind)
+      ∙ ap (λ (last : List ℕ). (if_given w.count (replicate (place - w.place) blank) ++ last) ++ given (one_less w.count) (place + suc m) behind)
       (repeated-last w.count bar (suc m) (λ _. has))
       ∙ ap (λ (n : ℕ). (if_given w.count (replicate n blank) ++ text) ++ given (one_less w.count) (place + suc m) behind) (sym gap_is)
       ∙ ap (λ (n : ℕ). (if_given w.count (replicate gap blank) ++ text) ++ given (one_less w.count) n behind) (sym reached_is))
 
   -- nothing
-  pub nothing-steps : (pieces : KeptPieces) → FrontStands row at nothing_there w
-      → RowSteps frame row w (front_passed row at w.place w) pieces pieces
+  pub nothing-steps : (pieces : KeptPieces) → FrontStands row at nothing_there w → RowSteps frame row w (front_passed row at w.place w) pieces pieces
   nothing-steps pieces stands =
       front-passed row w at nothing_there stands w.place frame pieces pieces [] next
       (adds-fewer row.bytes frame 0 4 pieces pieces [] (omega arith) (adds-none row.bytes frame pieces))
-      (none-given w.count w.place (from_line w.line nothing_there) (behind_now row w at nothing_there stands w.place)
-      (nothing-first w.line))
+      (none-given w.count w.place (from_line w.line nothing_there) (behind_now row w at nothing_there stands w.place) (nothing-first w.line))
 
   -- bars that are crossed
   pub crossing-steps : (n : ℕ) (before after : KeptPieces) (place end gap rest reached : ℕ) (sign : RuleSign) → 0 < n
       → FrontStands row at (crossed_at place n sign end) w → w.line ≡ 0
       → gap ≡ place - w.place → rest ≡ end - (place + n) → reached ≡ place + (n + rest)
       → Adds row.bytes frame 4 before after
-      (if_given w.count (replicate gap blank) ++ (if_given w.count (replicate n crossing) ++ if_given w.count
-      (replicate rest (sign_byte sign))))
+      (if_given w.count (replicate gap blank) ++ (if_given w.count (replicate n crossing) ++ if_given w.count (replicate rest (sign_byte sign))))
       → RowSteps frame row w (front_passed row at reached w) before after
   crossing-steps zero before after place end gap rest reached sign some stands line gap_is rest_is reached_is adds =
       absurd (omega (arith, some))
@@ -296,6 +287,5 @@ module _ (row : WalkedRow) (w : KeptWalk) (at : ℕ) (next : w.next ≡ AtFront 
       (ap (λ (n : ℕ). g (first_of (from_line n f))) line
       ∙ ap (λ (n : ℕ). g (runs n)) (sym rest_is)
       ∙ ap (λ (n : ℕ). given_of w.count (blanks n ∷ runs rest) ++ given (one_less w.count) (place + columns_of (runs rest)) behind) (sym gap_is)
-      ∙ ap (λ (front : List ℕ). front ++ given (one_less w.count) (place + columns_of (runs rest)) behind)
-      (crossing-given w.count gap m rest sign)
+      ∙ ap (λ (front : List ℕ). front ++ given (one_less w.count) (place + columns_of (runs rest)) behind) (crossing-given w.count gap m rest sign)
       ∙ ap (λ (n : ℕ). (if_given w.count (replicate gap blank) ++ more) ++ given (one_less w.count) n behind) wide)

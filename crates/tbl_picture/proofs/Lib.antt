@@ -21,6 +21,7 @@ pub mod BoxedElements
 pub mod RowsOn
 pub mod RuleSteps
 pub mod RowSteps
+pub mod StepsJoined
 pub mod PictureSteps
 pub mod PiecesWithin
 pub mod PiecesLeft

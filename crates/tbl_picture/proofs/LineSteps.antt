@@ -14,6 +14,7 @@ use Rattle.tbl_picture.specs.Walks.{BeforeLine, InLine, IsOn, IsUnderWay, KeptWa
 use Rattle.tbl_picture.specs.declared.row_columns.RowColumn.{RowColumn}
 use Rattle.tbl_picture.specs.declared.walk.Next.{Next}
 use Rattle.tbl_picture.specs.declared.walk.Next.TheVariants.{AtCell, AtFront, AtLine}
+use Rattle.tbl_picture.proofs.Adding.{adds-fitting}
 use Rattle.tbl_picture.proofs.ColumnSteps.{steps-cells, then-none}
 use Rattle.tbl_picture.proofs.FrontCells.{front-count, fronts-next, map-fronts, no-fronts}
 use Rattle.tbl_picture.proofs.RowColumns.{length-row_columns, none-left}
@@ -87,7 +88,7 @@ module _ (row : WalkedRow) (w : KeptWalk) (frame : List ℕ) (before after : Kep
       ap (λ (x : Next). row_steps x row w) next ∙ ap (steps_of_rest row) more in
       record {
         added = codes "\\&";
-        adds = adds;
+        adds = adds-fitting row.bytes frame before after (codes "\\&") adds;
         joins =
             ap (λ (x : Next). row_left x row w) next
             ∙ ap (λ (k : ℕ). lines_from 0 k cells) more
@@ -98,11 +99,7 @@ module _ (row : WalkedRow) (w : KeptWalk) (frame : List ℕ) (before after : Kep
         on = begun.on;
         can = begun.can;
         less = omega (arith, old_steps, begun.few);
-        element = refl;
-        above = refl;
-        bars = refl;
-        width = refl;
-        room = refl;
+        stays = record { element = refl; above = refl; bars = refl; width = refl; room = refl };
       }
 
   -- a line ends
@@ -145,13 +142,9 @@ module _ (row : WalkedRow) (w : KeptWalk) (frame : List ℕ) (before after : Kep
         let none : row.height - suc w.line ≡ 0 = omega (arith, eqb-true (w.line + 1) row.height is) in
         record {
           added = newline ∷ [];
-          adds = adds;
+          adds = adds-fitting row.bytes frame before after (newline ∷ []) adds;
           all = left-now ∙ ap (λ (n : ℕ). newline ∷ lines_from 0 n (map behind_first (cells_now row w))) none;
-          element = refl;
-          above = refl;
-          bars = refl;
-          width = refl;
-          room = refl;
+          stays = record { element = refl; above = refl; bars = refl; width = refl; room = refl };
         }
     ended-by false is =
         let b = l.on.before in
@@ -165,7 +158,7 @@ module _ (row : WalkedRow) (w : KeptWalk) (frame : List ℕ) (before after : Kep
         (drop_all (length w.behind) row.entries (omega (arith, all))) in
         record {
           added = newline ∷ [];
-          adds = adds;
+          adds = adds-fitting row.bytes frame before after (newline ∷ []) adds;
           joins =
               left-now
               ∙ ap (λ (cells : List Cell). newline ∷ lines_from 0 n cells) moved-all
@@ -180,9 +173,5 @@ module _ (row : WalkedRow) (w : KeptWalk) (frame : List ℕ) (before after : Kep
             places = subst (λ (entries : List Entry). PlacesLie row.bytes entries w.behind) entries-all l.on.places;
           };
           less = omega (arith, old_steps, ap (λ (k : ℕ). steps_of_rest row (row.height - k)) next-is);
-          element = refl;
-          above = refl;
-          bars = refl;
-          width = refl;
-          room = refl;
+          stays = record { element = refl; above = refl; bars = refl; width = refl; room = refl };
         }

@@ -1,23 +1,25 @@
 -- What a step of a walk does with the elements of a picture.
-use Rattle.std.proofs.Common.{◌≡◌, ℕ, suc, ◌+◌, ◌-◌, ◌≤◌, Bool, true, false, ◌&&◌, List, [], ◌∷◌, ◌++◌, length, drop, map, refl, sym, ap, subst, ◌∙◌, arith, append_assoc, length-append, ◌==◌}
+use Rattle.std.proofs.Common.{◌≡◌, ℕ, suc, ◌+◌, ◌-◌, ◌≤◌, Bool, true, false, ◌&&◌, List, [], ◌∷◌, ◌++◌, length, drop, map, refl, sym, ap, subst, ◌∙◌, arith, append_assoc, length-append, if◌then◌else◌, ◌==◌}
 use Rattle.std.specs.List.{slice_range}
 use Rattle.roff_source.specs.Bytes.{newline}
 use Rattle.tbl_format.specs.Format.{FormatRow}
 use Rattle.tbl_format.specs.RowsServed.{row_at}
 use Rattle.tbl_kept.specs.Rows.{Command, CommandLies, ElementLaid, KeptElement, KeptRows, Row, Rule, elements_of}
+use Rattle.tbl_layout.specs.Entries.{Rule as OneRule}
 use Rattle.tbl_layout.specs.KeptEntries.{content_of}
+use Rattle.tbl_layout.specs.declared.bars.Bars.{Bars}
 use Rattle.tbl_layout.specs.declared.data_lines.RuleSign.{RuleSign}
 use Rattle.tbl_layout.specs.declared.data_lines.RuleSign.TheVariants.{Single}
 use Rattle.tbl_layout.specs.declared.entry.Entry.{Entry}
-use Rattle.tbl_picture.specs.ElementsWalked.{BehindRow, CanWalk, HasEnded, IsInRow, RowAtElement, RowBegin, RuleAtElement, StandsAt, Steps, lines_on, row_to_come, steps_behind, steps_by, steps_in_row, steps_left, steps_on, still_to_come, to_come_by}
-use Rattle.tbl_picture.specs.PictureLines.{Neighbour, NoRow, OfRow, Sheet, crossings, frame_sign, height as row_height, line_below, lines_behind, lines_from, row_cells, rule_line}
+use Rattle.tbl_picture.specs.ElementsWalked.{BehindRow, CanWalk, HasEnded, IsInRow, RowAtElement, RowBegin, RuleAtElement, StandsAt, Steps, boxed_from, first_next, lines_on, row_to_come, started, steps_behind, steps_by, steps_in_row, steps_left, steps_on, still_to_come, to_come_by}
+use Rattle.tbl_picture.specs.PictureLines.{Neighbour, NoRow, OfRow, Sheet, crossings, frame_sign, height as row_height, line_below, lines_behind, lines_from, picture_lines, row_cells, rule_line}
 use Rattle.tbl_picture.specs.PieceQueue.{Adds, KeptPieces}
 use Rattle.tbl_picture.specs.Pieces.{AreWithin}
 use Rattle.tbl_picture.specs.RulesWalked.{is_row, line_beside, sheet_of}
 use Rattle.tbl_picture.specs.Walks.{BeforeLine, KeptWalk, row_begun, row_left, steps_of_rest, walked}
 use Rattle.tbl_picture.specs.declared.walk.Next.{Next}
 use Rattle.tbl_picture.specs.declared.walk.Next.TheVariants.{AtElement, AtLine, AtTop}
-use Rattle.tbl_picture.proofs.Adding.{adds-fewer, adds-none}
+use Rattle.tbl_picture.proofs.Adding.{adds-fewer, adds-fitting, adds-none}
 use Rattle.tbl_picture.proofs.BoxedElements.{boxed-between, boxed-command, boxed-none, boxed-row, boxed-rule, rule-lines}
 use Rattle.tbl_picture.proofs.RowColumns.{drop-next}
 use Rattle.tbl_picture.proofs.RowLines.{lines-begun, row-high}
@@ -29,6 +31,26 @@ use Rattle.tbl_picture.proofs.RuleSteps.{gives, rule-comes}
 second-true : (s t : Bool) → (s && t) ≡ true → t ≡ true
 second-true true t is = is
 second-true false t is = absurd (cc)
+
+-- a picture begins
+module _ (bars : Bars) (width : ℕ) (bytes : List ℕ) (formats : List FormatRow) (rows : KeptRows) (w : KeptWalk) where
+  started-by : (t : Bool) → to_come_by (if t then AtElement else AtTop) bytes formats rows (started bars width w) rows.elements
+      ≡ lines_behind (record { bars = bars; width = width; columns = rows.columns }) NoRow
+      ((if t then [] else OneRule (frame_sign bars.boxing.bars) ∷ []) ++ boxed_from bars.boxing false (elements_of bytes formats rows.elements))
+  started-by true = refl
+  started-by false = refl
+
+  pub started-lines : still_to_come bytes formats rows (started bars width w)
+      ≡ picture_lines (record { bars = bars; width = width; columns = rows.columns }) (elements_of bytes formats rows.elements)
+  started-lines = started-by (bars.boxing.bars == 0)
+
+  stands-by : (t : Bool) (elements : List KeptElement) → (bars.boxing.bars == 0) ≡ t
+      → StandsAt (if t then AtElement else AtTop) bytes formats rows (started bars width w) elements
+  stands-by true elements is = tt
+  stands-by false elements is = is
+
+  pub started-stands : (elements : List KeptElement) → StandsAt (first_next bars.boxing) bytes formats rows (started bars width w) elements
+  started-stands elements = stands-by (bars.boxing.bars == 0) elements refl
 
 module _ (bytes frame : List ℕ) (formats : List FormatRow) (rows : KeptRows) (w : KeptWalk) (can : CanWalk bytes formats rows w)
     (before after : KeptPieces) (within : AreWithin bytes frame before.pieces) where
@@ -102,7 +124,7 @@ module _ (bytes frame : List ℕ) (formats : List FormatRow) (rows : KeptRows) (
         let new_steps : steps_left bytes formats rows new ≡ steps_behind (is_row w.above) rows.columns + steps_on bytes rows elements =
         ap (λ (n : Next). steps_by n bytes formats rows new (drop (w.element + 1) rows.elements)) next
         ∙ ap (λ (es : List KeptElement). steps_behind (is_row w.above) rows.columns + steps_on bytes rows es) behind in
-        gives bytes frame formats rows w can before after within new (text ++ newline ∷ []) adds
+        gives bytes frame formats rows w can before after within new (text ++ newline ∷ []) (adds-fitting bytes frame before after (text ++ newline ∷ []) adds)
         (lines ∙ ap (λ (xs : List ℕ). text ++ newline ∷ xs) (sym new_lines) ∙ sym (append_assoc text (newline ∷ []) (still_to_come bytes formats rows new)))
         (omega (arith, ap length lines, length-append text (newline ∷ rest)))
         (record {
@@ -177,7 +199,7 @@ module _ (bytes frame : List ℕ) (formats : List FormatRow) (rows : KeptRows) (
           } in
           let same_height : height - 0 ≡ height = omega arith in
           gives bytes frame formats rows w can before before within new []
-          (adds-fewer bytes frame 0 4 before before [] (omega arith) (adds-none bytes frame before))
+          (adds-fitting bytes frame before before [] (adds-fewer bytes frame 0 4 before before [] (omega arith) (adds-none bytes frame before)))
           (old_lines
           ∙ ap (λ (n : ℕ). front ++ rest (n == 1)) high
           ∙ ap (λ (xs : List ℕ). xs ++ rest (height == 1)) lines_row

@@ -137,8 +137,7 @@ ruled-same sign ShortKind bytes from to = refl
 ruled-same sign (RepeatedKind b) bytes from to = refl
 
 -- what is left of a field that begins is the field, in front of these columns and these fields
-module _ (bars : ℕ) (bytes : List ℕ) (c : Column) (columns : List Column) (key : Key) (e : Entry) (next : Content)
-    (entries : List Entry) where
+module _ (bars : ℕ) (bytes : List ℕ) (c : Column) (columns : List Column) (key : Key) (e : Entry) (next : Content) (entries : List Entry) where
   abbrev pub held : RowColumn
   held = record { column = c; key = key; entry = e; place = first_place e; end = end_by bars e.kind c columns entries }
 
@@ -148,20 +147,10 @@ module _ (bars : ℕ) (bytes : List ℕ) (c : Column) (columns : List Column) (k
 
   -- what a field of a kind would be
   abbrev cell_by : EntryKind → Cell
-  cell_by k = record {
-    at = begins_by k c key e;
-    lines = lines_left_by k bytes 0 c (end_by bars k c columns entries) e
-        (first_place e);
-    below = [];
-  }
+  cell_by k = record { at = begins_by k c key e; lines = lines_left_by k bytes 0 c (end_by bars k c columns entries) e (first_place e); below = [] }
 
   field-cell : (f : Content) → FieldSame bytes c (end_by bars e.kind c columns entries) key e f → content_of bytes e ≡ f
-      → cell_of bars key c columns next f ≡ record {
-        at = c.start + place_in c key
-            (stands c.measure key f);
-        lines = lines_of_field c.measure key f;
-        below = [];
-      }
+      → cell_of bars key c columns next f ≡ record { at = c.start + place_in c key (stands c.measure key f); lines = lines_of_field c.measure key f; below = [] }
       → CellSame
   field-cell f same content is =
       let cell : ℕ → List (List Run) → Cell = λ at lines. record { at = at; lines = lines; below = [] } in

@@ -63,8 +63,7 @@ module _ (boxing : Boxing) (format : FormatRow) where
         key = key_of format.keys (k + at);
         entry = get_or entries at e;
         place = get_or places at p;
-        end = end_by (bars_between boxing format (suc (k + at))) (get_or entries at e).kind (get_or columns at c) (drop (suc at) columns)
-            (drop (suc at) entries);
+        end = end_by (bars_between boxing format (suc (k + at))) (get_or entries at e).kind (get_or columns at c) (drop (suc at) columns) (drop (suc at) entries);
       }
       ∷ drop (suc at) (row_columns boxing format k columns entries places)
   row-column k at [] [] places c e p entry short place = absurd (omega (arith, entry))
@@ -73,14 +72,7 @@ module _ (boxing : Boxing) (format : FormatRow) where
   row-column k at (d ∷ columns) (x ∷ entries) [] c e p entry short place = absurd (omega (arith, place))
   row-column k zero (d ∷ columns) (x ∷ entries) (q ∷ places) c e p entry short place =
       let same : k ≡ k + 0 = omega arith in
-      ap (λ (i : ℕ). record {
-        column = d;
-        key = key_of format.keys i;
-        entry = x;
-        place = q;
-        end = end_by
-            (bars_between boxing format (suc i)) x.kind d columns entries;
-      } ∷ row_columns boxing format (suc k) columns entries places) same
+      ap (λ (i : ℕ). record { column = d; key = key_of format.keys i; entry = x; place = q; end = end_by (bars_between boxing format (suc i)) x.kind d columns entries } ∷ row_columns boxing format (suc k) columns entries places) same
   row-column k (suc at) (d ∷ columns) (x ∷ entries) (q ∷ places) c e p entry short place =
       let same : suc k + at ≡ k + suc at = omega arith in
       row-column (suc k) at columns entries places c e p (omega (arith, entry)) (omega (arith, short)) (omega (arith, place))
@@ -89,14 +81,12 @@ module _ (boxing : Boxing) (format : FormatRow) where
         key = key_of format.keys i;
         entry = get_or entries at e;
         place = get_or places at p;
-        end = end_by (bars_between boxing format (suc i)) (get_or entries at e).kind (get_or columns at c) (drop (suc at) columns)
-            (drop (suc at) entries);
+        end = end_by (bars_between boxing format (suc i)) (get_or entries at e).kind (get_or columns at c) (drop (suc at) columns) (drop (suc at) entries);
       }
       ∷ drop (suc at) (row_columns boxing format (suc k) columns entries places)) same
 
   pub length-row_columns : (bytes : List ℕ) (k : ℕ) (columns : List Column) (entries : List Entry) (places : List BlockPlace)
-      → length entries ≤ length columns → PlacesLie bytes entries places → length (row_columns boxing format k columns entries places)
-      ≡ length entries
+      → length entries ≤ length columns → PlacesLie bytes entries places → length (row_columns boxing format k columns entries places) ≡ length entries
   length-row_columns bytes k [] [] places short lie = refl
   length-row_columns bytes k [] (e ∷ entries) places short lie = absurd (omega (arith, short))
   length-row_columns bytes k (c ∷ columns) [] places short lie = refl
@@ -113,37 +103,21 @@ module _ (boxing : Boxing) (format : FormatRow) where
   -- a place more
   pub row_columns-push : (k : ℕ) (columns : List Column) (entries : List Entry) (places behind : List BlockPlace) (p : BlockPlace) (r : RowColumn)
       (rest : List RowColumn) → drop (length behind) (row_columns boxing format k columns entries places) ≡ r ∷ rest
-      → row_columns boxing format k columns entries (behind ++ p ∷ [])
-      ≡ row_columns boxing format k columns entries behind ++ record r { place = p } ∷ []
+      → row_columns boxing format k columns entries (behind ++ p ∷ []) ≡ row_columns boxing format k columns entries behind ++ record r { place = p } ∷ []
   row_columns-push k [] entries places behind p r rest is = absurd (let no = sym (drop-none (length behind)) ∙ is in cc)
   row_columns-push k (c ∷ columns) [] places behind p r rest is = absurd (let no = sym (drop-none (length behind)) ∙ is in cc)
   row_columns-push k (c ∷ columns) (e ∷ entries) [] behind p r rest is = absurd (let no = sym (drop-none (length behind)) ∙ is in cc)
   row_columns-push k (c ∷ columns) (e ∷ entries) (q ∷ places) [] p r rest is =
-      let first : RowColumn = record {
-        column = c;
-        key = key_of format.keys k;
-        entry = e;
-        place = q;
-        end = end_by
-            (bars_between boxing format (suc k)) e.kind c columns entries;
-      } in
+      let first : RowColumn = record { column = c; key = key_of format.keys k; entry = e; place = q; end = end_by (bars_between boxing format (suc k)) e.kind c columns entries } in
       let same : first ≡ r = cc in
       ap (λ (more : List RowColumn). record first { place = p } ∷ more) (none-left (suc k) columns entries)
       ∙ ap (λ (x : RowColumn). record x { place = p } ∷ []) same
   row_columns-push k (c ∷ columns) (e ∷ entries) (q ∷ places) (b ∷ behind) p r rest is =
-      ap (λ (more : List RowColumn). record {
-        column = c;
-        key = key_of format.keys k;
-        entry = e;
-        place = b;
-        end = end_by
-            (bars_between boxing format (suc k)) e.kind c columns entries;
-      } ∷ more)
+      ap (λ (more : List RowColumn). record { column = c; key = key_of format.keys k; entry = e; place = b; end = end_by (bars_between boxing format (suc k)) e.kind c columns entries } ∷ more)
       (row_columns-push (suc k) columns entries places behind p r rest is)
 
 -- where a rule ends in front of a field, and in the last one
-pub rule_end-next : (bars : ℕ) (sign : RuleSign) (c : Column) (at : ℕ) (columns : List Column) (entries : List Entry) (d : Column)
-    (e : Entry)
+pub rule_end-next : (bars : ℕ) (sign : RuleSign) (c : Column) (at : ℕ) (columns : List Column) (entries : List Entry) (d : Column) (e : Entry)
     → at < length columns → at < length entries
     → rule_end_by bars sign c (drop at columns) (drop at entries)
     ≡ (if is_ruled_by sign (get_or entries at e).kind then joint bars c (get_or columns at d) else c.start + c.width)
@@ -169,8 +143,7 @@ pub record ColumnLies (bytes : List ℕ) (all : List Entry) (n : ℕ) (r : RowCo
   pub within : IsWithin (block_text bytes r.entry) r.place
   pub narrow : IsNarrow r.column
 
-pub column-lies : (bytes : List ℕ) (boxing : Boxing) (format : FormatRow) (k n : ℕ) (columns : List Column) (entries : List Entry)
-    (places : List BlockPlace)
+pub column-lies : (bytes : List ℕ) (boxing : Boxing) (format : FormatRow) (k n : ℕ) (columns : List Column) (entries : List Entry) (places : List BlockPlace)
     (r : RowColumn) (rest : List RowColumn) → drop n (row_columns boxing format k columns entries places) ≡ r ∷ rest
     → AllByRecursion (Lies bytes) entries → AllByRecursion IsNarrow columns → PlacesLie bytes entries places
     → ColumnLies bytes entries n r
@@ -178,14 +151,7 @@ column-lies bytes boxing format k n [] entries places r rest is lie narrow withi
 column-lies bytes boxing format k n (c ∷ columns) [] places r rest is lie narrow within = absurd (let no = sym (drop-none n) ∙ is in cc)
 column-lies bytes boxing format k n (c ∷ columns) (e ∷ entries) [] r rest is lie narrow within = absurd within
 column-lies bytes boxing format k zero (c ∷ columns) (e ∷ entries) (p ∷ places) r rest is lie narrow within =
-    let first : RowColumn = record {
-      column = c;
-      key = key_of format.keys k;
-      entry = e;
-      place = p;
-      end = end_by
-          (bars_between boxing format (suc k)) e.kind c columns entries;
-    } in
+    let first : RowColumn = record { column = c; key = key_of format.keys k; entry = e; place = p; end = end_by (bars_between boxing format (suc k)) e.kind c columns entries } in
     let same : first ≡ r = cc in
     subst (ColumnLies bytes (e ∷ entries) 0) same (record { entries = refl; lies = lie.0; within = within.0; narrow = narrow.0 })
 column-lies bytes boxing format k (suc n) (c ∷ columns) (e ∷ entries) (p ∷ places) r rest is lie narrow within =

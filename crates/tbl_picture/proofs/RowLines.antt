@@ -145,10 +145,8 @@ module _ (boxing : Boxing) (bytes : List ℕ) (format : FormatRow) (all_columns 
   past-same column (c ∷ columns) past =
       let none : field_at fields column ≡ Text [] =
       get-past column fields (Text []) (drop-map (content_of bytes) column all_entries ∙ ap (map (content_of bytes)) past) in (
-        ap (λ (f : Content). (cell_of (bars_between boxing format (suc column)) (key_at format column) c columns
-            (field_at fields (suc column)) f).lines) none,
-        ap (λ (f : Content). (cell_of (bars_between boxing format (suc column)) (key_at format column) c columns
-            (field_at fields (suc column)) f).below) none,
+        ap (λ (f : Content). (cell_of (bars_between boxing format (suc column)) (key_at format column) c columns (field_at fields (suc column)) f).lines) none,
+        ap (λ (f : Content). (cell_of (bars_between boxing format (suc column)) (key_at format column) c columns (field_at fields (suc column)) f).below) none,
         past-same (suc column) columns (drop-past column all_entries past),
       )
 
@@ -175,30 +173,25 @@ module _ (boxing : Boxing) (bytes : List ℕ) (format : FormatRow) (all_columns 
       let m : measures all_columns column ≡ c.measure =
       get-at column (map (λ (x : Column). x.measure) all_columns) c.measure (map (λ (x : Column). x.measure) columns) 0
       (drop-map (λ (x : Column). x.measure) column all_columns ∙ ap (map (λ (x : Column). x.measure)) at) in
-      cell-same (bars_between boxing format (suc column)) bytes c columns (key_at format column) e
-      (field_at fields (suc column)) entries e.kind refl
-      (subst (λ (n : ℕ). IsLaid bytes n (key_at format column) e) m laid)
-      (ends-same (bars_between boxing format (suc column)) (suc column) c columns entries behind)
+      cell-same (bars_between boxing format (suc column)) bytes c columns (key_at format column) e (field_at fields (suc column)) entries e.kind refl
+      (subst (λ (n : ℕ). IsLaid bytes n (key_at format column) e) m laid) (ends-same (bars_between boxing format (suc column)) (suc column) c columns entries behind)
 
   cells-same : (column : ℕ) (columns : List Column) (entries : List Entry) → drop column all_columns ≡ columns → drop column all_entries ≡ entries
       → length entries ≤ length columns → AreLaid bytes all_columns format column entries
-      → SameLines (cells_from boxing column columns format fields)
-      (map (cell_left bytes 0) (row_columns boxing format column columns entries (map first_place entries)))
+      → SameLines (cells_from boxing column columns format fields) (map (cell_left bytes 0) (row_columns boxing format column columns entries (map first_place entries)))
   cells-same column [] [] at_columns at_entries short laid = tt
   cells-same column [] (e ∷ entries) at_columns at_entries short laid = absurd (omega (arith, short))
   cells-same column (c ∷ columns) [] at_columns at_entries short laid = past-same column (c ∷ columns) at_entries
   cells-same column (c ∷ columns) (e ∷ entries) at_columns at_entries short laid =
       let behind = drop-next column all_entries e entries at_entries in (
-        ap (cell_of (bars_between boxing format (suc column)) (key_at format column) c columns (field_at fields (suc column)))
-            (content-at column e entries at_entries)
+        ap (cell_of (bars_between boxing format (suc column)) (key_at format column) c columns (field_at fields (suc column))) (content-at column e entries at_entries)
             ∙ (field-at column c columns e entries at_columns behind laid.0).cell,
         cells-same (suc column) columns entries (drop-next column all_columns c columns at_columns) behind (omega (arith, short)) laid.1,
       )
 
   rows-high : (column : ℕ) (columns : List Column) (entries : List Entry) → drop column all_columns ≡ columns → drop column all_entries ≡ entries
       → length entries ≤ length columns → AreLaid bytes all_columns format column entries
-      → max 1 (greatest (map (λ c. length c.lines) (map (cell_left bytes 0)
-      (row_columns boxing format column columns entries (map first_place entries)))))
+      → max 1 (greatest (map (λ c. length c.lines) (map (cell_left bytes 0) (row_columns boxing format column columns entries (map first_place entries)))))
       ≡ max 1 (greatest (map (λ e. lines_by e.kind) entries))
   rows-high column [] [] at_columns at_entries short laid = refl
   rows-high column [] (e ∷ entries) at_columns at_entries short laid = absurd (omega (arith, short))
@@ -238,10 +231,8 @@ module _ (boxing : Boxing) (bytes : List ℕ) (format : FormatRow) (all_columns 
       let behind : drop (suc column) all_entries ≡ drop 1 entries =
       ap (λ (n : ℕ). drop n all_entries) next ∙ sym (drop-drop 1 column all_entries) ∙ ap (λ (es : List Entry). drop 1 es) at in
       let bars = bars_between boxing format (suc column) in
-      ap (λ (sign : Option RuleSign). bars_by sign bars c d ∷ all_between boxing (suc column) (d ∷ columns) format fields)
-      (joined-same column entries at)
-      ∙ ap (λ (xs : List Cell). bars_by (joined_first entries) bars c d ∷ xs)
-      (all-between-same (suc column) (d ∷ columns) (drop 1 entries) behind)
+      ap (λ (sign : Option RuleSign). bars_by sign bars c d ∷ all_between boxing (suc column) (d ∷ columns) format fields) (joined-same column entries at)
+      ∙ ap (λ (xs : List Cell). bars_by (joined_first entries) bars c d ∷ xs) (all-between-same (suc column) (d ∷ columns) (drop 1 entries) behind)
 
 fronts-same : (bars : Bars) (width : ℕ) (bytes : List ℕ) (format : FormatRow) (columns : List Column) (entries : List Entry)
     → fronts (record { bars = bars; width = width; columns = columns }) format (map (content_of bytes) entries)
@@ -249,13 +240,11 @@ fronts-same : (bars : Bars) (width : ℕ) (bytes : List ℕ) (format : FormatRow
 fronts-same bars width bytes format columns entries =
     let b = bars.boxing in
     let all : List Cell → List Cell = λ xs.
-    if bars.has_any then bars_at 0 (bars_at_edge b format 0) ∷ xs ++ right_bars width (bars_at_edge b format (length columns))
-    ∷ [] else [] in
+    if bars.has_any then bars_at 0 (bars_at_edge b format 0) ∷ xs ++ right_bars width (bars_at_edge b format (length columns)) ∷ [] else [] in
     ap all (all-between-same b bytes format columns entries 0 columns entries refl)
 
 -- a row that begins: how high it is, and its lines
-module _ (bytes : List ℕ) (formats : List FormatRow) (bars : Bars) (width : ℕ) (columns : List Column) (keys height : ℕ)
-    (entries : List Entry)
+module _ (bytes : List ℕ) (formats : List FormatRow) (bars : Bars) (width : ℕ) (columns : List Column) (keys height : ℕ) (entries : List Entry)
     (laid : RowLaid bytes formats columns keys height entries) where
   abbrev row_now : WalkedRow
   row_now = walked bytes formats bars width columns keys height entries
@@ -292,7 +281,6 @@ module _ (bytes : List ℕ) (formats : List FormatRow) (bars : Bars) (width : �
   lines-begun =
       let high : row_height cells_of_row ≡ height - 0 = omega (arith, row-high) in
       ap (λ (n : ℕ). lines_from 0 n cells_of_row) high
-      ∙ ap (λ (fs : List Cell). lines_from 0 (height - 0) (with_fronts fs cells_of_fields))
-      (same-fronts ∙ sym (from-first (fronts_by bars width (row_at formats keys) columns entries)))
+      ∙ ap (λ (fs : List Cell). lines_from 0 (height - 0) (with_fronts fs cells_of_fields)) (same-fronts ∙ sym (from-first (fronts_by bars width (row_at formats keys) columns entries)))
       ∙ lines-same 0 (height - 0) (with_fronts (fronts_of row_now 0) cells_of_fields) (line_cells row_now 0 (map first_place entries))
       (written-same (fronts_of row_now 0) cells_of_fields fields_of_row same-fields)

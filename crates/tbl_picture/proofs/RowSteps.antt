@@ -14,7 +14,7 @@ use Rattle.tbl_picture.specs.PictureLines.{OfRow}
 use Rattle.tbl_picture.specs.PieceQueue.{KeptPieces}
 use Rattle.tbl_picture.specs.Pieces.{AreWithin}
 use Rattle.tbl_picture.specs.RulesWalked.{IsRowFirst, IsRowThere, line_of_first, sheet_of}
-use Rattle.tbl_picture.specs.Walks.{IsOn, IsUnderWay, KeptWalk, RowEnds, RowEndsOrGoesOn, RowSteps, WalkedRow, row_left, row_steps, walked}
+use Rattle.tbl_picture.specs.Walks.{IsOn, IsUnderWay, KeptWalk, RowEnds, RowEndsOrGoesOn, RowSteps, Stays, WalkedRow, row_left, row_steps, walked}
 use Rattle.tbl_picture.specs.declared.walk.Next.{Next}
 use Rattle.tbl_picture.specs.declared.walk.Next.TheVariants.{AtCell, AtElement, AtEnd, AtFront, AtLine, AtRule, AtTop, AtWord}
 use Rattle.tbl_picture.proofs.RowColumns.{drop-next, drop-none}
@@ -63,11 +63,11 @@ module _ (bytes : List ℕ) (formats : List FormatRow) (rows : KeptRows) (w : Ke
   stands-on AtCell on there = there
   stands-on (AtWord word width place) on there = there
 
--- a step within a row stays at its element
-pub does-element : (t : Bool) (frame : List ℕ) (row : WalkedRow) (old new : KeptWalk) (before after : KeptPieces)
-    → RowEndsOrGoesOn t frame row old new before after → new.element ≡ old.element
-does-element true frame row old new before after s = s.element
-does-element false frame row old new before after s = s.element
+-- what stays in steps within a row
+pub does-stay : (t : Bool) (frame : List ℕ) (row : WalkedRow) (old new : KeptWalk) (before after : KeptPieces)
+    → RowEndsOrGoesOn t frame row old new before after → Stays old new
+does-stay true frame row old new before after s = s.stays
+does-stay false frame row old new before after s = s.stays
 
 -- what is under way in a row is on its way
 pub under-on : (n : Next) (row : WalkedRow) (w : KeptWalk) → IsUnderWay n row w → IsOn n
@@ -83,8 +83,7 @@ under-on (AtWord word width place) row w under = tt
 module _ (bytes frame : List ℕ) (formats : List FormatRow) (rows : KeptRows) (w : KeptWalk) (can : CanWalk bytes formats rows w)
     (before after : KeptPieces) (within : AreWithin bytes frame before.pieces) where
   -- a row that is walked
-  module _ (keys height : ℕ) (entries : List Entry) (elements : List KeptElement)
-      (at : drop w.element rows.elements ≡ Row keys height entries ∷ elements) where
+  module _ (keys height : ℕ) (entries : List Entry) (elements : List KeptElement) (at : drop w.element rows.elements ≡ Row keys height entries ∷ elements) where
     abbrev pub row : WalkedRow
     row = walked bytes formats w.bars w.picture_width rows.columns keys height entries
 
@@ -100,8 +99,7 @@ module _ (bytes frame : List ℕ) (formats : List FormatRow) (rows : KeptRows) (
     to-come-on k same bars width on =
         let left : Bars → ℕ → List ℕ = λ b n.
         row_left k.next (walked bytes formats b n rows.columns keys height entries) k
-        ++ lines_on (record { bars = b; width = n; columns = rows.columns }) true (OfRow (height == 1) (row_at formats keys) fields)
-        (elements_of bytes formats elements) in
+        ++ lines_on (record { bars = b; width = n; columns = rows.columns }) true (OfRow (height == 1) (row_at formats keys) fields) (elements_of bytes formats elements) in
         lines-on bytes formats rows k (drop k.element rows.elements) k.next on
         ∙ ap (λ (n : ℕ). row_to_come bytes formats rows k (drop n rows.elements)) same
         ∙ ap (row_to_come bytes formats rows k) at
@@ -112,21 +110,18 @@ module _ (bytes frame : List ℕ) (formats : List FormatRow) (rows : KeptRows) (
         → steps_left bytes formats rows k ≡ row_steps k.next row k + (rule_steps rows.columns + steps_on bytes rows elements)
     steps-within k same bars width on =
         let left : Bars → ℕ → ℕ = λ b n.
-        row_steps k.next (walked bytes formats b n rows.columns keys height entries) k +
-        (rule_steps rows.columns + steps_on bytes rows elements) in
+        row_steps k.next (walked bytes formats b n rows.columns keys height entries) k + (rule_steps rows.columns + steps_on bytes rows elements) in
         all-steps-on bytes formats rows k (drop k.element rows.elements) k.next on
         ∙ ap (λ (n : ℕ). steps_in_row bytes formats rows k (drop n rows.elements)) same
         ∙ ap (steps_in_row bytes formats rows k) at
         ∙ ap (λ (b : Bars). left b k.picture_width) bars
         ∙ ap (left w.bars) width
 
-    stands-within : (k : KeptWalk) → k.element ≡ w.element → k.bars ≡ w.bars → k.picture_width ≡ w.picture_width → IsOn k.next
-        → IsUnderWay k.next row k
+    stands-within : (k : KeptWalk) → k.element ≡ w.element → k.bars ≡ w.bars → k.picture_width ≡ w.picture_width → IsOn k.next → IsUnderWay k.next row k
         → StandsAt k.next bytes formats rows k (drop k.element rows.elements)
     stands-within k same bars width on under =
         let left : Bars → ℕ → Type 0 = λ b n. IsUnderWay k.next (walked bytes formats b n rows.columns keys height entries) k in
-        let there : left k.bars k.picture_width = subst (λ (b : Bars). left b k.picture_width) (sym bars)
-        (subst (λ (n : ℕ). left w.bars n) (sym width) under) in
+        let there : left k.bars k.picture_width = subst (λ (b : Bars). left b k.picture_width) (sym bars) (subst (λ (n : ℕ). left w.bars n) (sym width) under) in
         let first : drop k.element rows.elements ≡ Row keys height entries ∷ elements = ap (λ (n : ℕ). drop n rows.elements) same ∙ at in
         stands-on bytes formats rows k (drop k.element rows.elements) k.next on (subst (IsInRow bytes formats rows k) (sym first) there)
 
@@ -144,26 +139,25 @@ module _ (bytes frame : List ℕ) (formats : List FormatRow) (rows : KeptRows) (
     row-laid = all-at (ElementLaid bytes formats rows.columns) w.element rows.elements (Row keys height entries) elements can.laid at
 
     -- a step within the row
-    row-goes-on : (new : KeptWalk) → IsUnderWay w.next row w → RowSteps frame row w new before after
-        → Steps bytes frame formats rows w new before after
+    row-goes-on : (new : KeptWalk) → IsUnderWay w.next row w → RowSteps frame row w new before after → Steps bytes frame formats rows w new before after
     row-goes-on new under s =
         let on = under-on w.next row w under in
         gives bytes frame formats rows w can before after within new s.added s.adds
         (to-come-on w refl refl refl on
         ∙ ap (λ (xs : List ℕ). xs ++ behind-row) s.joins
         ∙ append_assoc s.added (row_left new.next row new) behind-row
-        ∙ ap (λ (xs : List ℕ). s.added ++ xs) (sym (to-come-on new s.element s.bars s.width s.on)))
+        ∙ ap (λ (xs : List ℕ). s.added ++ xs) (sym (to-come-on new s.stays.element s.stays.bars s.stays.width s.on)))
         (some-now on under)
         (record {
           laid = can.laid;
           narrow = can.narrow;
-          room = omega (arith, can.room, s.room);
-          element = omega (arith, can.element, s.element);
-          above = subst (IsRowThere rows.elements) (sym s.above) can.above;
-          next = stands-within new s.element s.bars s.width s.on s.can;
+          room = omega (arith, can.room, s.stays.room);
+          element = omega (arith, can.element, s.stays.element);
+          above = subst (IsRowThere rows.elements) (sym s.stays.above) can.above;
+          next = stands-within new s.stays.element s.stays.bars s.stays.width s.on s.can;
         })
-        (omega (arith, steps-within w refl refl refl on, steps-within new s.element s.bars s.width s.on, s.less))
-        s.room
+        (omega (arith, steps-within w refl refl refl on, steps-within new s.stays.element s.stays.bars s.stays.width s.on, s.less))
+        s.stays.room
 
     -- a step that ends it
     row-ends : (mid : KeptWalk) → IsUnderWay w.next row w → RowEnds frame row w mid before after
@@ -171,21 +165,17 @@ module _ (bytes frame : List ℕ) (formats : List FormatRow) (rows : KeptRows) (
     row-ends mid under s =
         let on = under-on w.next row w under in
         let new = gone_on true mid in
-        let first : drop mid.element rows.elements ≡ Row keys height entries ∷ elements = ap (λ (n : ℕ). drop n rows.elements) s.element
-        ∙ at in
+        let first : drop mid.element rows.elements ≡ Row keys height entries ∷ elements = ap (λ (n : ℕ). drop n rows.elements) s.stays.element ∙ at in
         let next_is : mid.element + 1 ≡ suc mid.element = omega arith in
         let there : drop (mid.element + 1) rows.elements ≡ elements =
         ap (λ (n : ℕ). drop n rows.elements) next_is ∙ drop-next mid.element rows.elements (Row keys height entries) elements first in
         let left : Bars → ℕ → List ℕ = λ b n.
-        lines_on (record { bars = b; width = n; columns = rows.columns }) true (OfRow (height == 1) (row_at formats keys) fields)
-        (elements_of bytes formats elements) in
+        lines_on (record { bars = b; width = n; columns = rows.columns }) true (OfRow (height == 1) (row_at formats keys) fields) (elements_of bytes formats elements) in
         let new_lines : still_to_come bytes formats rows new ≡ behind-row =
-        ap (λ (es : List KeptElement). lines_on (sheet_of rows mid) true (line_of_first bytes formats false es)
-        (elements_of bytes formats (drop (mid.element + 1) rows.elements))) first
-        ∙ ap (λ (es : List KeptElement). lines_on (sheet_of rows mid) true (OfRow (height == 1) (row_at formats keys) fields)
-        (elements_of bytes formats es)) there
-        ∙ ap (λ (b : Bars). left b mid.picture_width) s.bars
-        ∙ ap (left w.bars) s.width in
+        ap (λ (es : List KeptElement). lines_on (sheet_of rows mid) true (line_of_first bytes formats false es) (elements_of bytes formats (drop (mid.element + 1) rows.elements))) first
+        ∙ ap (λ (es : List KeptElement). lines_on (sheet_of rows mid) true (OfRow (height == 1) (row_at formats keys) fields) (elements_of bytes formats es)) there
+        ∙ ap (λ (b : Bars). left b mid.picture_width) s.stays.bars
+        ∙ ap (left w.bars) s.stays.width in
         gives bytes frame formats rows w can before after within new s.added s.adds
         (to-come-on w refl refl refl on
         ∙ ap (λ (xs : List ℕ). xs ++ behind-row) s.all
@@ -194,7 +184,7 @@ module _ (bytes frame : List ℕ) (formats : List FormatRow) (rows : KeptRows) (
         (record {
           laid = can.laid;
           narrow = can.narrow;
-          room = omega (arith, can.room, s.room);
+          room = omega (arith, can.room, s.stays.room);
           element = omega (arith, within-drop mid.element rows.elements (Row keys height entries) elements first);
           above = subst IsRowFirst (sym first) tt;
           next = tt;
@@ -205,7 +195,7 @@ module _ (bytes frame : List ℕ) (formats : List FormatRow) (rows : KeptRows) (
           ap (steps_on bytes rows) there,
           steps-on w.next row w on under,
         ))
-        s.room
+        s.stays.room
 
     pub row-by : (t : Bool) (mid : KeptWalk) → IsUnderWay w.next row w → RowEndsOrGoesOn t frame row w mid before after
         → Steps bytes frame formats rows w (gone_on t mid) before after

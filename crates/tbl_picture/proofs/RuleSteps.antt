@@ -10,7 +10,7 @@ use Rattle.tbl_layout.specs.declared.columns.Column.{Column}
 use Rattle.tbl_layout.specs.declared.data_lines.RuleSign.{RuleSign}
 use Rattle.tbl_picture.specs.ElementsWalked.{CanWalk, Given, RuleAtElement, RuleBegin, StandsAt, Steps, lines_behind_rule, steps_behind_rule, steps_by, steps_left, still_to_come, to_come_by}
 use Rattle.tbl_picture.specs.PictureLines.{Neighbour, Sheet, crossed_at_edge, crossing, crossings, crossings_from, line_below, places_from, rule_line, ruled, shown_behind}
-use Rattle.tbl_picture.specs.PieceQueue.{Adds, KeptPieces, bytes_left}
+use Rattle.tbl_picture.specs.PieceQueue.{Adds, AddsFitting, KeptPieces, bytes_left}
 use Rattle.tbl_picture.specs.Pieces.{AreWithin}
 use Rattle.tbl_picture.specs.RulesWalked.{RuleBegins, RuleCrosses, RuleDoes, RuleEnds, RuleStands, Crosses, Ends, crossed, crossed_by, line_beside, next_behind_rule, rule_at, rule_begun, rule_ended, rule_front, rule_left, ruled_left, sheet_of}
 use Rattle.tbl_picture.specs.Walks.{KeptWalk}
@@ -18,7 +18,7 @@ use Rattle.tbl_picture.specs.declared.walk.Next.{Next}
 use Rattle.tbl_picture.specs.declared.walk.Next.TheVariants.{AtRule}
 use Rattle.tbl_picture.specs.declared.walk.rules.Beside.TheVariants.{Nothing as NoRowBeside}
 use Rattle.tbl_picture.specs.declared.walk.rules.RuleBegun.{RuleBegun}
-use Rattle.tbl_picture.proofs.Adding.{adds-fewer, adds-none}
+use Rattle.tbl_picture.proofs.Adding.{adds-fewer, adds-fitting, adds-none}
 use Rattle.tbl_picture.proofs.BoxedElements.{unbarred-crossings}
 use Rattle.tbl_picture.proofs.RuleLines.{crossings-next, line-crossed, line_left, rule-begun}
 
@@ -49,7 +49,7 @@ module _ (bytes : List ℕ) (formats : List FormatRow) (rows : KeptRows) (rule :
 module _ (bytes frame : List ℕ) (formats : List FormatRow) (rows : KeptRows) (w : KeptWalk) (can : CanWalk bytes formats rows w)
     (before after : KeptPieces) (within : AreWithin bytes frame before.pieces) where
   -- a step that gives some bytes
-  pub gives : (new : KeptWalk) (text : List ℕ) → Adds bytes frame 4 before after text
+  pub gives : (new : KeptWalk) (text : List ℕ) → AddsFitting bytes frame before after text
       → still_to_come bytes formats rows w ≡ text ++ still_to_come bytes formats rows new
       → 0 < length (still_to_come bytes formats rows w)
       → CanWalk bytes formats rows new → steps_left bytes formats rows new < steps_left bytes formats rows w → new.room ≡ w.room
@@ -59,13 +59,13 @@ module _ (bytes frame : List ℕ) (formats : List FormatRow) (rows : KeptRows) (
     can = can_new;
     less = less;
     same =
-        ap (λ (front : List ℕ). front ++ still_to_come bytes formats rows new) (adds.left within)
+        ap (λ (front : List ℕ). front ++ still_to_come bytes formats rows new) (adds.adds.left within)
         ∙ append_assoc (bytes_left bytes frame before) text (still_to_come bytes formats rows new)
         ∙ ap (λ (rest : List ℕ). bytes_left bytes frame before ++ rest) (sym lines);
-    within = adds.within within;
-    few = adds.few;
-    grown = adds.grown;
-    pieces_room = adds.room;
+    within = adds.adds.within within;
+    fits = adds.fits;
+    grown = adds.adds.grown;
+    pieces_room = adds.adds.room;
     room = room;
   }
 
@@ -103,7 +103,7 @@ module _ (bytes frame : List ℕ) (formats : List FormatRow) (rows : KeptRows) (
         ∙ ap (λ (xs : List ℕ). xs ++ lines-then) (rule-begun (sheet_of rows w) line-above below sign is_last b.below n any refl)
         ∙ append_assoc (rule_front n) (ruled_left (sheet_of rows w) line-above below (rule_at sign is_last b.below) n) lines-then in
         subst (λ (k : KeptWalk). Steps bytes frame formats rows w k before after) (sym b.walk)
-        (gives begun (rule_front n) b.adds text some-lines
+        (gives begun (rule_front n) (adds-fitting bytes frame before after (rule_front n) b.adds) text some-lines
         (record {
           laid = can.laid;
           narrow = can.narrow;
@@ -124,7 +124,7 @@ module _ (bytes frame : List ℕ) (formats : List FormatRow) (rows : KeptRows) (
         let elements = drop at rows.elements in
         let line = rule_line w.picture_width sign [] in
         let below = line_below (elements_of bytes formats elements) in
-        gives new line adds
+        gives new line (adds-fitting bytes frame before after line adds)
         (lines
         ∙ ap (λ (xs : List ℕ). rule_line w.picture_width sign xs ++ lines-then) (unbarred-crossings (sheet_of rows w) line-above below none)
         ∙ ap (λ (xs : List ℕ). line ++ xs) (sym (lines-behind bytes formats rows rule moved elements is_last)))
@@ -180,7 +180,7 @@ module _ (bytes frame : List ℕ) (formats : List FormatRow) (rows : KeptRows) (
         c.joins ∙ ap (λ (k : KeptWalk). c.added ++ rule_left bytes formats rows moved k) c.walk in
         let stands = rule-stands-now in
         subst (λ (k : KeptWalk). Steps bytes frame formats rows w k before after) (sym c.walk)
-        (gives to c.added c.adds
+        (gives to c.added (adds-fitting bytes frame before after c.added c.adds)
         (rule-lines-now ∙ ap (λ (xs : List ℕ). xs ++ lines-behind-rule) joins ∙ append_assoc c.added (rule_left bytes formats rows moved to) lines-behind-rule)
         some-now
         (record {
@@ -197,7 +197,8 @@ module _ (bytes frame : List ℕ) (formats : List FormatRow) (rows : KeptRows) (
     rule-ends e =
         let stands = rule-stands-now in
         subst (λ (k : KeptWalk). Steps bytes frame formats rows w k before after) (sym e.walk)
-        (gives (rule_ended rule w) (rule_left bytes formats rows rule w) e.adds
+        (gives (rule_ended rule w) (rule_left bytes formats rows rule w)
+        (adds-fitting bytes frame before after (rule_left bytes formats rows rule w) e.adds)
         (rule-lines-now ∙ ap (λ (xs : List ℕ). rule_left bytes formats rows rule w ++ xs) (sym (lines-behind bytes formats rows rule w kept-behind rule.is_last)))
         some-now
         (record {

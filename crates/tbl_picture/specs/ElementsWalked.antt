@@ -172,7 +172,7 @@ pub record Steps (bytes frame : List ℕ) (formats : List FormatRow) (rows : Kep
   pub same : bytes_left bytes frame after ++ still_to_come bytes formats rows new
       ≡ bytes_left bytes frame before ++ still_to_come bytes formats rows old
   pub within : AreWithin bytes frame after.pieces
-  pub few : after.taken ≤ before.taken + 4
+  pub fits : before.taken + 4 ≤ before.room → after.taken ≤ after.room
   pub grown : length after.pieces + before.taken ≡ length before.pieces + after.taken
   pub pieces_room : after.room ≡ before.room
   pub room : new.room ≡ old.room

@@ -80,8 +80,7 @@ cell_of bars key c columns next field =
 abbrev pub cells_from : Boxing → ℕ → List Column → FormatRow → List Content → List Cell
 cells_from boxing column [] format fields = []
 cells_from boxing column (c ∷ columns) format fields =
-    cell_of (bars_between boxing format (suc column)) (key_at format column) c columns (field_at fields (suc column))
-    (field_at fields column)
+    cell_of (bars_between boxing format (suc column)) (key_at format column) c columns (field_at fields (suc column)) (field_at fields column)
     ∷ cells_from boxing (suc column) columns format fields
 
 -- nothing that stands in a row

@@ -32,6 +32,12 @@ pub record Adds (block frame : List ℕ) (count : ℕ) (old new : KeptPieces) (b
   pub grown : length new.pieces + old.taken ≡ length old.pieces + new.taken
   pub room : new.room ≡ old.room
 
+-- pieces more, which have these bytes, and fit where there is room for those of a step
+pub record AddsFitting (block frame : List ℕ) (old new : KeptPieces) (bytes : List ℕ) : Type 0 where
+  pub count : ℕ
+  pub adds : Adds block frame count old new bytes
+  pub fits : old.taken + 4 ≤ old.room → new.taken ≤ new.room
+
 -- a place within the first of some pieces
 abbrev pub IsInFirst : ℕ → List Piece → Type 0
 IsInFirst offset [] = offset ≡ 0

@@ -7,7 +7,7 @@ use Rattle.tbl_layout.specs.declared.entry.Entry.{Entry}
 use Rattle.tbl_layout.specs.declared.entry.EntryKind.{EntryKind}
 use Rattle.tbl_layout.specs.declared.entry.EntryKind.TheVariants.{Block}
 use Rattle.tbl_picture.specs.PictureLines.{Cell}
-use Rattle.tbl_picture.specs.RowsLeft.{block_text, first_of, lines_left_by, repeated_lines}
+use Rattle.tbl_picture.specs.RowsLeft.{behind_first, block_text, cell_left, first_of, lines_left_by, repeated_lines}
 use Rattle.tbl_picture.specs.declared.fronts.Front.{Front}
 use Rattle.tbl_picture.specs.declared.fronts.Front.TheVariants.{Bars as SomeBars, Crossed, Nothing as NoFront}
 use Rattle.tbl_picture.specs.declared.row_columns.RowColumn.{RowColumn}
@@ -56,6 +56,11 @@ IsBlock kind = ⊥
 -- the field of a column is a byte that is repeated so often
 pub record Repeats (b count : ℕ) (r : RowColumn) : Type 0 where
   pub lines : (bytes : List ℕ) (line : ℕ) → lines_left_by r.entry.kind bytes line r.column r.end r.entry r.place ≡ repeated_lines line b count
+
+-- nothing of a column's field stands on a line, and the field goes on at the same place
+pub record IsEmptyOn (bytes : List ℕ) (line : ℕ) (r : RowColumn) : Type 0 where
+  pub none : first_of (cell_left bytes line r) ≡ []
+  pub moved : cell_left bytes (suc line) (record r { place = r.place }) ≡ behind_first (cell_left bytes line r)
 
 -- the word of a column's block that comes next, on a line that is so wide with it, and the place behind it
 pub record StandsNext (bytes : List ℕ) (word : BlockWord) (width : ℕ) (place : BlockPlace) (r : RowColumn) : Type 0 where

@@ -9,7 +9,7 @@ use Rattle.tbl_layout.specs.declared.columns.Column.{Column}
 use Rattle.tbl_layout.specs.declared.entry.Entry.{Entry}
 use Rattle.tbl_layout.specs.KeptEntries.{Lies}
 use Rattle.tbl_picture.specs.PictureLines.{Cell, lines_from, with_fronts}
-use Rattle.tbl_picture.specs.PieceQueue.{Adds, KeptPieces}
+use Rattle.tbl_picture.specs.PieceQueue.{AddsFitting, KeptPieces}
 use Rattle.tbl_picture.specs.RowsLeft.{behind_first, block_text, cell_left, from_line, fronts_by, given, one_less, row_columns, then_fronts, word_given}
 use Rattle.tbl_picture.specs.RowsWalked.{AreNarrow, IsNarrow, LastHasGlyph, PlacesLie, StandsInFirst, front_count, most_steps, steps_of_cells, steps_of_columns, steps_of_lines, steps_of_word}
 use Rattle.tbl_picture.specs.declared.row_columns.RowColumn.{RowColumn}
@@ -99,8 +99,7 @@ fronts_of row line = map (from_line line) (fronts_by row.bars row.width row.form
 -- all that is left of it from a line on, where its blocks go on at these places
 abbrev pub line_cells : WalkedRow → ℕ → List BlockPlace → List Cell
 line_cells row line places =
-    with_fronts (fronts_of row line) (map (cell_left row.bytes line)
-    (row_columns row.bars.boxing row.format 0 row.columns row.entries places))
+    with_fronts (fronts_of row line) (map (cell_left row.bytes line) (row_columns row.bars.boxing row.format 0 row.columns row.entries places))
 
 -- what is left of its fields, all and those that are behind the walk
 abbrev pub fields_now : WalkedRow → KeptWalk → List Cell
@@ -217,34 +216,44 @@ IsOn (AtFront at) = Unit {0}
 IsOn AtCell = Unit {0}
 IsOn (AtWord word width place) = Unit {0}
 
--- a step within a row that goes on: these bytes are given, and the rest of the row is left
+-- what stays in steps within a row
+pub record Stays (old new : KeptWalk) : Type 0 where
+  pub element : new.element ≡ old.element
+  pub above : new.above ≡ old.above
+  pub bars : new.bars ≡ old.bars
+  pub width : new.picture_width ≡ old.picture_width
+  pub room : new.room ≡ old.room
+
+-- steps within a row that goes on: these bytes are given, and the rest of the row is left
 pub record RowSteps (frame : List ℕ) (row : WalkedRow) (old new : KeptWalk) (before after : KeptPieces) : Type 0 where
   pub added : List ℕ
-  pub adds : Adds row.bytes frame 4 before after added
+  pub adds : AddsFitting row.bytes frame before after added
   pub joins : row_left old.next row old ≡ added ++ row_left new.next row new
   pub on : IsOn new.next
   pub can : IsUnderWay new.next row new
   pub less : row_steps new.next row new < row_steps old.next row old
-  pub element : new.element ≡ old.element
-  pub above : new.above ≡ old.above
-  pub bars : new.bars ≡ old.bars
-  pub width : new.picture_width ≡ old.picture_width
-  pub room : new.room ≡ old.room
+  pub stays : Stays old new
 
--- a step within a row that ends it: these bytes are given, and nothing of the row is left
+-- steps within a row that end it: these bytes are given, and nothing of the row is left
 pub record RowEnds (frame : List ℕ) (row : WalkedRow) (old new : KeptWalk) (before after : KeptPieces) : Type 0 where
   pub added : List ℕ
-  pub adds : Adds row.bytes frame 4 before after added
+  pub adds : AddsFitting row.bytes frame before after added
   pub all : row_left old.next row old ≡ added
-  pub element : new.element ≡ old.element
-  pub above : new.above ≡ old.above
-  pub bars : new.bars ≡ old.bars
-  pub width : new.picture_width ≡ old.picture_width
-  pub room : new.room ≡ old.room
+  pub stays : Stays old new
 
 abbrev pub RowEndsOrGoesOn : Bool → List ℕ → WalkedRow → KeptWalk → KeptWalk → KeptPieces → KeptPieces → Type 0
 RowEndsOrGoesOn true frame row old new before after = RowEnds frame row old new before after
 RowEndsOrGoesOn false frame row old new before after = RowSteps frame row old new before after
+
+-- a row goes on: none of its steps was made yet, or some were
+pub data RowGoesOn (frame : List ℕ) (row : WalkedRow) (old new : KeptWalk) (before after : KeptPieces) : Type 0 where
+  NotYet : new ≡ old → after ≡ before → RowGoesOn frame row old new before after
+  Gone : RowSteps frame row old new before after → RowGoesOn frame row old new before after
+
+-- its steps so far, the last of all among them or not
+abbrev pub RowSoFar : Bool → List ℕ → WalkedRow → KeptWalk → KeptWalk → KeptPieces → KeptPieces → Type 0
+RowSoFar true frame row old new before after = RowEnds frame row old new before after
+RowSoFar false frame row old new before after = RowGoesOn frame row old new before after
 
 -- where the block of a field begins, if it is one
 abbrev pub first_place : Entry → BlockPlace

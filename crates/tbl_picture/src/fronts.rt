@@ -20,8 +20,8 @@ pub enum Front {
     Nothing,
     /// Bars: the column of the page where they begin, and how many.
     Bars(usize, u8),
-    /// Bars that two rules of the row cross on its first line: where they begin, how many, the sign
-    /// of the rules, and where the second one's column begins.
+    /// The same of bars that two rules of the row cross on its first line, their sign, and where
+    /// the second one's column begins.
     Crossed(usize, u8, RuleSign, usize),
 }
 

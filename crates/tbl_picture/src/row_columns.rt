@@ -62,6 +62,8 @@ pub struct RowColumn {
 }
 
 /// A column of a row, whose blocks go on at these places.
+// It is called for each cell.
+#[inline(always)]
 pub fn column_at(row: &RowLent<'_>, places: &[BlockPlace], at: usize) -> RowColumn
     requires entry { at < length row.now.entries.now }
     requires column { length row.now.entries.now ≤ length row.now.columns.now }
@@ -84,7 +86,8 @@ pub fn column_at(row: &RowLent<'_>, places: &[BlockPlace], at: usize) -> RowColu
 
 /// The column of the page where a field of this kind ends in a column, if it is a rule over it,
 /// else 0.
-#[inline]
+// It is called for each cell.
+#[inline(always)]
 fn end_at(row: &RowLent<'_>, at: usize, column: Column, kind: EntryKind) -> usize
     requires entry { at < length row.now.entries.now }
     requires column { length row.now.entries.now ≤ length row.now.columns.now }
@@ -99,6 +102,8 @@ fn end_at(row: &RowLent<'_>, at: usize, column: Column, kind: EntryKind) -> usiz
 }
 
 /// Where a rule over a column ends: one that is drawn alike goes on with it.
+// Such a rule is rare.
+#[inline(never)]
 fn rule_end(row: &RowLent<'_>, at: usize, column: Column, sign: RuleSign) -> usize
     requires entry { at < length row.now.entries.now }
     requires column { length row.now.entries.now ≤ length row.now.columns.now }

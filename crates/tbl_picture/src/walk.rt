@@ -168,6 +168,28 @@ impl Walk {
         }
     }
 
+    /// The next pieces of a row, as many as there is room for. Answers whether they were its last.
+    fn steps_in_row(
+        &mut self,
+        pieces: &mut PieceQueue,
+        escapes: &mut OpenEscapes,
+        row: &RowLent<'_>,
+    ) -> bool
+        requires can { IsUnderWay self.old.next (lent_row row.now) self.old }
+        requires fits { length row.now.entries.now ≤ self.old.room }
+        requires small { row.now.height < 2 ^ 32 }
+        requires room { pieces.old.taken + 4 ≤ pieces.old.room }
+        ensures steps { (frame : List ℕ) → RowEndsOrGoesOn result frame (lent_row row.now)
+            self.old self.new pieces.old pieces.new }
+        ensures escapes { escapes.new.room ≡ escapes.old.room }
+    {
+        let mut has_ended = false;
+        while !has_ended && pieces.has_room(STEP_PIECES) {
+            has_ended = self.step_in_row(pieces, escapes, row);
+        }
+        has_ended
+    }
+
     /// The next pieces of a row. Answers whether they were its last.
     fn step_in_row(
         &mut self,

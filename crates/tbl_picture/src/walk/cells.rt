@@ -1,12 +1,12 @@
 //! The cells of a line, as a walk gives them.
 
-ghost use Rattle.std.specs.Prelude.{◌≡◌, ◌≢◌, ℕ, suc, ◌+◌, ◌-◌, ◌<◌, ◌≤◌, List, [], ◌∷◌, ◌++◌};
+ghost use Rattle.std.specs.Prelude.{◌≡◌, ℕ, suc, ◌+◌, ◌-◌, ◌<◌, ◌≤◌, List, [], ◌∷◌, ◌++◌};
 ghost use Rattle.std.specs.Prelude.{length, min};
 ghost use Rattle.tbl_layout.specs.declared.entry.EntryKind.TheVariants.{Split, Text};
 ghost use Rattle.tbl_picture.specs.Pieces.{bytes_of, piece_len};
-ghost use Rattle.tbl_picture.specs.PieceQueue.{Adds};
+ghost use Rattle.tbl_picture.specs.PieceQueue.{Adds, KeptPieces};
 ghost use Rattle.tbl_picture.specs.RowsLeft.{end_given, if_given};
-ghost use Rattle.tbl_picture.specs.RowsWalked.{IsBlock, Repeats};
+ghost use Rattle.tbl_picture.specs.RowsWalked.{IsBlock, IsEmptyOn, Repeats};
 
 use super::fronts::{count_given, next_column};
 use super::{Next, Walk};
@@ -110,54 +110,55 @@ impl Walk {
             → RowSteps frame (lent_row row.now) self.old self.new pieces.old pieces.new }
         ensures escapes { escapes.new.room ≡ escapes.old.room }
     {
-        let held = self.column(row);
-        match held.entry.kind {
-            EntryKind::Text(glyphs, width) => {
-                if self.line == 0 && held.entry.from != held.entry.to {
-                    self.give_text(pieces, row, held, glyphs, width);
-                } else {
-                    self.pass(row, held.place, self.place, self.width);
-                }
-            }
-            EntryKind::Split(split) => {
-                if self.line == 0 {
-                    self.give_split(pieces, row, held, split);
-                } else {
-                    self.pass(row, held.place, self.place, self.width);
-                }
-            }
-            EntryKind::Block(_) => self.begin_block_line(pieces, escapes, row, held),
+        match row.entries[self.behind.len()].kind {
+            EntryKind::Text(glyphs, width) => self.give_text(pieces, row, glyphs, width),
+            EntryKind::Split(split) => self.give_split(pieces, row, split),
+            EntryKind::Block(_) => self.begin_block_line(pieces, escapes, row),
             EntryKind::Ruled(sign) => {
+                let held = self.column(row);
                 self.give_repeated(pieces, row, held, sign_byte(sign), held.rule_width());
             }
             EntryKind::Short => {
+                let held = self.column(row);
                 let count = held.column.needs.widest_entry();
                 self.give_repeated(pieces, row, held, sign_byte(RuleSign::Single), count);
             }
             EntryKind::Repeated(byte) => {
+                let held = self.column(row);
                 self.give_repeated(pieces, row, held, byte, held.column.width);
             }
         }
     }
 
-    /// A text.
-    fn give_text(
-        &mut self,
-        pieces: &mut PieceQueue,
-        row: &RowLent<'_>,
-        held: RowColumn,
-        glyphs: u32,
-        width: u32,
-    )
+    /// Nothing of a column's field stands on the line.
+    fn pass_empty(&mut self, row: &RowLent<'_>)
         requires next { self.old.next ≡ Next.AtCell }
-        requires at { AtColumn (lent_row row.now) self.old held }
-        requires kind { held.entry.kind ≡ Text glyphs width }
-        requires line { self.old.line ≡ 0 }
-        requires some { held.entry.from ≢ held.entry.to }
+        requires line { InLine (lent_row row.now) self.old }
+        requires left { length self.old.behind < length row.now.entries.now }
+        requires empty { (held : RowColumn) → AtColumn (lent_row row.now) self.old held
+            → IsEmptyOn row.now.bytes.now self.old.line held }
+        ensures { (frame : List ℕ) (pieces : KeptPieces)
+            → RowSteps frame (lent_row row.now) self.old self.new pieces pieces }
+    {
+        let place = self.places[self.behind.len()];
+        self.pass(row, place, self.place, self.width);
+    }
+
+    /// A text.
+    fn give_text(&mut self, pieces: &mut PieceQueue, row: &RowLent<'_>, glyphs: u32, width: u32)
+        requires next { self.old.next ≡ Next.AtCell }
+        requires line { InLine (lent_row row.now) self.old }
+        requires left { length self.old.behind < length row.now.entries.now }
+        requires kind { (held : RowColumn) → AtColumn (lent_row row.now) self.old held
+            → held.entry.kind ≡ Text glyphs width }
         requires room { pieces.old.taken + 4 ≤ pieces.old.room }
         ensures { (frame : List ℕ)
             → RowSteps frame (lent_row row.now) self.old self.new pieces.old pieces.new }
     {
+        let held = self.column(row);
+        if self.line != 0 || held.entry.from == held.entry.to {
+            return self.pass_empty(row);
+        }
         let at = held.begins_at();
         let to = end_given(self.count, glyphs, held.entry.to);
         give(pieces, self.count, Piece::Blanks(self.gap_to(at)));
@@ -170,21 +171,20 @@ impl Walk {
     }
 
     /// A number that is split.
-    fn give_split(
-        &mut self,
-        pieces: &mut PieceQueue,
-        row: &RowLent<'_>,
-        held: RowColumn,
-        split: SplitEntry,
-    )
+    fn give_split(&mut self, pieces: &mut PieceQueue, row: &RowLent<'_>, split: SplitEntry)
         requires next { self.old.next ≡ Next.AtCell }
-        requires at { AtColumn (lent_row row.now) self.old held }
-        requires kind { held.entry.kind ≡ Split split }
-        requires line { self.old.line ≡ 0 }
+        requires line { InLine (lent_row row.now) self.old }
+        requires left { length self.old.behind < length row.now.entries.now }
+        requires kind { (held : RowColumn) → AtColumn (lent_row row.now) self.old held
+            → held.entry.kind ≡ Split split }
         requires room { pieces.old.taken + 4 ≤ pieces.old.room }
         ensures { (frame : List ℕ)
             → RowSteps frame (lent_row row.now) self.old self.new pieces.old pieces.new }
     {
+        if self.line != 0 {
+            return self.pass_empty(row);
+        }
+        let held = self.column(row);
         let at = held.begins_at();
         let to = end_given(self.count, split.glyphs, held.entry.to);
         give(pieces, self.count, Piece::Blanks(self.gap_to(at)));
@@ -232,16 +232,18 @@ impl Walk {
         pieces: &mut PieceQueue,
         escapes: &mut OpenEscapes,
         row: &RowLent<'_>,
-        held: RowColumn,
     )
         requires next { self.old.next ≡ Next.AtCell }
-        requires at { AtColumn (lent_row row.now) self.old held }
-        requires kind { IsBlock held.entry.kind }
+        requires line { InLine (lent_row row.now) self.old }
+        requires left { length self.old.behind < length row.now.entries.now }
+        requires kind { (held : RowColumn) → AtColumn (lent_row row.now) self.old held
+            → IsBlock held.entry.kind }
         requires room { pieces.old.taken + 4 ≤ pieces.old.room }
         ensures steps { (frame : List ℕ)
             → RowSteps frame (lent_row row.now) self.old self.new pieces.old pieces.new }
         ensures escapes { escapes.new.room ≡ escapes.old.room }
     {
+        let held = self.column(row);
         let block = block_bytes(row.bytes, held.entry);
         match next_part(escapes, block, held.place) {
             Some((BlockPart::Word(word), behind)) => {

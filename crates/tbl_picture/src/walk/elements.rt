@@ -167,7 +167,7 @@ impl Walk {
                     entries,
                     height,
                 };
-                let has_ended = self.step_in_row(pieces, escapes, &row);
+                let has_ended = self.steps_in_row(pieces, escapes, &row);
                 self.go_on(has_ended);
                 true
             }

@@ -46,7 +46,7 @@ pub(super) fn count_given(
     }
 }
 
-/// How many of them are given where the picture may have bars, each of which has a glyph.
+/// The same, where the picture may have bars.
 fn count_to_mark(
     escapes: &mut OpenEscapes,
     row: &RowLent<'_>,

@@ -32,8 +32,7 @@ returns-clause-at c =
     let any = any-some row.bars row.width format row.columns.now row.entries.now at c.requires.within in
     let same : suc n ≡ at = omega (arith, c.if-at-eq0.false) in
     let joined = joined_first (drop n row.entries.now) in
-    let one : Option RuleSign → ℕ → ℕ → Cell = λ j b k. bars_by j b (get_or row.columns.now n no_column)
-    (get_or row.columns.now k no_column) in
+    let one : Option RuleSign → ℕ → ℕ → Cell = λ j b k. bars_by j b (get_or row.columns.now n no_column) (get_or row.columns.now k no_column) in
     let found = c.between.ensures.cell
     ∙ ap (λ (j : Option RuleSign). one j c.bars_between-bars.result at) c.joined_at.ensures
     ∙ ap (λ (b : ℕ). one joined b at) c.bars_between-bars.ensures in

@@ -24,13 +24,11 @@ returns c =
     let places = c.args.places.now in
     let no_column : Column = record { needs = record { alone = 0; strip = 0; left = 0; right = 0; split = 0 }; measure = 0; width = 0; start = 0 } in
     let no_entry : Entry = record { from = 0; to = 0; kind = Text 0 0 } in
-    let key : key_of (lent_format row).keys (0 + at) ≡ c.key_at.result = ap (key_of (lent_format row).keys)
-    (let same : 0 + at ≡ at = omega arith in same) ∙ sym (c.key_at.ensures 0) in
+    let key : key_of (lent_format row).keys (0 + at) ≡ c.key_at.result = ap (key_of (lent_format row).keys) (let same : 0 + at ≡ at = omega arith in same) ∙ sym (c.key_at.ensures 0) in
     let kind = (get_or row.entries.now at no_entry).kind in
     let column = get_or row.columns.now at no_column in
     let ends : ℕ → ℕ = λ i.
-    end_by (bars_between row.bars.boxing (lent_format row) (suc i)) kind column (drop (suc at) row.columns.now)
-    (drop (suc at) row.entries.now) in
+    end_by (bars_between row.bars.boxing (lent_format row) (suc i)) kind column (drop (suc at) row.columns.now) (drop (suc at) row.entries.now) in
     let end : ends (0 + at) ≡ c.end_at.result = ap ends (let same : 0 + at ≡ at = omega arith in same) ∙ sym c.end_at.ensures in
     let with : Key → ℕ → RowColumn = λ k n. record {
       column = get_or row.columns.now at no_column;

@@ -37,8 +37,7 @@ has_glyph-requires-clause-lies c =
     let places = c.args.places.now in
     let n = c.loop-count.count - 1 in
     let all = row_columns row.bars.boxing (lent_format row) 0 row.columns.now row.entries.now places in
-    (column-lies row.bytes.now row.bars.boxing (lent_format row) 0 n row.columns.now row.entries.now places c.column_at-column.result
-    (drop (suc n) all)
+    (column-lies row.bytes.now row.bars.boxing (lent_format row) 0 n row.columns.now row.entries.now places c.column_at-column.result (drop (suc n) all)
     c.column_at-column.ensures c.requires.lie c.requires.narrow c.requires.places).lies
 
 pub has_glyph-requires-clause-within : goal.has_glyph-requires-clause-within
@@ -47,8 +46,7 @@ has_glyph-requires-clause-within c =
     let places = c.args.places.now in
     let n = c.loop-count.count - 1 in
     let all = row_columns row.bars.boxing (lent_format row) 0 row.columns.now row.entries.now places in
-    (column-lies row.bytes.now row.bars.boxing (lent_format row) 0 n row.columns.now row.entries.now places c.column_at-column.result
-    (drop (suc n) all)
+    (column-lies row.bytes.now row.bars.boxing (lent_format row) 0 n row.columns.now row.entries.now places c.column_at-column.result (drop (suc n) all)
     c.column_at-column.ensures c.requires.lie c.requires.narrow c.requires.places).within
 
 pub returns-then-has_glyph-clause-last : goal.returns-then-has_glyph-clause-last
@@ -80,5 +78,4 @@ loop-count-preserved c =
 pub returns-clause-last : goal.returns-clause-last
 returns-clause-last c =
     let row = c.args.row.now in
-    last-none (map (cell_left row.bytes.now c.args.line) (row_columns row.bars.boxing
-    (lent_format row) 0 row.columns.now row.entries.now c.args.places.now))
+    last-none (map (cell_left row.bytes.now c.args.line) (row_columns row.bars.boxing (lent_format row) 0 row.columns.now row.entries.now c.args.places.now))

@@ -30,6 +30,5 @@ returns-then-next-row c =
 pub returns-else-next-row : goal.returns-else-next-row
 returns-else-next-row c =
     let row = c.args.row.now in
-    sym (rule_end-last (bars_between row.bars.boxing (lent_format row) (suc c.args.at)) c.args.sign c.args.column
-    (drop (suc c.args.at) row.columns.now) (drop (suc c.args.at) row.entries.now)
+    sym (rule_end-last (bars_between row.bars.boxing (lent_format row) (suc c.args.at)) c.args.sign c.args.column (drop (suc c.args.at) row.columns.now) (drop (suc c.args.at) row.entries.now)
     (drop_all (suc c.args.at) row.entries.now (omega (arith, c.if-next-row.false))))

@@ -15,10 +15,10 @@ pub returns-in-Some-Word-default-clause-steps : goal.returns-in-Some-Word-defaul
 returns-in-Some-Word-default-clause-steps c = λ frame.
     let arm = c.in-Some-Word-default in
     let row = lent_row c.args.row.now in
-    let r = c.args.held in
+    let r = c.column-held.result in
     let w = kept_by c.self.inside in
     let view = c.self.view_is in
-    let at : AtColumn row w r = subst (λ (k : KeptWalk). AtColumn row k r) (sym view) c.requires.at in
+    let at : AtColumn row w r = subst (λ (k : KeptWalk). AtColumn row k r) (sym view) c.column-held.ensures in
     let next = ap (λ (k : KeptWalk). k.next) view ∙ c.requires.next in
     let block = c.block_bytes-block.result.now in
     let value = c.block_bytes-block.ensures.value in
@@ -35,7 +35,7 @@ returns-in-Some-Word-default-clause-steps c = λ frame.
     (adds-more row.bytes frame 1 1 before between after first second
     (c.give.ensures.adds row.bytes frame (length-replicate gap blank))
     (c.give-in-Some-Word-default.ensures.adds row.bytes frame (length-replicate lead blank))) in
-    let steps = begun-steps row w r at c.requires.kind frame before after arm.word arm.behind gap lead c.begun_width.result next
+    let steps = begun-steps row w r at (c.requires.kind r c.column-held.ensures) frame before after arm.word arm.behind gap lead c.begun_width.result next
     (subst (λ (b : List ℕ). parts_at b r.place ≡ OneWord (word_at b arm.word) ∷ parts_at b arm.behind) value parts)
     (subst (λ (b : List ℕ). LiesBehind b 0 arm.word) value (subst (PartLies block) arm.field-0-0-is arm.ensures.on.lies))
     (subst (λ (b : List ℕ). IsWithin b arm.behind) value arm.ensures.on.within)
@@ -47,27 +47,25 @@ pub returns-in-Some-EmptyLine-default-clause-steps : goal.returns-in-Some-EmptyL
 returns-in-Some-EmptyLine-default-clause-steps c = λ frame.
     let arm = c.in-Some-EmptyLine-default in
     let row = lent_row c.args.row.now in
-    let r = c.args.held in
+    let r = c.column-held.result in
     let w = c.args.self.now in
     let pieces = c.args.pieces.now in
     let block = c.block_bytes-block.result.now in
     let value = c.block_bytes-block.ensures.value in
     let parts = arm.ensures.parts ∙ ap (λ (part : BlockPart). part_at block part ∷ parts_at block arm.behind) arm.field-0-0-is in
-    let steps = empty-steps row w r c.requires.at c.requires.kind frame pieces arm.behind c.requires.next
+    let steps = empty-steps row w r c.column-held.ensures (c.requires.kind r c.column-held.ensures) frame pieces arm.behind c.requires.next
     (subst (λ (b : List ℕ). parts_at b r.place ≡ EmptyLine ∷ parts_at b arm.behind) value parts)
     (subst (λ (b : List ℕ). IsWithin b arm.behind) value arm.ensures.on.within) in
     subst (λ (k : KeptWalk). RowSteps frame row w k pieces pieces) (sym c.pass-in-Some-EmptyLine-default.ensures)
-    (subst (λ (n : ℕ). RowSteps frame row w (passed row.bars.has_any arm.behind n w) pieces pieces)
-    (sym (ap (λ (k : KeptWalk). k.place) c.pass.view_is)) steps)
+    (subst (λ (n : ℕ). RowSteps frame row w (passed row.bars.has_any arm.behind n w) pieces pieces) (sym (ap (λ (k : KeptWalk). k.place) c.pass.view_is)) steps)
 
 pub returns-in-None-clause-steps : goal.returns-in-None-clause-steps
 returns-in-None-clause-steps c = λ frame.
     let row = lent_row c.args.row.now in
-    let r = c.args.held in
+    let r = c.column-held.result in
     let w = c.args.self.now in
     let pieces = c.args.pieces.now in
-    let steps = ended-steps row w r c.requires.at c.requires.kind frame pieces c.requires.next
+    let steps = ended-steps row w r c.column-held.ensures (c.requires.kind r c.column-held.ensures) frame pieces c.requires.next
     (subst (λ (b : List ℕ). parts_at b r.place ≡ []) c.block_bytes-block.ensures.value c.in-None.ensures.parts) in
     subst (λ (k : KeptWalk). RowSteps frame row w k pieces pieces) (sym c.pass-in-None-2.ensures)
-    (subst (λ (n : ℕ). RowSteps frame row w (passed row.bars.has_any AtEnd n w) pieces pieces)
-    (sym (ap (λ (k : KeptWalk). k.place) c.pass-in-None.view_is)) steps)
+    (subst (λ (n : ℕ). RowSteps frame row w (passed row.bars.has_any AtEnd n w) pieces pieces) (sym (ap (λ (k : KeptWalk). k.place) c.pass-in-None.view_is)) steps)

@@ -27,5 +27,4 @@ returns-clause-steps c = λ frame.
     let new : Next → List BlockPlace → KeptWalk = λ next behind. record w { count = count; place = 0; next = next; behind = behind } in
     subst (λ (k : KeptWalk). RowSteps frame row k (new c.next_column-self-inside.result c.clear.new.self.items) before after) view
     (subst (λ (next : Next). RowSteps frame row w (new next c.clear.new.self.items) before after) (sym c.next_column-self-inside.ensures)
-    (subst (λ (behind : List BlockPlace). RowSteps frame row w (new (next_column row.bars.has_any 0) behind) before after)
-    (sym c.clear.ensures.items) steps))
+    (subst (λ (behind : List BlockPlace). RowSteps frame row w (new (next_column row.bars.has_any 0) behind) before after) (sym c.clear.ensures.items) steps))

@@ -36,11 +36,9 @@ returns c = λ frame.
     let rule = if_given w.count (replicate rest (sign_byte sign)) in
     let drawn = subst (λ (b : ℕ). Adds row.bytes frame 1 third after (if_given w.count (replicate rest b))) c.sign_byte.ensures
     (c.give-3.ensures.adds row.bytes frame (length-replicate rest c.sign_byte.result)) in
-    let parts = adds-more row.bytes frame 1 1 second third after cross rule
-    (c.give-2.ensures.adds row.bytes frame (length-replicate n crossing)) drawn in
+    let parts = adds-more row.bytes frame 1 1 second third after cross rule (c.give-2.ensures.adds row.bytes frame (length-replicate n crossing)) drawn in
     let all = adds-fewer row.bytes frame (1 + (1 + 1)) 4 before after (blanks ++ (cross ++ rule)) (omega arith)
     (adds-more row.bytes frame 1 (1 + 1) before second after blanks (cross ++ rule) (c.give.ensures.adds row.bytes frame (length-replicate gap blank)) parts) in
-    let steps = crossing-steps row w at next frame n before after place end gap rest
-    (place + (n + rest)) sign c.requires.some stands line gap_is rest_is refl all in
+    let steps = crossing-steps row w at next frame n before after place end gap rest (place + (n + rest)) sign c.requires.some stands line gap_is rest_is refl all in
     subst (λ (k : KeptWalk). RowSteps frame row c.args.self.now k before after) (sym c.pass_front.ensures)
     (subst (λ (k : KeptWalk). RowSteps frame row k (front_passed row at (place + (n + rest)) k) before after) view steps)

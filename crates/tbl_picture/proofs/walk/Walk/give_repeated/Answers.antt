@@ -24,8 +24,7 @@ returns-then-self-ne0 c = λ frame.
     (repeated-late row.bytes r c.args.byte c.args.count c.requires.repeats w.line (subst (λ (n : ℕ). n ≢ 0) line_is c.if-self-ne0.true))
     (repeated-moved row.bytes r c.args.byte c.args.count c.requires.repeats w.line) c.requires.at.within in
     subst (λ (k : KeptWalk). RowSteps frame row w k pieces pieces) (sym c.pass-then-self-ne0.ensures)
-    (subst (λ (n : ℕ). RowSteps frame row w (passed row.bars.has_any r.place n w) pieces pieces)
-    (sym (ap (λ (k : KeptWalk). k.place) c.pass.view_is)) steps)
+    (subst (λ (n : ℕ). RowSteps frame row w (passed row.bars.has_any r.place n w) pieces pieces) (sym (ap (λ (k : KeptWalk). k.place) c.pass.view_is)) steps)
 
 pub returns : goal.returns
 returns c = λ frame.

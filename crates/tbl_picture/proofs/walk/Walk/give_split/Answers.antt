@@ -1,4 +1,4 @@
-use Rattle.std.proofs.Common.{◌≡◌, ℕ, ◌+◌, ◌-◌, ◌≤◌, List, ◌++◌, length, min, replicate, sym, ap, subst, ◌∙◌, arith}
+use Rattle.std.proofs.Common.{◌≡◌, ◌≢◌, ℕ, ◌+◌, ◌-◌, ◌≤◌, List, ◌++◌, length, min, replicate, sym, ap, subst, ◌∙◌, arith}
 use Rattle.std.specs.List.{slice_range}
 use Rattle.std.proofs.lemmas.List.{length-replicate}
 use Rattle.roff_source.specs.Bytes.{blank}
@@ -7,7 +7,7 @@ use Rattle.tbl_picture.specs.RowsLeft.{begins_at, if_given, split_run}
 use Rattle.tbl_picture.specs.Walks.{AtColumn, KeptWalk, RowSteps, kept_by, lent_row, passed}
 use Rattle.tbl_picture.proofs.Adding.{adds-fewer, adds-more}
 use Rattle.tbl_picture.proofs.CellSteps.{end-within, run-steps}
-use Rattle.tbl_picture.proofs.CellsGiven.{split-first, split-last, split-moved}
+use Rattle.tbl_picture.proofs.CellsGiven.{split-first, split-last, split-late, split-moved}
 use Rattle.tbl_picture.proofs.walk.Walk.give_split.Goals as goal
 use Rattle.tbl_text.proofs.BlockSlices.{length-slice_range}
 
@@ -16,10 +16,10 @@ returns c = λ frame.
     let row = lent_row c.args.row.now in
     let bytes = row.bytes in
     let w = kept_by c.self.inside in
-    let r = c.args.held in
+    let r = c.column-held.result in
     let s = c.args.split in
     let view = c.self.view_is in
-    let at : AtColumn row w r = subst (λ (k : KeptWalk). AtColumn row k r) (sym view) c.requires.at in
+    let at : AtColumn row w r = subst (λ (k : KeptWalk). AtColumn row k r) (sym view) c.column-held.ensures in
     let gap = c.gap_to.result in
     let gap_now : gap ≡ c.begins_at-at.result - w.place = c.gap_to.ensures ∙ ap (λ (k : KeptWalk). c.begins_at-at.result - k.place) (sym view) in
     let to = c.end_given-to.result in
@@ -44,12 +44,23 @@ returns c = λ frame.
     ap (λ (n : ℕ). if_given w.count (slice_range bytes r.entry.from n) ++ back) c.min.ensures
     ∙ ap (λ (n : ℕ). if_given w.count (slice_range bytes r.entry.from (min s.end n)) ++ if_given w.count (slice_range bytes s.behind n)) c.end_given-to.ensures
     ∙ sym (split-last bytes r w.count s) in
-    let line : w.line ≡ 0 = ap (λ (k : KeptWalk). k.line) view ∙ c.requires.line in
+    let kind = c.requires.kind r c.column-held.ensures in
     let next = ap (λ (k : KeptWalk). k.next) view ∙ c.requires.next in
     let steps = run-steps row w r at next frame before after (split_run bytes r.entry s) gap reached
-    (split-first bytes r w.line s c.requires.kind line)
-    (split-moved bytes r w.line s c.requires.kind)
+    (split-first bytes r w.line s kind c.if-self-ne0.false)
+    (split-moved bytes r w.line s kind)
     gap_is (ap (λ (n : ℕ). n + s.width) c.begins_at-at.ensures.value)
     (subst (λ (more : List ℕ). Adds bytes frame 4 before after (blanks ++ more)) last all) in
     subst (λ (k : KeptWalk). RowSteps frame row c.args.self.now k before after) (sym c.pass.ensures)
     (subst (λ (k : KeptWalk). RowSteps frame row k (passed row.bars.has_any r.place reached k) before after) view steps)
+
+pub pass_empty-requires-clause-empty : goal.pass_empty-requires-clause-empty
+pass_empty-requires-clause-empty c = λ held at.
+    let bytes = c.args.row.now.bytes.now in
+    let w = c.args.self.now in
+    let kind = c.requires.kind held at in
+    let line_is : c.self.inside.line ≡ w.line = ap (λ (k : KeptWalk). k.line) c.self.view_is in
+    record {
+      none = split-late bytes held w.line c.args.split kind (subst (λ (n : ℕ). n ≢ 0) line_is c.if-self-ne0.true);
+      moved = split-moved bytes held w.line c.args.split kind;
+    }

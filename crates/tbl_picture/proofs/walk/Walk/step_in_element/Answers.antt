@@ -7,7 +7,7 @@ use Rattle.tbl_layout.specs.declared.bars.Bars.{Bars}
 use Rattle.tbl_layout.specs.declared.columns.Column.{Column}
 use Rattle.tbl_picture.specs.ElementsWalked.{IsInRow, Steps}
 use Rattle.tbl_picture.specs.Walks.{KeptWalk, RowEndsOrGoesOn, WalkedRow}
-use Rattle.tbl_picture.proofs.RowSteps.{does-element, row-by, within-drop}
+use Rattle.tbl_picture.proofs.RowSteps.{does-stay, row-by, within-drop}
 use Rattle.tbl_picture.proofs.walk.Walk.step_in_element.Goals as goal
 
 pub returns-in-Row-clause-step : goal.returns-in-Row-clause-step
@@ -18,13 +18,13 @@ returns-in-Row-clause-step c = λ frame within.
     let w = c.args.self.now in
     let a = c.self.inside in
     let view = c.self.view_is in
-    let mid = c.step_in_row-has_ended.new.self in
-    let t = c.step_in_row-has_ended.result in
+    let mid = c.steps_in_row-has_ended.new.self in
+    let t = c.steps_in_row-has_ended.result in
     let keys = c.in-Row.keys in
     let height = c.in-Row.height in
     let entries = c.in-Row.entries.now in
     let before = c.args.pieces.now in
-    let after = c.step_in_row-has_ended.new.pieces in
+    let after = c.steps_in_row-has_ended.new.pieces in
     let elements = drop (suc w.element) rows.elements in
     let at = subst (λ (k : KeptWalk). drop k.element rows.elements ≡ Row keys height entries ∷ drop (suc k.element) rows.elements) view c.in-Row.ensures in
     let format = row_at formats keys in
@@ -35,7 +35,7 @@ returns-in-Row-clause-step c = λ frame within.
     (subst (λ (cs : List Column). RowEndsOrGoesOn t frame (row a.bars a.picture_width format cs) w mid before after) c.columns.ensures
     (subst (λ (n : ℕ). RowEndsOrGoesOn t frame (lent format.keys n) w mid before after) c.bars_of_all.ensures
     (subst (λ (ks : List FormatKey). RowEndsOrGoesOn t frame (lent ks c.bars_of_all.result) w mid before after) c.row_of_all.ensures
-    (c.step_in_row-has_ended.ensures.steps frame)))) in
+    (c.steps_in_row-has_ended.ensures.steps frame)))) in
     let under = subst (IsInRow bytes formats rows w) at c.requires.row in
     subst (λ (k : KeptWalk). Steps bytes frame formats rows w k before after) (sym c.go_on.ensures)
     (row-by bytes frame formats rows w c.requires.can before after within keys height entries elements at t mid under does)
@@ -55,8 +55,8 @@ go_on-requires c = λ _.
     } in
     omega (
       arith,
-      does-element c.step_in_row-has_ended.result [] row c.args.self.now c.step_in_row-has_ended.new.self c.args.pieces.now c.step_in_row-has_ended.new.pieces
-          (c.step_in_row-has_ended.ensures.steps []),
+      (does-stay c.steps_in_row-has_ended.result [] row c.args.self.now c.steps_in_row-has_ended.new.self c.args.pieces.now c.steps_in_row-has_ended.new.pieces
+          (c.steps_in_row-has_ended.ensures.steps [])).element,
       ap (λ (k : KeptWalk). k.element) c.self.view_is,
       within-drop a.element rows.elements (Row c.in-Row.keys c.in-Row.height c.in-Row.entries.now) (drop (suc a.element) rows.elements) c.in-Row.ensures,
       c.count.ensures,
