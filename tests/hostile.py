@@ -13,9 +13,10 @@ be. A long document may take no more than its share beside one of a quarter of i
 named for it, or by none, and some must begin as they are said to. Documents whose lines or spaces go far are formatted
 once: of their output, which is up to 200 megabytes, the beginning and the length are compared, and the line on which a
 limit stops them. Short documents that tell hundreds of megabytes are stopped by a limit on messages, and at once where that
-is small. Tables of rules and bars are given room for four times as many, which may take 4.5 times as long. GNU time measures the
-memory. Four kinds are run at a time, and each is told as it ends, with the seconds that it took; what is wrong is told again
-behind them all. On four quiet cores it takes less than five minutes. The exit status is 1 if something is wrong.
+is small. Tables of rules, bars and rule keys are given room for four times as many, which may take 4.5 times as long. GNU
+time measures the memory. Four kinds are run at a time, and each is told as it ends, with the seconds that it took; what is
+wrong is told again behind them all. On four quiet cores it takes less than five minutes. The exit status is 1 if something
+is wrong.
 """
 import concurrent.futures
 import os
@@ -629,6 +630,13 @@ TABLES = {
     "further_formats": (b".TS\nl.\n", b".T&\nl.\na\n", b".TE\n", 9 * 4_999, (), None, PICTURE + 9 * b"\\&a\n"),
     "further_formats_without_rows": (b".TS\nl.\n", b".T&\nl\nr.\n", b"a\n.TE\n", 260_000, (), None, OF_ONE_CELL),
     "commands": (b".TS\nl.\n", b".x\n", b".TE\n", 3 * 4_999, (), None, PICTURE + 9 * b".x\n"),
+    "rule_rows_of_a_format": (b".TS\n", b"_\n", b"l.\na\n.TE\n", 262_000, (), None, PICTURE + 9 * b"\\&-\n"),
+    "rule_rows_of_a_format_without_rows": (b".TS\n", b"_\n", b"l.\n.TE\n", 262_000, (), None, PICTURE + b".if"),
+    "rule_rows_behind_commas": (b".TS\n;", b"_|=,", b"l.\na\n.TE\n", 262_000, (), None, PICTURE + 9 * b"\\&---=\n"),
+    "rule_keys_and_rows_without_bytes": (b".TS\n" + 40 * b"_|" + b".\n", b"\n", b".TE\n", 88 + 4_999, (), None, PICTURE + b"\\&" + 9 * b"-+-"),
+    "rule_key_and_a_field": (b".TS\n_.\n", rb"\nx", b"\n.TE\n", 250_000, (), None, PICTURE + b"\\&\n.if"),
+    "rule_key_and_a_block": (b".TS\n_ l.\nT{\n", rb"\w'a" + b"\n", b"T}\ta\n.TE\n", 250_000, (), None, PICTURE + b"\\&   a\n"),
+    "rule_key_and_blocks": (b".TS\n_ l.\n", b"T{\nb\nT}\ta\n", b".TE\n", 10 * 4_990, (), None, PICTURE + 9 * b"\\&   a\n"),
     "rest_of_an_end": (b".TS\nl.\na\n.TE ", b".TS ", b"\n", 10 * MEGABYTE, (), None, OF_ONE_CELL[:-1] + b" .TS .TS"),
 }
 # Tables that tell much: what stands in front, what is repeated, what stands behind, how often, whether each repetition ends
@@ -639,6 +647,7 @@ TOLD_IN_ORDER = {
     "notes_of_joined_lines": (b".TS\nl.\n", b"\\c\\\n", b"\n.TE\n", NOTES, True, rb"not measured: \c"),
     "notes_of_a_format": (b".TS\nl", b"x ", b".\na\n.TE\n", NOTES, False, b"left out: x"),
     "notes_of_a_block": (b".TS\nl.\nT{\n", b".x\n", b"T}\n.TE\n", NOTES, True, b"request in text block"),
+    "notes_of_a_block_under_a_rule_key": (b".TS\n_ l.\nT{\n", b".x\n", b"\\c\nT}\n.TE\n", NOTES, True, b"request in text block"),
     "notes_of_a_block_of_joined_lines": (b".TS\nl.\nT{\n", b"\\c\\\n", b"\nT}\n.TE\n", NOTES, True, rb"not measured: \c"),
     "notes_of_options": (b".TS\n", b"abc ", b";l.\na\n.TE\n", NOTES, False, b"option ignored: abc"),
 }
@@ -646,11 +655,47 @@ TOLD_IN_ORDER = {
 # behind, and how often. The two are formatted in turns, so often at least, and on until the quickest of both are as wanted.
 WIDEST = 4_096
 FILLING = b".TS\nbox;\nl.\n%s\n"
+# Rows of rule keys of up to 40 columns: of each length, each a key longer or shorter than the one before; without bars, and with
+# two behind each key. What stands behind them has bars at each boundary, or none.
+LENGTHS = [7 * number % 41 for number in range(1, 41)]
+RISING_AND_FALLING = [*range(1, 41), *range(39, 1, -1)]
+BELOW, BELOW_AND_BARRED = 40 * b"l" + b".\na\n.TE\n", b"||" + 40 * b"l||" + b".\na\n.TE\n"
+
+
+def rule_rows(lengths, key):
+    """Rows of so many of this key each."""
+    return b"".join(length * key + b"\n" for length in lengths)
+
+
 GROWING = {
     "rule_lines": (b".TS\nl l.\na\tb\n", b"_\n", b".TE\n", 5_000),
     "rule_lines_over_bars": (b".TS\ndoublebox;\n" + 39 * b"l||" + b"l.\na\n", b"=\n", b".TE\n", 5_000),
     "rule_lines_with_rows_of_bars_between": (b".TS\n||" + 40 * b"l||" + b".\n", b"_\n" + 39 * b"\t" + b"\n", b".TE\n", 5_000),
     "rule_lines_that_fill_the_width": (FILLING % ((WIDEST - 4) * b"x"), b"_\n", b".TE\n", 1_000),
+    "rule_rows": (b".TS\n", b"_ =\n", b"l l.\na\tb\n.TE\n", 5_000),
+    "rule_rows_over_all_columns": (b".TS\n", rule_rows([40], b"_"), BELOW, 5_000),
+    "rule_rows_and_bars": (b".TS\n", rule_rows([40], b"_||"), BELOW_AND_BARRED, 5_000),
+    "rule_rows_that_take_turns": (b".TS\n", rule_rows([20], b"_|="), BELOW_AND_BARRED, 5_000),
+    "rule_rows_of_each_length": (b".TS\n", rule_rows(LENGTHS, b"_"), BELOW, 125),
+    "rule_rows_of_each_length_and_bars": (b".TS\n", rule_rows(LENGTHS, b"_||"), BELOW_AND_BARRED, 125),
+    "rule_rows_of_each_length_below_bars": (
+        b".TS\n" + 40 * b"l||" + b"\n", rule_rows(LENGTHS, b"="), b"l.\na\n" + b"b\n.TE\n", 125),
+    "rule_rows_that_rise_and_fall": (b".TS\n", rule_rows(RISING_AND_FALLING, b"_"), BELOW, 64),
+    "rule_rows_that_rise_and_fall_over_bars": (b".TS\n", rule_rows(RISING_AND_FALLING, b"_"), BELOW_AND_BARRED, 64),
+    "rule_rows_that_rise_and_fall_with_bars": (b".TS\n", rule_rows(RISING_AND_FALLING, b"-||"), BELOW_AND_BARRED, 64),
+    "rule_rows_in_an_allbox": (b".TS\nallbox;\n", b"_\n", BELOW, 5_000),
+    "rule_rows_that_let_bars_through": (b".TS\n" + 40 * b"l||" + b"\n", b"_\n", 40 * b"l||" + b".\na\nb\n.TE\n", 5_000),
+    "rule_rows_over_bars": (b".TS\n", b"_\n", BELOW_AND_BARRED, 5_000),
+    "rule_rows_before_each_row": (b".TS\n" + 40 * b"l|" + b".\na\n", b".T&\n_\n==\n" + 40 * b"l|" + b".\na\n", b".TE\n", 5_000),
+    "rule_rows_before_no_row": (b".TS\n", rule_rows(LENGTHS, b"_||"), b"l.\n.TE\n", 125),
+    "rule_rows_that_fill_the_width": (b".TS\n", b"_ =\n", b"l%d l.\na\tb\n.TE\n" % (WIDEST - 2), 1_000),
+    "rule_keys": (b".TS\n" + 10 * b"l_=-" + b".\n", 39 * b"\t" + b"\n", b".TE\n", 5_000),
+    "rule_keys_and_bars": (b".TS\n" + 10 * b"l|_||=|-" + b".\n", 39 * b"a\t" + b"a\n", b".TE\n", 2_500),
+    "rule_keys_of_short_rows": (b".TS\n" + 40 * b"_" + b".\n", b"a\n", b".TE\n", 5_000),
+    "rule_keys_of_short_rows_and_bars": (b".TS\n" + 40 * b"_||" + b".\n", b"a\n", b".TE\n", 5_000),
+    "rule_keys_of_rows_that_serve_no_row": (b".TS\n", 10 * b"l_=-" + b"\n", b"l.\na\n.TE\n", 5_000),
+    "rule_keys_of_rows_of_the_format": (
+        b".TS\n", b"".join(b"l" + length * b"_" + b"\n" for length in LENGTHS if length < 40), BELOW, 125),
     "rules_of_fields": (b".TS\n" + 40 * b"l" + b".\n", 39 * b"_\t" + b"_\n", b".TE\n", 2_500),
     "rules_of_fields_that_take_turns": (b".TS\n" + 40 * b"l|" + b".\n", 19 * b"_\t=\t" + b"_\t\\_\n", b".TE\n", 2_500),
 }
@@ -668,6 +713,11 @@ FILLED = {
         b".TS\n||" + 40 * b"l||" + b".\n%s\n_\n.TE\n" % ((WIDEST - 5 - 39 * 4) * b"x")),
     "width_filled_by_a_separation": (
         b".TS\n|l%d|l|.\na\tb\n_\n.TE\n" % (WIDEST - 6), b".TS\n|l%d|l|.\na\tb\n_\n.TE\n" % (WIDEST - 5)),
+    "width_filled_by_a_rule_row": (
+        b".TS\n_ =\nl%d l.\na\tb\n.TE\n" % (WIDEST - 2), b".TS\n_ =\nl%d l.\na\tb\n.TE\n" % (WIDEST - 1)),
+    "width_filled_by_rule_keys": (
+        b".TS\n||" + 39 * b"_||" + b"_w(%d)||.\na\n.TE\n" % (WIDEST - 6 - 39 * 4),
+        b".TS\n||" + 39 * b"_||" + b"_w(%d)||.\na\n.TE\n" % (WIDEST - 5 - 39 * 4)),
     "width_filled_by_expand": (b".TS\nexpand allbox;\nl l.\na\tb\n.TE\n", b".TS\nexpand allbox;\nlw(4090) l.\na\tb\n.TE\n"),
 }
 
@@ -675,6 +725,7 @@ FILLED = {
 FAR_TABLES = {
     "columns_far_apart": (b".TS\nl40000000 l.\na\tb\n.TE\n", {"tbl": None, "both": "line"}),
     "bars_far_apart": (b".TS\nl40000000 | l.\na\tb\n.TE\n", {"tbl": None, "both": "line"}),
+    "rule_rows_far": (b".TS\n" + 100_000 * b"_\n" + b"lw(4000).\na\n.TE\n", {"tbl": "output", "both": "bytes"}),
     "columns_farthest_apart": (b".TS\nl999999990 l.\na\tb\n.TE\n", {"tbl": "output", "both": "bytes"}),
 }
 FAR_OPTIONS = ("--width=1000000000", "--output=50000000")
@@ -907,6 +958,7 @@ PIECES_OF_TABLES = (
     + [b"T{\n", b"\nT}", b"\n.T&\n", b"\\\n", b"\\\\\n", b"\n.TE", b"\n.TS x\n", b"\n.TEx\n", b"a", b"words", b" "]
     + [b"\n.TS\ntab(:);\nlw(5) n a.\n", b"T{\na b c\nT}", b":T{\n", b"\n.T&\nn a\nc.\n", b"expand ", b"w(3)", b"e", b"x", b"1.5", b"\\&"]
     + [rb"\fB", rb"\(em", rb"\nx", rb"\w'", rb"\*(", b"\\", b"'", b"\n.sp\n", b"\n.5\n"]
+    + [b"_", b"=", b"-", b"_ =\n", b"_,", b"\n.TS\n_|=\nl l\n_\n=|-\nl|_.\n", b"\n.T&\n_ _,l _ l.\n"]
 )
 RANDOM_TABLES = {
     "random_bytes_in_a_table": [bytes([value]) for value in range(256)],
@@ -924,6 +976,7 @@ TABLES_AROUND = (
     b".TS%s\nl.\na\n.TE\n.TS\nl.\na\\\n%s\n.TE",
     b".TS\nl%s lw%s lw(%s) lf%s lm%s%s.\na\n.TE\n",
     b".TS\ntab(:);\nl n a.\na%s:1%s5:\\%s(%sx\n\\f%sx:\\w%s\\%sb%s:\\n\\%sx\n.TE\n",
+    b".TS\n_%s|=,l%sl\n%s_\n_%s l.\na%s\n%s\tb\nT{\n%s\nT}\tc%s\n.TE\n",
     b".TS\ntab(:);\nlw(5) l.\nT{\na%sb \\%s c%s\n%s\n%s x\nT}%s:b\n.T&%s\nl.\n.%s\n.TE\n",
 )
 OPTIONS = ((), ("--stack=9", "--depth=2"), ("--line=30", "--bytes=900"), ("--conditions=1", "--environments=2"),

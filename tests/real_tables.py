@@ -8,11 +8,13 @@ taken once. Both programs format it, and groff's `troff` prints what each of the
 program has no message but of what is left out, both must look the same. That isn't asked for where groff means something else:
 with the letter `x`, which widens a column; in a block in a column without `w`, which takes what other texts of the column need;
 under the key `a`, which has a place more; where a table has escapes or characters that only groff has, or characters that are
-two columns wide; and where bars stand at other places. groff makes no separation wider for its bars, puts a bar elsewhere in
-one that isn't 3 columns wide, or draws it twice there, has one bar at an edge for two, and two lines above and below a double
-box. groff's left edge lacks its blank, each edge takes a place less where it centres, its rules over tables without a right
-edge are one column longer, and its double rules are single ones: that is made alike first. How many tables are of which kind,
-and which messages they have, is told too. It wants groff. The exit status is 1 if something differs.
+two columns wide; where bars stand at other places; and where rows of rule keys do. groff makes no separation wider for its
+bars, puts a bar elsewhere in one that isn't 3 columns wide, or draws it twice there, has one bar at an edge for two, and two
+lines above and below a double box. A row of rule keys that is shorter than others takes a row of the data there, one at an edge
+with bars rules the edge too, and a column that has no text has a place. groff's left edge lacks its blank, each edge takes a
+place less where it centres, its rules over tables without a right edge are one column longer, and its double rules are single
+ones: that is made alike first. How many tables are of which kind, and which messages they have, is told too. It wants groff.
+The exit status is 1 if something differs.
 """
 import collections
 import concurrent.futures
@@ -28,7 +30,7 @@ sys.dont_write_bytecode = True
 from table_format import BARS
 from table_items import CHARACTERS
 from table_picture import APART, Picture
-from table_reading import Row, Table
+from table_reading import Row, RuleRow, Table
 
 TOP = pathlib.Path(__file__).resolve().parent.parent
 PROGRAM = TOP / "crates" / "roff" / "out" / "roff"
@@ -123,11 +125,20 @@ def has_other_bars(table):
     return read.frame == BARS or BARS in read.most_bars.values() or not separations <= {APART}
 
 
+def has_other_rules(table):
+    """Whether groff draws rows of rule keys of a table otherwise."""
+    read = read_table(table)
+    picture = Picture(read, LINE)
+    rows = [row for row in read.elements if isinstance(row, RuleRow)]
+    has_edge, has_empty_column = picture.left + picture.right > 0, not all(picture.widths)
+    return bool(rows) and (has_edge or has_empty_column or any(len(row.signs) < read.keys for row in rows))
+
+
 def is_measured_otherwise(table):
     """Whether groff gives a table other widths."""
     read = read_table(table)
     rows = [row for row in read.elements if isinstance(row, Row)]
-    blocks = [column for row in rows for column, cell in enumerate(row.cells) if isinstance(cell, list)]
+    blocks = [column for row in rows for column, cell in enumerate(row.cells) if isinstance(cell, list) and not row.is_ruled(column)]
     has_x = any(what.lower() == b"left out: x" for _, what in read.told)
     return has_x or any(column not in read.least for column in blocks) or any(b"a" in row.keys for row in rows)
 
@@ -144,6 +155,8 @@ def compare(table):
         return messages, "are measured otherwise", None
     if has_other_bars(table):
         return messages, "have bars at other places", None
+    if has_other_rules(table):
+        return messages, "have other rules", None
     theirs = subprocess.run(["tbl"], input=BEFORE + table, capture_output=True).stdout
     ours, theirs = (printed(text).translate(BOX_SIGNS) for text in (BEFORE + done.stdout, theirs))
     ours = "\n".join(as_groff_rules(ours.split("\n"), table))

@@ -7,13 +7,15 @@ SCALES = {"i": (240, 1), "P": (40, 1), "p": (10, 3), "c": (12000, 127), "m": (24
 OPERATORS = ("<=", ">=", "==", "+", "-", "*", "/", "%", "<", ">", "=", "&", ":")
 DEEPEST = 32
 KEYS = b"lrcnas^_-="
+# The keys of rules: a cell under one is as this field.
+RULES = {b"_": b"_", b"-": b"_", b"=": b"="}
 # How many bars stand at a boundary at most.
 BARS = 2
 
 # What isn't laid out yet: it is `bad format` where it stands. What comes to be laid out loses its line, or its place in one.
 NOT_YET = {
     "options": (),
-    "keys": b"s^_-=",
+    "keys": b"s^",
     "letters": b"z",
     "lines": (),
     "fields": ("from above",),
@@ -125,6 +127,10 @@ class FormatRow:
     def bars_here(self):
         """How many bars stand behind its last key so far, or in front of the first one."""
         return self.bars.get(len(self.keys), 0)
+
+    def is_of_rules(self):
+        """Whether all keys that are written are those of rules."""
+        return all(bytes([key]) in RULES for key in self.keys)
 
 
 class Format:

@@ -1,7 +1,8 @@
 """The picture of a table: widths, blocks, lines (part of the model of tests/tables.py)."""
 import table_items
+from table_format import BARS, RULES
 from table_items import BLANK, Item, columns_of
-from table_reading import Row, Rule, kind_of
+from table_reading import Row, Rule, RuleRow, kind_of
 
 APART = 3
 # How many blanks at least stand between columns with so many bars.
@@ -111,6 +112,8 @@ class Picture:
         return [self.entry(column, row.keys[column:column + 1] or b"l", cell) for column, cell in enumerate(cells)]
 
     def entry(self, column, key, cell):
+        if key in RULES:
+            return key, Drawn(RULES[key])
         if isinstance(cell, list):
             measure = self.table.least.get(column)
             return key, Block(cell, max(1, self.length // (self.count + 1)) if measure is None else measure)
@@ -189,15 +192,57 @@ class Picture:
         if self.table.frame:
             sign = b"-" if self.table.frame == 1 else b"="
             found = [Rule(sign), *found, Rule(sign)]
-        for at, line in enumerate(found):
+        # Commands stand between lines, and hide no bar from another line.
+        drawn = [line for line in found if not isinstance(line, bytes)]
+        before, behind = self.bars_before(drawn), self.bars_before(drawn[::-1])[::-1]
+        at = 0
+        for line in found:
             if isinstance(line, bytes):
                 yield line
-            elif isinstance(line, Rule):
-                beside = [[line for line in part if not isinstance(line, bytes)][:1] for part in (found[:at][::-1], found[at + 1:])]
-                shown = set().union(*(self.bars(*line)[0] for part in beside for line in part if isinstance(line, tuple)))
-                yield b"\\&" + b"".join(b"+" if place in shown else line.sign for place in range(self.width))
-            else:
-                yield b"\\&" + self.line(*line)
+                continue
+            yield b"\\&" + (self.line(*line) if isinstance(line, tuple) else self.line_of_rules(line, before[at] | behind[at]))
+            at += 1
+
+    def bars_before(self, lines):
+        """For each line the places of bars of the line before it. A bar goes on through lines of rules that don't rule its place."""
+        found, shown = [], set()
+        for line in lines:
+            found.append(shown)
+            shown = self.bars(*line)[0] if isinstance(line, tuple) else (self.own_bars(line) | shown) - set(self.ruled(line))
+        return found
+
+    def own_bars(self, line):
+        """The places where a row of rules, or a box there, has bars; a rule over the whole width has none."""
+        if isinstance(line, Rule):
+            return set()
+        return set().union(*(self.bar_places(boundary, max(line.bars.get(boundary, 0), self.framed(boundary)))
+                             for boundary in range(self.count + 1)))
+
+    def ruled(self, line):
+        """The places that a line of rules draws over, with their signs."""
+        if isinstance(line, Rule):
+            return dict.fromkeys(range(self.width), line.sign)
+        found, start = {}, self.left
+        signs = line.signs + [None] * (self.count - len(line.signs))
+        for column, sign in enumerate(signs):
+            found.update(dict.fromkeys(range(start, start + self.widths[column]), sign))
+            start += self.widths[column]
+            if column + 1 < self.count:
+                # Both columns have a part of the separation, and its bars' places are the left one's, if it has a rule.
+                most = BARS if self.table.most_bars.get(column + 1) == BARS else 1
+                places = self.bar_places(column + 1, most) if self.apart[column] else ()
+                for place in range(start, start + self.apart[column]):
+                    is_right = place > max(places)
+                    found[place] = signs[column + 1] if is_right or place in places and not sign else sign
+                start += self.apart[column]
+        return {place: sign for place, sign in found.items() if sign}
+
+    def line_of_rules(self, line, beside):
+        """A line of rules, up to its last sign, between lines that have bars at these places."""
+        ruled, bars = self.ruled(line), self.own_bars(line) | beside
+        signs = [b"+" if place in ruled and place in beside else ruled.get(place) or (b"|" if place in bars else BLANK)
+                 for place in range(self.width)]
+        return b"".join(signs).rstrip(BLANK)
 
     def drawn(self, row, column):
         """How far from its column's first place a field is drawn, and over how many."""

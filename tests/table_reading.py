@@ -1,6 +1,6 @@
 """What the lines of a table say, and above all those of its data (part of the model of tests/tables.py)."""
 import table_items
-from table_format import NOT_YET, Bad, Format, cut
+from table_format import NOT_YET, RULES, Bad, Format, cut
 from table_items import BACKSLASH, BLANK, DOT, TAB
 
 
@@ -9,6 +9,10 @@ class Row:
 
     def __init__(self, format_row):
         self.keys, self.bars, self.cells, self.told = format_row.keys, format_row.bars, [], False
+
+    def is_ruled(self, column):
+        """Whether a column has the key of a rule, which takes a field and ignores it."""
+        return self.keys[column:column + 1] in RULES
 
 
 def kind_of(field):
@@ -38,12 +42,20 @@ class Rule:
         self.sign = sign
 
 
+class RuleRow:
+    """A row of the format that serves no row of the data, and is drawn before one: the sign of each column that it rules."""
+
+    def __init__(self, format_row):
+        self.signs = [b"=" if key == ord("=") else b"-" for key in format_row.keys]
+        self.bars = format_row.bars
+
+
 class Table(Format):
     """What the lines of a table say, each with its number."""
 
     def __init__(self, lines):
         super().__init__()
-        # Rows, rules and commands, how many count, and which row of keys comes next.
+        # Rows, rules, rows of rules and commands, how many count, and which row of keys comes next.
         self.elements, self.count, self.next = [], 0, 0
         self.is_bad, self.is_closing = False, False
         # The lines that go on, the row that was begun last, and the lines of its block that is open.
@@ -95,9 +107,17 @@ class Table(Format):
             self.count += 1
             self.elements.append(line)
         else:
-            self.row = Row(self.formats[min(self.next, len(self.formats) - 1)])
-            self.next += 1
+            self.row = Row(self.next_keys())
             self.fields(line, numbers, 0)
+
+    def next_keys(self):
+        """The row of keys that serves the next row. Rows of rule keys in front of it are drawn, but for the last row of a format."""
+        last = len(self.formats) - 1
+        while self.next < last and self.formats[self.next].is_of_rules():
+            self.elements.append(RuleRow(self.formats[self.next]))
+            self.next += 1
+        self.next += 1
+        return self.formats[min(self.next - 1, last)]
 
     def refuse(self, number, is_counted=True):
         """A row that isn't laid out."""
@@ -124,10 +144,11 @@ class Table(Format):
         opens = fields[-1].strip(BLANK) == b"T{"
         surplus = None
         for field in fields[:len(fields) - opens]:
-            if len(self.row.cells) < self.keys:
-                if kind_of(field) in NOT_YET["fields"]:
+            column = len(self.row.cells)
+            if column < self.keys:
+                if kind_of(field) in NOT_YET["fields"] and not self.row.is_ruled(column):
                     self.refuse(numbers[at], not opens)
-                if kind_of(field) is None:
+                if kind_of(field) is None and not self.row.is_ruled(column):
                     self.notes(field, numbers, at)
             elif surplus is None:
                 surplus = numbers[at - 1]
@@ -146,7 +167,7 @@ class Table(Format):
 
     def notes(self, text, numbers, at):
         """What isn't measured of a text that is kept."""
-        if self.block is not None and len(self.row.cells) > self.keys:
+        if self.block is not None and (len(self.row.cells) > self.keys or self.row.is_ruled(len(self.row.cells) - 1)):
             return
         for item in table_items.items(text):
             if item.note is not None:

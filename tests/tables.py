@@ -37,6 +37,7 @@ ESCAPES = ([b"\\" + bytes([value]) for value in b"\\e'`-. 0&%|^fs(*n$cwht{}abdDg
 BLOCK_LINES = [b"one two", b"One.", b"two.  three", b"", b" ", b"  set in", b"a", b"word", b"longer-word", b"end?'", b"\\fBx\\fR y.", b"\\fB", b" \\fB",
                b"\\fB \\fR x", b"a \\fB b", b"\\&", b".br", b".5", b".T&", b"x \\c", b"x\\", b"\\(em y", b"tail ", b"stop. ", b"\\\" note", b"a\tb", b"T{",
                b"\x01", b"\x02", b"\x01 ", b"a\x01 b", b"\\ x", b"...", b"(so.)", b"\\(rq.\\(rq", b"a \x01 b", b"\\n(xx.", b"\xc3\xa9t\xc3\xa9", b"_", b"\\^"]
+IGNORED_FIELDS = [b"", b"a", b"wider than all", b"\\^", b"_", b"=", b"\\_", b"\\Rx", b"1.5", b"\\nx", b"\\w'a'", b"\\c", b"x\\&"]
 ODD_FIELDS = 3 * [b"_", b"="] + [b"\\_", b"\\^", b"\\Rx", b"\\R ", b"\\R\\", b"\\R\xc3", b"\\Rxy", b"_ ", b"==", b" =", b"\\\n_", b"\\^\\^", b"\\R\x80"]
 LINES_OF_DATA = [b"_", b"=", b"_ ", b".sp", b".", b".5", b".T", b".T&x", b".TS", b".nf\\\nx", b"\\_", b".\\\nT&", b"", b" ", b":", b"T}", b"T}:x", b"\\"]
 PIECES = PLAIN + NUMBERS + ESCAPES + ODD_FIELDS + LINES_OF_DATA + BLOCK_LINES + 9 * [b":", b"\t", b"\n"] + 3 * [b"T{\n", b"\nT}", b"\\\n"]
@@ -46,6 +47,7 @@ OPTIONS = [b"center", b"Centre", b"expand", b"EXPAND", b"tab(:)", b"TAB(:)", b"t
            b"an-option-of-more-than-thirty-two-bytes", b"(;)", b"tab(:)x", b"delim tab (:)", b"center(1)", b"linesize", b"linesize ()"]
 PLAIN_OPTIONS = OPTIONS[:17] + 2 * [b"allbox", b"box", b"doublebox"]
 KEYS = [b"l", b"r", b"c", b"n", b"a", b"n", b"L", b"R", b"N", b"A"]
+KEYS_OF_RULES = [b"_", b"_", b"-", b"=", b"="]
 LETTERS = [b"3", b"0", b"12", b"1 7", b"e", b"E", b"w(9)", b"w5", b"W(3n)", b"w(0)", b"w0", b"w(1i/2)", b"w(2+3)", b"w((2)*3)", b"w(.5i)", b"w(0-1)",
            b"w12 ", b"t", b"d", b"b", b"i", b"u", b"p8", b"p+2", b"v-1", b"v9", b"fB", b"f(CW)", b"fCW", b"f.", b"f,", b"f|", b"fB,", b"x", b"X", b"m(ab)",
            b"mab", b"M..", b" ", b"\t", b"99999999999"]
@@ -62,7 +64,8 @@ AROUND = (b".TS\nl%.\na\n.TE\n", b".TS\n%l.\na\n.TE\n", b".TS\nl % r.\na\tb\n.TE
           b".TS\ntab(:);\nl l n.\na%b:x%:y%1.5\n%:%\n\\%x:\\%:a\\%\n.TE\n", b".TS\ntab(:);\nn l.\n1\\%.5:\\%(ab\\%\\ c\\%\n\\f%x:\\f\\%x\n.TE\n",
           b".TS\ntab(:);\nl l.\na\\(%m:\\(e%\n\\n%x:\\n(%x\n\\n\\%x:\\s%1\n\\w%a\\%b%c:\\h%1%x\n.TE\n", b".TS\n%;\nl.\n%\n%x\nx%\n%%\n.TE\n",
           b".TS\ntab(%);l l n.\na%b%1.5\n%\\%\nT{\na%b\n%\n.%\nT}%x\n.TE\n", b".TS\ntab(:);\nlw(7) l.\nT{\na% b.%\n%a %\\% c\\%\n\\%\nT}%:x\n.T&%\nl.\n.%\n\\R%:x\n.TE\n",
-          b".TS\ntab %(:);tab(%%) l.\na\n.TE\n", b".TS\nl.\na\\\n%\\\n.TE%\nx\n.TE\n")
+          b".TS\ntab %(:);tab(%%) l.\na\n.TE\n", b".TS\nl.\na\\\n%\\\n.TE%\nx\n.TE\n",
+          b".TS\nbox tab(:);_%|_,l|l\n=%l%,_l.\na:b\n%:c%\n%T{\n%\n.%\nT}%:x:%\n.TE\n", b".TS\n%_%,|%|l||%.\na%b\nT{\n%a\nT}\tc\n.TE\n")
 
 
 def is_laid_out(piece):
@@ -108,10 +111,12 @@ def row(chance, columns, separator, blocks):
     """A row: most often as many fields as there are columns, of which some are blocks."""
     count = columns if chance.random() < 0.75 else chance.randint(0, columns + 2)
     cells = []
-    for _ in range(count):
+    for column in range(count):
         # Where many fields are rules, many stand beside the same one.
         if cells and kind_of(cells[-1]) and chance.random() < chance.odd:
             cells.append(cells[-1])
+        elif column in chance.ruled and chance.random() < 0.6:
+            cells.append(chance.choice(IGNORED_FIELDS))
         else:
             cells.append(block(chance) if chance.random() < blocks else joined(chance, field(chance, PLAIN)))
     return separator.join(cells)
@@ -128,20 +133,39 @@ def data_line(chance, columns, separator, blocks):
     return b"".join(chance.choices(some(chance, PIECES), k=chance.randint(0, 6)))
 
 
+def rows_of_keys(chance):
+    """For each row of keys whether it has those of rules alone: one to three rows that aren't, and what stands around them."""
+    rows = []
+    for _ in range(chance.randint(1, 3)):
+        rows += chance.randint(1, 3) * [True] if chance.random() < chance.rules else []
+        rows.append(False)
+    return rows + chance.choice([[True], 2 * [True]]) if chance.random() < chance.rules / 4 else rows
+
+
+def keys_of_row(chance, columns, is_of_rules):
+    """The keys of a row with their numbers and letters."""
+    count = columns + chance.choice([0, 0, 0, -1, 1])
+    if is_of_rules and chance.random() < 0.5:
+        count = chance.randint(1, columns + 1)
+    keys, rules = [], chance.choice([KEYS_OF_RULES, KEYS_OF_RULES[:1], KEYS_OF_RULES[-1:]])
+    for column in range(max(1, count)):
+        letters = chance.choices(some(chance, LETTERS, is_asked), k=chance.choice([0, 0, 0, 1, 1, 2]))
+        if chance.random() < 0.012:
+            letters.append(chance.choice(ODD_LETTERS))
+        is_rule = is_of_rules or column in chance.ruled or chance.random() < chance.rules / 8
+        keys.append(chance.choice(rules if is_rule else some(chance, KEYS, is_asked)) + b"".join(letters))
+    return keys
+
+
 def formats(chance, columns):
     """Rows of keys, and the dot."""
     out = b""
-    for number in range(chance.randint(1, 3)):
-        keys = []
+    for number, is_of_rules in enumerate(rows_of_keys(chance)):
         gap = chance.choice([b"", b" ", b" "])
-        for _ in range(max(1, columns + chance.choice([0, 0, 0, -1, 1]))):
-            letters = chance.choices(some(chance, LETTERS, is_asked), k=chance.choice([0, 0, 0, 1, 1, 2]))
-            if chance.random() < 0.012:
-                letters.append(chance.choice(ODD_LETTERS))
-            keys.append(chance.choice(some(chance, KEYS, is_asked)) + b"".join(letters))
         front = chance.choice(FRONTS) if chance.random() < 0.01 else b""
         out += (chance.choice([b"\n", b"\n", b",", b", "]) if number else b"") + front
-        out += b"".join(piece + (chance.choice(BARS) if chance.random() < chance.bars else gap) for piece in [b"", *keys])
+        out += b"".join(piece + (chance.choice(BARS) if chance.random() < chance.bars else gap)
+                        for piece in [b"", *keys_of_row(chance, columns, is_of_rules)])
     return out + chance.choice(40 * [b"."] + [b". x", b"\n.", b"", b",."])
 
 
@@ -161,6 +185,8 @@ def table(chance, separator_tried):
                 separator = bare[4:5]
         out += chance.choice([b" ", b",", b", ", b"\t"]).join(options) + b";" + chance.choice([b"\n", b"\n", b"", b" "])
     columns, blocks = chance.randint(1, 4), chance.choice([0, 0, 0.1, 0.4])
+    # The columns that have rules in each row.
+    chance.ruled = {column for column in range(columns) if chance.random() < chance.rules / 2}
     out += formats(chance, columns) + b"\n"
     for _ in range(chance.randint(0, 6)):
         out += data_line(chance, columns, separator, blocks) + b"\n"
@@ -172,8 +198,9 @@ def table(chance, separator_tried):
 def document(chance, separator_tried):
     """One to three tables, with lines around them; this byte is tried as a separator."""
     parts, chance.is_plain = [], chance.random() < 0.7
-    # In some documents many fields are rules, and many boundaries have bars.
+    # In some documents many fields are rules, many boundaries have bars, and many keys are those of rules.
     chance.odd, chance.bars = chance.choice([0.03, 0.03, 0.4]), chance.choice([0, 0.1, 0.4, 0.8])
+    chance.rules = chance.choice([0, 0.1, 0.4, 0.7])
     for _ in range(chance.choice([1, 1, 2, 3])):
         parts += chance.choices(LINES[:6] if chance.random() < 0.5 else LINES, k=chance.choice([0, 0, 1, 2]))
         parts.append(table(chance, separator_tried))

@@ -44,7 +44,7 @@ ASKED = (
     r" \n(zz:1 \na\na 2<3 \n%>1 \n(.$=1 \nb>=2 \nb+1>\na"
 ).split() + [""]
 BEGUN = '.\\" <words>|.<words>|\'<words>|.\\}|.|...|. |.\tbr||  <words>|\t<words>'.split("|")
-TABLES = "center; tab(:); box; expand;".split() + [""], "l l r.|c s|l2 c r.|l.|n n.|.".split("|"), ".TE .TE .T&".split() + [""]
+TABLES = "center; tab(:); box; expand;".split() + [""], "l l r.|c s|l2 c r.|l.|n n.|.|_ =\nl l.|l\n_\nl _ r.".split("|"), ".TE .TE .T&".split() + [""]
 LIMITS = "bytes store names stack depth line environments conditions traps diversions output".split()
 TABLE_LIMITS = "rows columns text width".split()
 MOST = {"bytes": 4000, "output": 3000, "store": 800, "stack": 300, "line": 120, "text": 400}

@@ -4,9 +4,9 @@ use Rattle.roff_num.specs.declared.limit.Limit.{Limit}
 use Rattle.roff_num.specs.declared.limit.Limit.TheVariants.{Rows, Columns, Text, Width}
 use Rattle.roff_source.specs.Bytes.{newline}
 use Rattle.roff_source.specs.Tape.{Item, OneByte, OneNote, Ending, Ended, Failed, Stopped}
-use Rattle.tbl_format.specs.Messages.{told_items}
+use Rattle.tbl_options.specs.Messages.{told_items}
 use Rattle.tbl_format.specs.declared.limits.TblLimits.{TblLimits}
-use Rattle.tbl_format.specs.declared.message.Told.{Told}
+use Rattle.tbl_options.specs.declared.message.Told.{Told}
 use Rattle.tbl_core.specs.Lines.{counted, end_letter, ends_name, front_behind, is_name, is_of_name, start_letter}
 use Rattle.tbl_core.specs.Machine.{Inside, Now, Outside, Over, Place, Reads, RestOfStart, Standing, Step, end_at, goes_on_inside, inside_ended}
 use Rattle.tbl_core.specs.Machine.{limit_inside, own_told, passes_table, standing_behind, table_ended, take, take_at}

@@ -6,14 +6,14 @@ use Rattle.roff_num.specs.declared.limit.Limit.TheVariants.{TblBytes}
 use Rattle.roff_source.specs.Bytes.{newline}
 use Rattle.roff_source.specs.Tape.{Item, OneByte, OneNote, Ending, Ended, Failed, Stopped}
 use Rattle.tbl_format.specs.declared.limits.TblLimits.{TblLimits}
-use Rattle.tbl_format.specs.declared.message.Told.{Told}
+use Rattle.tbl_options.specs.declared.message.Told.{Told}
 use Rattle.tbl_core.specs.declared.place.Count.{Count}
 use Rattle.tbl_core.specs.declared.place.Front.{Front}
 use Rattle.tbl_table.specs.NotesStay.{Begins}
 use Rattle.tbl_core.specs.Laws.{FailingOnlyCuts, MessagesComeFirst}
 use Rattle.tbl_core.specs.Lines.{counted, ends_name, front_behind, is_name, start_letter}
 use Rattle.tbl_core.specs.Machine.{Now, Place, Outside, RestOfStart, Inside, Reads, Over, Step, end_at, goes_on_inside, inside_ended, limit_inside, own_told, passes_table, stops, take, take_at, table_ended, told_so_far}
-use Rattle.tbl_format.specs.Messages.{told_item, told_items}
+use Rattle.tbl_options.specs.Messages.{told_item, told_items}
 use Rattle.tbl_table.specs.Reading.{Reading, byte_read, bytes_read, given_at_end, last_read, limit_at_end, line_ended, told_behind}
 use Rattle.tbl_table.specs.Table.{TableRead, line_read, notes, told_at_cut}
 use Rattle.tbl_core.specs.Yields.{at_ending, yields_from}

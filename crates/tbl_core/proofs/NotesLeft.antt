@@ -10,13 +10,13 @@ use Rattle.roff_source.specs.Tape.{Item, OneByte, OneNote, Ending, Ended, Failed
 use Rattle.std.specs.Prelude.{unwrap_or}
 use Rattle.std.specs.Option.{MatchOption}
 use Rattle.tbl_format.specs.declared.limits.TblLimits.{TblLimits}
-use Rattle.tbl_format.specs.declared.message.Told.{Told}
+use Rattle.tbl_options.specs.declared.message.Told.{Told}
 use Rattle.tbl_core.specs.declared.place.Count.{Count}
 use Rattle.tbl_core.specs.declared.place.Front.{Front}
 use Rattle.tbl_core.specs.declared.place.Front.TheVariants.{Nothing}
 use Rattle.tbl_core.specs.Lines.{counted, ends_name, front_behind, is_name, start_letter, end_letter}
 use Rattle.tbl_core.specs.Machine.{Now, Place, Outside, RestOfStart, Inside, Standing, Reads, Over, Step, at_fault, at_rest, end_at, goes_on_inside, inside_ended, limit_inside, limit_told, not_ended, on_start_line, own_told, passes_table, standing_behind, stops, take, take_at, told_so_far}
-use Rattle.tbl_format.specs.Messages.{told_item, told_items}
+use Rattle.tbl_options.specs.Messages.{told_item, told_items}
 use Rattle.tbl_core.specs.NotesLeft.{most_behind, most_here, noted, notes_left}
 use Rattle.tbl_table.specs.Reading.{Reading, begun, byte_read, bytes_read, given_at_end, last_read, limit_at_end, line_ended, told_behind}
 use Rattle.tbl_table.specs.MayTell.{may_tell}

@@ -6,9 +6,9 @@ use Rattle.roff_num.specs.declared.limit.Limit.{Limit}
 use Rattle.roff_source.specs.Tape.{Item, OneByte, answer_of}
 use Rattle.roff_source.specs.declared.source.Taken.{Taken}
 use Rattle.tbl_format.specs.declared.limits.TblLimits.{TblLimits}
-use Rattle.tbl_format.specs.declared.message.Told.{Told}
+use Rattle.tbl_options.specs.declared.message.Told.{Told}
 use Rattle.tbl_core.specs.Machine.{limit_told, own_told, stops}
-use Rattle.tbl_format.specs.Messages.{told_item, told_items}
+use Rattle.tbl_options.specs.Messages.{told_item, told_items}
 use Rattle.tbl_table.specs.Reading.{KeptTable, kept_nothing}
 use Rattle.tbl_core.specs.NotesLeft.{gives_byte, noted}
 use Rattle.tbl_core.proofs.NotesLeft.{noted-bytes}

@@ -5,12 +5,12 @@ use Rattle.roff_num.specs.declared.limit.Limit.{Limit}
 use Rattle.roff_num.specs.declared.limit.Limit.TheVariants.{TblBytes}
 use Rattle.roff_source.specs.Tape.{Item, OneByte, Ending, Ended, Failed, Stopped}
 use Rattle.tbl_format.specs.declared.limits.TblLimits.{TblLimits}
-use Rattle.tbl_format.specs.declared.message.Told.{Told}
+use Rattle.tbl_options.specs.declared.message.Told.{Told}
 use Rattle.tbl_core.specs.declared.place.Count.{Count}
 use Rattle.tbl_core.specs.declared.place.Front.{Front}
 use Rattle.tbl_core.specs.Lines.{counted, ends_name, front_behind, is_name, start_letter}
 use Rattle.tbl_core.specs.Machine.{Now, Place, Outside, RestOfStart, Inside, Standing, Reads, Over, Step, goes_on_inside, inside_ended, limit_inside, limit_told, own_told, passes_table, standing_behind, stops, take, take_at, told_so_far, end_at}
-use Rattle.tbl_format.specs.Messages.{told_items}
+use Rattle.tbl_options.specs.Messages.{told_items}
 use Rattle.tbl_core.specs.NotesLeft.{bytes_left}
 use Rattle.tbl_table.specs.Reading.{Reading, byte_read, bytes_read, given_at_end, limit_at_end, told_at_end}
 use Rattle.tbl_table.specs.Table.{told_at_cut}

@@ -4,7 +4,7 @@ use Rattle.roff_num.specs.declared.limit.Limit.{Limit}
 use Rattle.roff_source.specs.Tape.{Item, Ending, Failed, Stopped, Tape, front}
 use Rattle.tbl_format.specs.declared.limits.TblLimits.{TblLimits}
 use Rattle.tbl_core.specs.Machine.{Now, Standing, Reads, limit_told, told_so_far}
-use Rattle.tbl_format.specs.Messages.{told_item, told_items}
+use Rattle.tbl_options.specs.Messages.{told_item, told_items}
 use Rattle.tbl_table.specs.NotesStay.{Begins}
 use Rattle.tbl_core.specs.Stages.{Stage, answered}
 use Rattle.tbl_core.specs.Yields.{yields, yields_from}

@@ -5,13 +5,13 @@ use Rattle.roff_num.specs.declared.limit.Limit.TheVariants.{Rows, Columns, Text,
 use Rattle.roff_source.specs.Bytes.{newline}
 use Rattle.roff_source.specs.Tape.{Item, OneByte}
 use Rattle.tbl_format.specs.declared.limits.TblLimits.{TblLimits}
-use Rattle.tbl_format.specs.declared.message.Message.TheVariants.{LimitReached, TableNotEnded}
-use Rattle.tbl_format.specs.declared.message.Told.{Told}
+use Rattle.tbl_options.specs.declared.message.Message.TheVariants.{LimitReached, TableNotEnded}
+use Rattle.tbl_options.specs.declared.message.Told.{Told}
 use Rattle.tbl_core.specs.declared.place.Front.{Front}
 use Rattle.tbl_core.specs.declared.place.Front.TheVariants.{Nothing}
 use Rattle.tbl_core.specs.declared.place.Count.{Count}
 use Rattle.tbl_core.specs.Lines.{start_letter, end_letter, ends_name, front_behind, is_name, is_of_name, counted}
-use Rattle.tbl_format.specs.Messages.{told_item, told_items}
+use Rattle.tbl_options.specs.Messages.{told_item, told_items}
 use Rattle.tbl_table.specs.Reading.{Reading, begun, byte_read, line_ended, bytes_read, last_read, limit_at_end, told_at_end, given_at_end}
 use Rattle.tbl_table.specs.Table.{told_at_cut, notes, is_bad, columns_at, rows_behind}
 use Rattle.tbl_format.specs.TblLimits.{tbl_value_of}

@@ -5,7 +5,7 @@ use Rattle.roff_source.specs.Bytes.{newline}
 use Rattle.roff_source.specs.Tape.{Item, OneByte, Ending, Gives, answer_of}
 use Rattle.roff_source.specs.declared.source.Taken.{Taken}
 use Rattle.tbl_format.specs.declared.limits.TblLimits.{TblLimits}
-use Rattle.tbl_format.specs.declared.message.Told.{Told}
+use Rattle.tbl_options.specs.declared.message.Told.{Told}
 use Rattle.tbl_core.specs.declared.place.Count.{Count}
 use Rattle.tbl_core.specs.declared.place.Front.{Front}
 use Rattle.tbl_core.specs.declared.place.Front.TheVariants.{Nothing, Dot, Letter, Name, Other}
@@ -13,7 +13,7 @@ use Rattle.tbl_core.specs.declared.place.Position.{Position}
 use Rattle.tbl_core.specs.declared.place.Position.TheVariants.{Outside as AtOutside, RestOfStart as AtRestOfStart, Inside as AtInside, Over as AtOver}
 use Rattle.tbl_core.specs.Lines.{is_name, next_line}
 use Rattle.tbl_core.specs.Machine.{Outside, RestOfStart, Inside, Standing, Reads, Over, Step, take, take_at}
-use Rattle.tbl_format.specs.Messages.{told_items}
+use Rattle.tbl_options.specs.Messages.{told_items}
 use Rattle.tbl_table.specs.Reading.{Reading, KeptTable, bytes_read, kept_nothing}
 use Rattle.tbl_table.specs.Table.{columns_at, rows_behind, told_at_cut}
 use Rattle.tbl_core.specs.Yields.{At, at_ending}

@@ -11,5 +11,5 @@ mod tables;
 pub use gathered::GatheredSource;
 pub use source::TblSource;
 pub use tbl_format::limits::TblLimits;
-pub use tbl_format::message::{Message, OptionText, Told};
+pub use tbl_options::message::{Message, OptionText, Told};
 pub use tbl_table::worked_tables;

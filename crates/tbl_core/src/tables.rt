@@ -16,16 +16,18 @@ ghost use Rattle.tbl_core.specs.Yields.{at_start, behind_step};
 ghost use Rattle.tbl_table.specs.Reading.{byte_read, bytes_read, given_at_end, limit_at_end};
 ghost use Rattle.tbl_table.specs.Reading.{told_at_end};
 
+mod limits_met;
 mod passing;
 mod reading;
 
 use crate::place::{Count, Front, Position, ends_name};
+use limits_met::{limit_met, not_ended, own_told, position_behind};
 use roff_num::Limit;
 use roff_source::Taken;
 use std::alloc::{AllocError, Global};
 use std::marker::Model;
 use tbl_format::limits::TblLimits;
-use tbl_format::message::{Message, Told};
+use tbl_options::message::Told;
 use tbl_table::table::Table;
 
 /// What tables make of the bytes of an input, one at a time.
@@ -368,56 +370,5 @@ fn cut_table(table: &mut Table, position: Position)
 {
     if let Position::Inside(_) = position {
         table.cut();
-    }
-}
-
-/// The message of a limit that was met.
-fn own_told(limits: TblLimits, limit: Option<Limit>, line: u32) -> Option<Told>
-    ensures { option_to_list result ≡ own_told limits line limit }
-{
-    let limit = limit?;
-    Some(Told {
-        line,
-        message: Message::LimitReached(limit, limits.value(limit)),
-    })
-}
-
-/// Where the next byte stands behind a table, unless a limit has stopped there.
-fn position_behind(limit: Option<Limit>, front: Front) -> Position
-    ensures { result ≡ position_behind limit front }
-{
-    match limit {
-        Some(limit) => Position::Over(limit),
-        None => Position::Outside(front),
-    }
-}
-
-/// The message of a table that isn't ended, unless it was reported otherwise.
-fn not_ended(line: u32, is_reported: bool) -> Option<Told>
-    ensures { option_to_list result ≡ not_ended line is_reported }
-{
-    if is_reported {
-        None
-    } else {
-        Some(Told {
-            line,
-            message: Message::TableNotEnded,
-        })
-    }
-}
-
-/// The limit that a byte of a table meets: on rows at the newline that ends one, on columns at a
-/// key, on the table's bytes at one that can't be of its `.TE` line.
-fn limit_met(limits: TblLimits, table: &Table, front: Front, byte: u8) -> Option<Limit>
-    ensures { result ≡ limit_inside limits byte front table.now.reading }
-{
-    if byte == b'\n' && table.rows_with_line() > limits.rows as usize {
-        Some(Limit::Rows)
-    } else if table.columns_with(byte) > limits.columns as usize {
-        Some(Limit::Columns)
-    } else if !front.behind(b'E', byte).is_of_name() && table.len() >= limits.text as usize {
-        Some(Limit::Text)
-    } else {
-        None
     }
 }

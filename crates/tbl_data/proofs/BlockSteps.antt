@@ -1,12 +1,12 @@
 -- The lines of text blocks of the data, as they are kept.
-use Rattle.std.proofs.Common.{◌≡◌, ◌≢◌, ◌==◌, ℕ, suc, ◌+◌, ◌-◌, false, List, [], ◌∷◌, ◌++◌, length, map, get_or, Some, refl, sym, ap, subst, ◌∙◌, arith, append-nil, length-append}
-use Rattle.std.specs.Prelude.{All, is_none, option_map}
+use Rattle.std.proofs.Common.{◌≡◌, ◌≢◌, ◌==◌, ℕ, suc, ◌+◌, ◌-◌, Bool, true, false, List, [], ◌∷◌, ◌++◌, length, map, get_or, Some, refl, sym, ap, subst, ◌∙◌, arith, append-nil, length-append}
+use Rattle.std.specs.Prelude.{All, is_some, option_map}
 use Rattle.std.specs.List.{slice_range}
 use Rattle.std.proofs.lemmas.List.{map-append}
 use Rattle.roff_source.specs.Bytes.{newline}
 use Rattle.tbl_data.specs.DataRead.{fields_with_block, with_text}
 use Rattle.tbl_data.specs.LineTaken.{LineLies, Makes, contents_in, left_from, row_begun, text_made}
-use Rattle.tbl_data.specs.OpenBlocks.{is_dropped}
+use Rattle.tbl_data.specs.OpenBlocks.{had_surplus}
 use Rattle.tbl_data.specs.TableData.{DataFits, EndsInBlock, IsBlock, LastEndsAt, OpenBehind, OpenEndsAt, OpenFits, StandsBehind, begun_by, row_with_block, table_by}
 use Rattle.tbl_data.specs.TableRead.{RowBegun}
 use Rattle.tbl_data.specs.declared.data_line.DataLine.{DataLine}
@@ -100,32 +100,41 @@ module _ (bytes : List ℕ) (row : List Entry) (ends : EndsInBlock row) where
       ∙ map-append (content_of bytes) split.front (split.last ∷ [])
       ∙ ap (λ (c : Content). map (content_of bytes) split.front ++ c ∷ []) (content-block split.last.kind bytes split.last.from split.last.to split.block)
 
-  row-split : row_with_block (map (content_of bytes) row) ≡ record { fields = map (content_of bytes) split.front; block = Some lines }
+  row-split : row_with_block (map (content_of bytes) row) ≡ record { fields = map (content_of bytes) split.front; block = Some lines; had_surplus = false }
   row-split = ap row_with_block contents-split ∙ block-last (map (content_of bytes) split.front) lines
 
   pub kept-contents : fields_with_block (row_with_block (map (content_of bytes) row)) ≡ map (content_of bytes) row
   kept-contents = ap fields_with_block row-split ∙ sym contents-split
 
-  pub kept-some : is_none (row_with_block (map (content_of bytes) row)).block ≡ false
-  kept-some = ap (λ (r : RowBegun). is_none r.block) row-split
+  pub kept-some : is_some (row_with_block (map (content_of bytes) row)).block ≡ true
+  kept-some = ap (λ (r : RowBegun). is_some r.block) row-split
+
+  pub kept-surplus : (row_with_block (map (content_of bytes) row)).had_surplus ≡ false
+  kept-surplus = ap (λ (r : RowBegun). r.had_surplus) row-split
 
 -- what a row is of which a block is open, when that ends
 pub begun-contents : (o : OpenBlock) (bytes : List ℕ) (row : List Entry) → OpenFits o row → o ≢ Nothing
     → fields_with_block (row_begun o (map (content_of bytes) row)) ≡ map (content_of bytes) row
 begun-contents Nothing bytes row fits some = absurd (some refl)
 begun-contents Kept bytes row fits some = kept-contents bytes row fits
-begun-contents Dropped bytes row fits some = append-nil (map (content_of bytes) row)
+begun-contents (Dropped had) bytes row fits some = append-nil (map (content_of bytes) row)
 
-pub begun-dropped : (o : OpenBlock) (bytes : List ℕ) (row : List Entry) → OpenFits o row → o ≢ Nothing
-    → is_none (row_begun o (map (content_of bytes) row)).block ≡ is_dropped o
-begun-dropped Nothing bytes row fits some = absurd (some refl)
-begun-dropped Kept bytes row fits some = kept-some bytes row fits
-begun-dropped Dropped bytes row fits some = refl
+pub begun-surplus : (o : OpenBlock) (bytes : List ℕ) (row : List Entry) → OpenFits o row → o ≢ Nothing
+    → (row_begun o (map (content_of bytes) row)).had_surplus ≡ had_surplus o
+begun-surplus Nothing bytes row fits some = absurd (some refl)
+begun-surplus Kept bytes row fits some = kept-surplus bytes row fits
+begun-surplus (Dropped had) bytes row fits some = refl
+
+pub begun-kept : (o : OpenBlock) (bytes : List ℕ) (row : List Entry) → OpenFits o row → o ≡ Kept
+    → is_some (row_begun o (map (content_of bytes) row)).block ≡ true
+begun-kept Nothing bytes row fits is = absurd (cc)
+begun-kept Kept bytes row fits is = kept-some bytes row fits
+begun-kept (Dropped had) bytes row fits is = absurd (cc)
 
 pub begun-some : (o : OpenBlock) (contents : List Content) → o ≢ Nothing → begun_by o contents ≡ Some (row_begun o contents)
 begun-some Nothing contents some = absurd (some refl)
 begun-some Kept contents some = refl
-begun-some Dropped contents some = refl
+begun-some (Dropped had) contents some = refl
 
 -- the block that is kept has a line more
 module _ (k : KeptText) (line : DataLine) (lies : LineLies (block_of k) line) (plain : All (λ b. (b == newline) ≡ false) (left_from k line line.from)) (d : TableData) (fits : DataFits (block_of k) d) where
@@ -203,8 +212,7 @@ module _ (k : KeptText) (line : DataLine) (lies : LineLies (block_of k) line) (p
           block = subst (λ (o : OpenBlock). OpenFits o extended.rows.row) (sym open_is)
               (subst EndsInBlock (sym new-row) (block-behind parts.front (with_end line.to parts.last) parts.block));
           columns = fits.columns;
-          first = fits.first;
-          serves = fits.serves;
+          served = fits.served;
           whole = fits.whole;
           notes = fits.notes;
         };
@@ -221,8 +229,8 @@ module _ (k : KeptText) (line : DataLine) (lies : LineLies (block_of k) line) (p
       }
 
   -- one that is dropped stays as it is, and so does none
-  pub extends-dropped : d.open ≡ Dropped → Makes k line 0 (text_made k line) InData d d
-  extends-dropped is = record {
+  pub extends-dropped : (had : Bool) → d.open ≡ Dropped had → Makes k line 0 (text_made k line) InData d d
+  extends-dropped had is = record {
     table = λ options same.
         ap (λ (o : OpenBlock). record (table_by InData options (block_of k) d) { begun = begun_by o (contents_in k d) }) is
         ∙ sym (ap (λ (o : OpenBlock). record (table_by InData options (block_of k) d) { begun = option_map (with_text (left_from k line line.from)) (begun_by o (contents_in k d)) }) is);

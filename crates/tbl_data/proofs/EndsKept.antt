@@ -4,10 +4,10 @@ use Rattle.std.specs.List.{AllByRecursion}
 use Rattle.tbl_data.specs.LineTaken.{more_notes}
 use Rattle.tbl_data.specs.TableData.{ElementEnds, EndsBy, EntryEnds}
 use Rattle.tbl_data.specs.declared.table_data.TableData.{TableData}
-use Rattle.tbl_format.specs.Notes.{IsWithin, NotesWithin}
-use Rattle.tbl_format.specs.declared.notes.Cause.{Cause}
-use Rattle.tbl_format.specs.declared.notes.Cause.TheVariants.{BadFormat, LeftOut, NotMeasured, OptionIgnored, RequestInTextBlock, TooManyFields}
-use Rattle.tbl_format.specs.declared.notes.KeptNote.{KeptNote}
+use Rattle.tbl_options.specs.Notes.{IsWithin, NotesWithin}
+use Rattle.tbl_options.specs.declared.notes.Cause.{Cause}
+use Rattle.tbl_options.specs.declared.notes.Cause.TheVariants.{BadFormat, LeftOut, NotMeasured, OptionIgnored, RequestInTextBlock, TooManyFields}
+use Rattle.tbl_options.specs.declared.notes.KeptNote.{KeptNote}
 use Rattle.tbl_kept.specs.Rows.{Command, KeptElement, Row, Rule, last_changed}
 use Rattle.tbl_kept.specs.TableNotes.{KeptNotes}
 use Rattle.tbl_layout.specs.KeptEntries.{with_end}
@@ -25,7 +25,7 @@ module _ (from to : ℕ) (order : from ≤ to) where
   entries-later (e ∷ entries) all = (omega (arith, order, all.0), entries-later entries all.1)
 
   element-later : (e : KeptElement) → ElementEnds from e → ElementEnds to e
-  element-later (Row keys height entries) ends = entries-later entries ends
+  element-later (Row keys rules height entries) ends = entries-later entries ends
   element-later (Rule sign) ends = tt
   element-later (Command at end) ends = omega (arith, order, ends)
 

@@ -2,7 +2,7 @@
 use Rattle.std.proofs.Common.{◌≡◌, ℕ, ◌+◌, ◌-◌, ◌<◌, ◌≤◌, List, [], ◌∷◌, ◌++◌, length, Option, None, refl, sym, ap, subst, ◌∙◌, arith, append-nil, length-append}
 use Rattle.std.specs.List.{slice_range}
 use Rattle.tbl_data.specs.DataRead.{notes_of_field}
-use Rattle.tbl_data.specs.LineTaken.{RowFits, TakesField, contents_in, more_notes}
+use Rattle.tbl_data.specs.LineTaken.{RowFits, TakesField, contents_in, key_next, more_notes}
 use Rattle.tbl_data.specs.TableData.{EntryEnds, begun_by, table_by}
 use Rattle.tbl_data.specs.TableRead.{RowBegun, with_notes}
 use Rattle.tbl_data.specs.declared.data_line.DataLine.{DataLine}
@@ -12,18 +12,18 @@ use Rattle.tbl_data.specs.declared.table_data.OpenBlock.TheVariants.{Nothing}
 use Rattle.tbl_data.specs.declared.table_data.TableData.{TableData}
 use Rattle.tbl_data.proofs.EndsKept.{all-append, notes-end, within-append}
 use Rattle.tbl_data.proofs.RowSteps.{table-notes}
-use Rattle.tbl_format.specs.Notes.{NotesWithin, told_of_all}
-use Rattle.tbl_format.specs.RowsServed.{all_rows, row_at}
+use Rattle.tbl_options.specs.Notes.{NotesWithin, told_of_all}
+use Rattle.tbl_format.specs.RowsServed.{all_rows}
 use Rattle.tbl_format.specs.declared.format.Key.{Key}
-use Rattle.tbl_format.specs.declared.message.Told.{Told}
-use Rattle.tbl_format.specs.declared.notes.KeptNote.{KeptNote}
-use Rattle.tbl_format.specs.declared.options.Options.{Options}
+use Rattle.tbl_options.specs.declared.message.Told.{Told}
+use Rattle.tbl_options.specs.declared.notes.KeptNote.{KeptNote}
+use Rattle.tbl_options.specs.declared.options.Options.{Options}
 use Rattle.tbl_kept.proofs.RowsKeeping.{RowBegunKept-entry, contents-entry}
 use Rattle.tbl_kept.specs.Joined.{ends_joined}
 use Rattle.tbl_kept.specs.Rows.{with_entry}
 use Rattle.tbl_kept.specs.TableNotes.{KeptNotes}
 use Rattle.tbl_kept.specs.TableText.{KeptText, block_of}
-use Rattle.tbl_layout.specs.Entries.{Content, content_read, key_at}
+use Rattle.tbl_layout.specs.Entries.{Content, content_under}
 use Rattle.tbl_layout.specs.KeptEntries.{IsKept, content_of}
 use Rattle.tbl_layout.specs.declared.entry.Entry.{Entry}
 
@@ -31,13 +31,9 @@ use Rattle.tbl_layout.specs.declared.entry.Entry.{Entry}
 pub more-none : (k : KeptNotes) → k ≡ more_notes [] k
 more-none k = sym (ap (λ (ns : List KeptNote). record k { notes = ns }) (append-nil k.notes))
 
--- the key of the field that is taken next
-abbrev pub key_next : TableData → Key
-key_next d = key_at (row_at (all_rows d.format.format) d.keys) (length d.rows.row)
-
 -- an entry is what a part of a line is, and is kept as that
 pub record IsField (k : KeptText) (line : DataLine) (at end : ℕ) (d : TableData) (e : Entry) : Type 0 where
-  pub content : content_of (block_of k) e ≡ content_read (slice_range (block_of k) at end)
+  pub content : content_of (block_of k) e ≡ content_under (key_next d) (slice_range (block_of k) at end)
   pub kept : IsKept (block_of k) (key_next d) e
   pub to : e.to ≡ end
   pub on_line : end ≤ line.to
@@ -46,14 +42,14 @@ pub record IsField (k : KeptText) (line : DataLine) (at end : ℕ) (d : TableDat
   pub fits : RowFits (block_of k) d
 
 -- these messages are those of that part
-pub record ToldOf (k : KeptText) (line : DataLine) (at end : ℕ) (old new : KeptNotes) (told : List KeptNote) : Type 0 where
+pub record ToldOf (k : KeptText) (line : DataLine) (at end : ℕ) (key : Key) (old new : KeptNotes) (told : List KeptNote) : Type 0 where
   pub is : new ≡ more_notes told old
-  pub all : told_of_all (block_of k) told ≡ notes_of_field (ends_joined k.pending) line.number (at - line.from) (slice_range (block_of k) at end)
+  pub all : told_of_all (block_of k) told ≡ notes_of_field key (ends_joined k.pending) line.number (at - line.from) (slice_range (block_of k) at end)
   pub within : (len : ℕ) → NotesWithin len told
   pub few : length new.notes ≤ length old.notes + (end - at)
 
 -- it is one more of the row
-module _ (k : KeptText) (line : DataLine) (at end : ℕ) (d : TableData) (e : Entry) (is : IsField k line at end d e) (notes : KeptNotes) (told : List KeptNote) (of : ToldOf k line at end d.notes notes told) (new : TableData) (made : new ≡ record d { rows = with_entry e d.rows; notes = notes; escapes = new.escapes }) (room : new.escapes.room ≡ d.escapes.room) where
+module _ (k : KeptText) (line : DataLine) (at end : ℕ) (d : TableData) (e : Entry) (is : IsField k line at end d e) (notes : KeptNotes) (told : List KeptNote) (of : ToldOf k line at end (key_next d) d.notes notes told) (new : TableData) (made : new ≡ record d { rows = with_entry e d.rows; notes = notes; escapes = new.escapes }) (room : new.escapes.room ≡ d.escapes.room) where
   abbrev bytes : List ℕ
   bytes = block_of k
 
@@ -63,7 +59,7 @@ module _ (k : KeptText) (line : DataLine) (at end : ℕ) (d : TableData) (e : En
   abbrev made_so : TableData
   made_so = record d { rows = with_entry e d.rows; notes = notes; escapes = new.escapes }
 
-  row-is : contents_in k made_so ≡ contents_in k d ++ content_read field ∷ []
+  row-is : contents_in k made_so ≡ contents_in k d ++ content_under (key_next d) field ∷ []
   row-is =
       contents-entry bytes (all_rows d.format.format) d.rows e
       ∙ ap (λ (content : Content). contents_in k d ++ content ∷ []) is.content
@@ -72,7 +68,7 @@ module _ (k : KeptText) (line : DataLine) (at end : ℕ) (d : TableData) (e : En
   none-begun contents = ap (λ (o : OpenBlock). begun_by o contents) is.closed
 
   table-is : (options : Options) → table_by InData options bytes made_so
-      ≡ with_notes (notes_of_field (ends_joined k.pending) line.number (at - line.from) field) (table_by InData options bytes d)
+      ≡ with_notes (notes_of_field (key_next d) (ends_joined k.pending) line.number (at - line.from) field) (table_by InData options bytes d)
   table-is options =
       let t = table_by InData options bytes d in
       table-notes InData options bytes (record d { rows = with_entry e d.rows; escapes = new.escapes }) told notes of.is
@@ -91,8 +87,7 @@ module _ (k : KeptText) (line : DataLine) (at end : ℕ) (d : TableData) (e : En
     fits = record {
       kept = RowBegunKept-entry bytes (all_rows d.format.format) d.rows d.keys e is.column is.kept is.fits.kept;
       columns = is.fits.columns;
-      first = is.fits.first;
-      serves = is.fits.serves;
+      served = is.fits.served;
       small = is.fits.small;
       whole = is.fits.whole;
       notes = notes-within;

@@ -1,5 +1,6 @@
 pub mod FieldSteps
 pub mod NotesTold
+pub mod RuleRows
 pub mod RowSteps
 pub mod TextsKept
 pub mod LineFields

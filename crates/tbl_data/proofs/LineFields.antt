@@ -2,10 +2,9 @@
 use Rattle.std.proofs.Common.{◌≡◌, ℕ, ◌+◌, ◌-◌, ◌<◌, ◌≤◌, Bool, true, false, not, List, [], ◌∷◌, ◌++◌, length, take, drop, Some, refl, sym, ap, subst, ◌∙◌, arith, length-append, if◌then◌else◌}
 use Rattle.std.specs.List.{slice_range}
 use Rattle.std.proofs.lemmas.List.{drop_all, drop_more, length-map, take_all}
-use Rattle.tbl_data.specs.DataRead.{notes_of_field, surplus_notes, with_fields, with_open_row, with_row}
-use Rattle.tbl_data.specs.FieldsTaken.{row_opened}
-use Rattle.tbl_data.specs.LineTaken.{EndsRow, Grows, LineLies, Makes, OpensBlock, RowFits, TakesField, contents_in, fields_made, last_made, left_from, more_notes, surplus_kept}
-use Rattle.tbl_data.specs.TableData.{EndsBy, OpenEndsAt, SameRooms, table_by}
+use Rattle.tbl_data.specs.DataRead.{notes_of_field, row_opened, serving, surplus_notes, with_fields, with_open_row, with_row}
+use Rattle.tbl_data.specs.LineTaken.{EndsRow, Grows, LineLies, Makes, OpensBlock, RowFits, TakesField, contents_in, fields_made, key_next, last_made, left_from, more_notes, surplus_kept}
+use Rattle.tbl_data.specs.TableData.{EndsBy, OpenEndsAt, SameRooms, Serves, table_by}
 use Rattle.tbl_data.specs.TableRead.{TableRead, bad, columns, with_notes}
 use Rattle.tbl_data.specs.declared.data_line.DataLine.{DataLine}
 use Rattle.tbl_data.specs.declared.phase.Phase.{Phase}
@@ -15,17 +14,18 @@ use Rattle.tbl_data.specs.declared.table_data.OpenBlock.TheVariants.{Nothing}
 use Rattle.tbl_data.specs.declared.table_data.TableData.{TableData}
 use Rattle.tbl_data.proofs.FieldSteps.{laid-last, no-room, one-field, opening-last, unbuilt-field, unbuilt-last}
 use Rattle.tbl_data.proofs.EndsKept.{notes-end, within-append}
-use Rattle.tbl_data.proofs.RowSteps.{table-notes}
-use Rattle.tbl_format.specs.Notes.{NotesWithin, told_of_all}
-use Rattle.tbl_format.specs.declared.message.Told.{Told}
-use Rattle.tbl_format.specs.declared.options.Options.{Options}
+use Rattle.tbl_data.proofs.RowSteps.{key-is, table-notes}
+use Rattle.tbl_options.specs.Notes.{NotesWithin, told_of_all}
+use Rattle.tbl_options.specs.declared.message.Told.{Told}
+use Rattle.tbl_options.specs.declared.options.Options.{Options}
+use Rattle.tbl_format.specs.declared.format.Key.{Key}
 use Rattle.tbl_kept.specs.Joined.{ends_joined, line_at}
 use Rattle.tbl_kept.specs.TableNotes.{KeptNotes}
 use Rattle.tbl_kept.specs.TableText.{KeptText, block_of}
 use Rattle.tbl_layout.proofs.Fields.{field_len, fields-front, fields_behind, front-part, length-part, rest-part}
 use Rattle.tbl_layout.specs.Data.{fields}
-use Rattle.tbl_layout.specs.DataLines.{ends_in_block, is_laid_out, opens_block}
-use Rattle.tbl_layout.specs.Entries.{Content, content_read}
+use Rattle.tbl_layout.specs.DataLines.{ends_in_block, is_laid_out, kind_under, opens_block}
+use Rattle.tbl_layout.specs.Entries.{Content, content_under, key_at}
 use Rattle.tbl_layout.specs.KeptEntries.{content_of}
 
 -- rooms that stay through two steps
@@ -131,7 +131,7 @@ by-had true = omega arith
 by-had false = omega arith
 
 -- the last field of a line
-module _ (k : KeptText) (line : DataLine) (at : ℕ) (had : Bool) (d : TableData) (column : length d.rows.row < length d.format.format.asked) where
+module _ (k : KeptText) (line : DataLine) (at : ℕ) (had : Bool) (d : TableData) (column : length d.rows.row < length d.format.format.asked) (served : Serves d.format.format d.keys d.rules) where
   abbrev field : List ℕ
   field = left_from k line at
 
@@ -141,36 +141,46 @@ module _ (k : KeptText) (line : DataLine) (at : ℕ) (had : Bool) (d : TableData
   abbrev ends : List (ℕ × ℕ)
   ends = ends_joined k.pending
 
+  abbrev key : Key
+  key = key_next d
+
+  same-key : (options : Options) → key_at (serving (table_by InData options (block_of k) d)) (length (contents_in k d)) ≡ key
+  same-key options = key-is InData options (block_of k) d served
+
   pub last-opens : (most : ℕ) (new : TableData) → 1 ≤ most → opens_block field ≡ true → OpensBlock (block_of k) had d new → OpenEndsAt line.to new.open new.rows.row → (EndsBy line.to d → EndsBy line.to new) → Grows (if had then 0 else 1) 0 d new
       → Makes k line most (last_made k line at had d) InData d new
   last-opens most new few opens block end settled grown =
       let one : (if had then 0 else 1) ≤ 1 = by-had had in record {
         table = λ options is.
             block.table options
-            ∙ sym (opening-last ends line.number (at - line.from) (contents_in k d) had (table_by InData options (block_of k) d) field has-column opens);
+            ∙ sym (opening-last ends line.number (at - line.from) (contents_in k d) had (table_by InData options (block_of k) d) field has-column opens
+            ∙ ap (λ (x : Key). record (table_by InData options (block_of k) d) { begun = Some (row_opened had x (contents_in k d)) }) (same-key options));
         fits = block.fits;
         ends = end;
         settled = settled;
         grown = record { entries = omega (arith, few, one, grown.entries); elements = omega (arith, grown.elements); notes = omega (arith, few, one, grown.notes); to_tell = grown.to_tell; rooms = grown.rooms };
       }
 
-  pub last-unbuilt : (most : ℕ) (phase : Phase) (new : TableData) → 1 ≤ most → opens_block field ≡ false → is_laid_out field ≡ false
+  pub last-unbuilt : (most : ℕ) (phase : Phase) (new : TableData) → 1 ≤ most → opens_block field ≡ false → is_laid_out (kind_under key field) ≡ false
       → Makes k line 1 (bad (line_at ends (at - line.from) line.number)) phase d new
       → Makes k line most (last_made k line at had d) phase d new
   last-unbuilt most phase new few opens unbuilt made =
       makes-as k line 1 most (bad (line_at ends (at - line.from) line.number)) (last_made k line at had d) phase d new few
-      (λ options is. sym (unbuilt-last ends line.number (at - line.from) (contents_in k d) had (table_by InData options (block_of k) d) field has-column opens unbuilt))
+      (λ options is. sym (unbuilt-last ends line.number (at - line.from) (contents_in k d) had (table_by InData options (block_of k) d) field has-column opens
+      (ap (λ (x : Key). is_laid_out (kind_under x field)) (same-key options) ∙ unbuilt)))
       made
 
-  pub last-laid : (most : ℕ) (mid new : TableData) → line.to - at + 1 ≤ most → opens_block field ≡ false → is_laid_out field ≡ true
+  pub last-laid : (most : ℕ) (mid new : TableData) → line.to - at + 1 ≤ most → opens_block field ≡ false → is_laid_out (kind_under key field) ≡ true
       → TakesField k line at line.to d mid → EndsRow (block_of k) mid new → (EndsBy line.to mid → EndsBy line.to new) → new.open ≡ Nothing → Grows 0 1 mid new
       → Makes k line most (last_made k line at had d) InData d new
   last-laid most mid new few opens laid taken ended settled closed grown = record {
     table = λ options is.
         ended.table options
         ∙ ap (λ (contents : List Content). with_row contents (table_by InData options (block_of k) mid)) taken.row
-        ∙ ap (λ (t : TableRead). with_row (contents_in k d ++ content_read field ∷ []) t) (taken.table options)
-        ∙ sym (laid-last ends line.number (at - line.from) (contents_in k d) had (table_by InData options (block_of k) d) field has-column opens laid);
+        ∙ ap (λ (t : TableRead). with_row (contents_in k d ++ content_under key field ∷ []) t) (taken.table options)
+        ∙ sym (laid-last ends line.number (at - line.from) (contents_in k d) had (table_by InData options (block_of k) d) field has-column opens
+        (ap (λ (x : Key). is_laid_out (kind_under x field)) (same-key options) ∙ laid)
+        ∙ ap (λ (x : Key). with_row (contents_in k d ++ content_under x field ∷ []) (with_notes (notes_of_field x ends line.number (at - line.from) field) (table_by InData options (block_of k) d))) (same-key options));
     fits = ended.fits;
     ends = subst (λ (o : OpenBlock). OpenEndsAt line.to o new.rows.row) (sym closed) tt;
     settled = λ ends. settled (taken.settled ends);
@@ -201,8 +211,7 @@ module _ (k : KeptText) (line : DataLine) (at : ℕ) (had : Bool) (d : TableData
   surplus-fits fits = record {
     kept = fits.kept;
     columns = fits.columns;
-    first = fits.first;
-    serves = fits.serves;
+    served = fits.served;
     small = fits.small;
     whole = fits.whole;
     notes = subst (λ (n : KeptNotes). NotesWithin (length (block_of k)) n.notes) (sym told)
@@ -227,14 +236,14 @@ module _ (k : KeptText) (line : DataLine) (at : ℕ) (had : Bool) (d : TableData
       ∙ ap (λ (ts : List Told). with_notes ts (table_by InData options (block_of k) d)) (surplus-told (not had) sur-line)
 
   surplus-law : (options : Options) → fields_made k line at had d (table_by InData options (block_of k) d)
-      ≡ with_open_row (ends_in_block (fields line.separator (left_from k line at))) (row_opened (contents_in k d) true) (told-table options)
+      ≡ with_open_row (ends_in_block (fields line.separator (left_from k line at))) true (contents_in k d) (told-table options)
   surplus-law options =
       let some = some-fields line.separator (left_from k line at) in
       let t = table_by InData options (block_of k) d in
       let all : columns t ≤ length (contents_in k d) = omega (arith, full, length-map d.rows.row (content_of (block_of k))) in
       ap (λ (fs : List (List ℕ)). with_fields (ends_joined k.pending) line.number (at - line.from) fs (contents_in k d) had t) some.is
       ∙ no-room (ends_joined k.pending) line.number (at - line.from) (contents_in k d) had t some.next some.rest all
-      ∙ ap (λ (fs : List (List ℕ)). with_open_row (ends_in_block fs) (row_opened (contents_in k d) true) (told-table options)) (sym some.is)
+      ∙ ap (λ (fs : List (List ℕ)). with_open_row (ends_in_block fs) true (contents_in k d) (told-table options)) (sym some.is)
 
   surplus-settled : EndsBy line.to d → EndsBy line.to told_surplus
   surplus-settled ends = record {
@@ -249,8 +258,8 @@ module _ (k : KeptText) (line : DataLine) (at : ℕ) (had : Bool) (d : TableData
   surplus-opens most new few opens block end settled grown = record {
     table = λ options is.
         block.table options
-        ∙ ap (λ (t : TableRead). record t { begun = Some (row_opened (contents_in k d) true) }) (surplus-table options)
-        ∙ sym (surplus-law options ∙ ap (λ (b : Bool). with_open_row b (row_opened (contents_in k d) true) (told-table options)) opens);
+        ∙ ap (λ (t : TableRead). record t { begun = Some (row_opened true (key_next d) (contents_in k d)) }) (surplus-table options)
+        ∙ sym (surplus-law options ∙ ap (λ (b : Bool). with_open_row b true (contents_in k d) (told-table options)) opens);
     fits = block.fits;
     ends = end;
     settled = λ ends. settled (surplus-settled ends);
@@ -270,7 +279,7 @@ module _ (k : KeptText) (line : DataLine) (at : ℕ) (had : Bool) (d : TableData
     table = λ options is.
         ended.table options
         ∙ ap (λ (t : TableRead). with_row (contents_in k d) t) (surplus-table options)
-        ∙ sym (surplus-law options ∙ ap (λ (b : Bool). with_open_row b (row_opened (contents_in k d) true) (told-table options)) opens);
+        ∙ sym (surplus-law options ∙ ap (λ (b : Bool). with_open_row b true (contents_in k d) (told-table options)) opens);
     fits = ended.fits;
     ends = subst (λ (o : OpenBlock). OpenEndsAt line.to o new.rows.row) (sym closed) tt;
     settled = λ ends. settled (surplus-settled ends);
@@ -309,6 +318,12 @@ module _ (k : KeptText) (line : DataLine) (first at : ℕ) (had : Bool) (old now
       abbrev this : List ℕ
       this = slice_range (block_of k) at (at + len)
 
+      abbrev key_now : Key
+      key_now = key_next now
+
+      same-key-now : (options : Options) → key_at (serving (table_by InData options (block_of k) now)) (length (contents_in k now)) ≡ key_now
+      same-key-now options = key-is InData options (block_of k) now so_far.fits.served
+
       room : length (contents_in k now) < length now.format.format.asked
       room = omega (arith, column, length-map now.rows.row (content_of (block_of k)))
 
@@ -321,16 +336,17 @@ module _ (k : KeptText) (line : DataLine) (first at : ℕ) (had : Bool) (old now
           ap (λ (fs : List (List ℕ)). with_fields (ends_joined k.pending) line.number (at - line.from) fs (contents_in k now) had (table_by InData options (block_of k) now))
           (fields-first k line lies at len so_far.within is more ∙ ap (λ (fs : List (List ℕ)). this ∷ fs) behind-it.is)
 
-      pub fields-unbuilt : (phase : Phase) (new : TableData) → is_laid_out this ≡ false
+      pub fields-unbuilt : (phase : Phase) (new : TableData) → is_laid_out (kind_under key_now this) ≡ false
           → Makes k line 1 (bad (line_at (ends_joined k.pending) (at - line.from) line.number)) phase now new
           → Makes k line (line.to - first + 1) (fields_made k line first had old) phase old new
       fields-unbuilt phase new unbuilt made =
           fields-end phase new
           (makes-as k line 1 (line.to - at + 1) (bad (line_at (ends_joined k.pending) (at - line.from) line.number)) (fields_made k line at had now) phase now new (omega arith)
-          (λ options is. sym (made-by options ∙ unbuilt-field (ends_joined k.pending) line.number (at - line.from) (contents_in k now) had (table_by InData options (block_of k) now) this room behind-it.next behind-it.rest unbuilt))
+          (λ options is. sym (made-by options ∙ unbuilt-field (ends_joined k.pending) line.number (at - line.from) (contents_in k now) had (table_by InData options (block_of k) now) this room behind-it.next behind-it.rest
+          (ap (λ (x : Key). is_laid_out (kind_under x this)) (same-key-now options) ∙ unbuilt)))
           made)
 
-      pub fields-next : (new : TableData) → line.from ≤ at → is_laid_out this ≡ true → TakesField k line at (at + len) now new
+      pub fields-next : (new : TableData) → line.from ≤ at → is_laid_out (kind_under key_now this) ≡ true → TakesField k line at (at + len) now new
           → FieldsSoFar k line first (at + len + 1) had old new
       fields-next new from laid taken =
           let ends = ends_joined k.pending in
@@ -342,10 +358,11 @@ module _ (k : KeptText) (line : DataLine) (first at : ℕ) (had : Bool) (old now
             table = λ options.
                 let t = table_by InData options (block_of k) now in
                 sym (made-by options
-                ∙ one-field ends n (at - line.from) this next.next next.rest (contents_in k now) had t laid room
-                ∙ ap (λ (fs : List (List ℕ)). with_fields ends n (at - line.from + length this + 1) fs (contents_in k now ++ content_read this ∷ []) had (with_notes (notes_of_field ends n (at - line.from) this) t)) (sym next.is)
-                ∙ ap (λ (p : ℕ). with_fields ends n p (fields line.separator (left_from k line (at + len + 1))) (contents_in k now ++ content_read this ∷ []) had (with_notes (notes_of_field ends n (at - line.from) this) t)) place
-                ∙ ap (λ (cs : List Content). with_fields ends n (at + len + 1 - line.from) (fields line.separator (left_from k line (at + len + 1))) cs had (with_notes (notes_of_field ends n (at - line.from) this) t)) (sym taken.row)
+                ∙ one-field ends n (at - line.from) this next.next next.rest (contents_in k now) had t (ap (λ (x : Key). is_laid_out (kind_under x this)) (same-key-now options) ∙ laid) room
+                ∙ ap (λ (x : Key). with_fields ends n (at - line.from + length this + 1) (next.next ∷ next.rest) (contents_in k now ++ content_under x this ∷ []) had (with_notes (notes_of_field x ends n (at - line.from) this) t)) (same-key-now options)
+                ∙ ap (λ (fs : List (List ℕ)). with_fields ends n (at - line.from + length this + 1) fs (contents_in k now ++ content_under key_now this ∷ []) had (with_notes (notes_of_field key_now ends n (at - line.from) this) t)) (sym next.is)
+                ∙ ap (λ (p : ℕ). with_fields ends n p (fields line.separator (left_from k line (at + len + 1))) (contents_in k now ++ content_under key_now this ∷ []) had (with_notes (notes_of_field key_now ends n (at - line.from) this) t)) place
+                ∙ ap (λ (cs : List Content). with_fields ends n (at + len + 1 - line.from) (fields line.separator (left_from k line (at + len + 1))) cs had (with_notes (notes_of_field key_now ends n (at - line.from) this) t)) (sym taken.row)
                 ∙ ap (λ (u : TableRead). with_fields ends n (at + len + 1 - line.from) (fields line.separator (left_from k line (at + len + 1))) (contents_in k new) had u) (sym (taken.table options)))
                 ∙ so_far.table options;
             fits = taken.fits;

@@ -1,10 +1,10 @@
 -- Whole lines of the data, by what they are.
-use Rattle.std.proofs.Common.{◌≡◌, ◌≢◌, ℕ, ◌+◌, ◌-◌, ◌<◌, ◌≤◌, ◌^◌, Bool, true, false, List, [], ◌∷◌, ◌++◌, length, map, take, drop, Option, None, Some, refl, sym, ap, subst, ◌∙◌, arith, append-nil, length-append, if◌then◌else◌}
-use Rattle.std.specs.Prelude.{is_none, is_some, nat_lt, option_map, take_while}
+use Rattle.std.proofs.Common.{◌≡◌, ◌≢◌, ℕ, ◌+◌, ◌-◌, ◌<◌, ◌≤◌, ◌^◌, Bool, true, false, List, [], ◌∷◌, ◌++◌, length, map, take, drop, Option, Some, refl, sym, ap, subst, ◌∙◌, arith, append-nil, length-append, if◌then◌else◌}
+use Rattle.std.specs.Prelude.{is_some, nat_lt, option_map, take_while}
 use Rattle.std.specs.List.{slice_range}
-use Rattle.tbl_data.specs.DataRead.{behind_block, closed_block, field_notes, fields_with_block, item_notes, with_block_line, with_fields, with_line, with_row, with_text, with_whole}
+use Rattle.tbl_data.specs.DataRead.{behind_block, closed_block, field_notes, fields_with_block, item_notes, keyed, serving, with_block_line, with_fields, with_line, with_row, with_text, with_whole}
 use Rattle.tbl_data.specs.LineTaken.{EndsRow, Grows, LineLies, Makes, RowFits, block_line_made, contents_in, fields_made, left_from, made_by, more_notes, notes_kept, row_begun, text_made}
-use Rattle.tbl_data.specs.OpenBlocks.{is_dropped, is_open}
+use Rattle.tbl_data.specs.OpenBlocks.{had_surplus, is_open}
 use Rattle.tbl_data.specs.TableData.{DataFits, ElementEnds, EndsBy, OpenEndsAt, OpenFits, SameRooms, begun_by, table_by}
 use Rattle.tbl_data.specs.TableRead.{RowBegun, TableRead, columns, with_notes}
 use Rattle.tbl_data.specs.declared.data_line.DataLine.{DataLine}
@@ -13,19 +13,19 @@ use Rattle.tbl_data.specs.declared.phase.Phase.TheVariants.{InData, InFormat}
 use Rattle.tbl_data.specs.declared.table_data.OpenBlock.{OpenBlock}
 use Rattle.tbl_data.specs.declared.table_data.OpenBlock.TheVariants.{Dropped, Kept, Nothing}
 use Rattle.tbl_data.specs.declared.table_data.TableData.{TableData}
-use Rattle.tbl_data.proofs.BlockSteps.{begun-contents, begun-dropped, begun-some}
+use Rattle.tbl_data.proofs.BlockSteps.{begun-contents, begun-kept, begun-some, begun-surplus}
 use Rattle.tbl_data.proofs.EndsKept.{all-append, notes-end, within-append}
-use Rattle.tbl_data.proofs.FieldSteps.{outcome}
+use Rattle.tbl_data.proofs.FieldSteps.{content-of, is-laid, outcome}
 use Rattle.tbl_data.proofs.LineFields.{fields-alone, fields-first, makes-as, some-fields}
 use Rattle.tbl_data.proofs.NotesTold.{items-told}
 use Rattle.tbl_data.proofs.RowSteps.{entries_in-append, table-notes}
 use Rattle.tbl_format.specs.Format.{FormatRow, further}
-use Rattle.tbl_format.specs.Notes.{NotesWithin, told_of_all}
+use Rattle.tbl_options.specs.Notes.{NotesWithin, told_of_all}
 use Rattle.tbl_format.specs.RowsServed.{all_rows}
-use Rattle.tbl_format.specs.declared.message.Told.{Told}
-use Rattle.tbl_format.specs.declared.notes.Cause.TheVariants.{RequestInTextBlock}
-use Rattle.tbl_format.specs.declared.notes.KeptNote.{KeptNote}
-use Rattle.tbl_format.specs.declared.options.Options.{Options}
+use Rattle.tbl_options.specs.declared.message.Told.{Told}
+use Rattle.tbl_options.specs.declared.notes.Cause.TheVariants.{RequestInTextBlock}
+use Rattle.tbl_options.specs.declared.notes.KeptNote.{KeptNote}
+use Rattle.tbl_options.specs.declared.options.Options.{Options}
 use Rattle.tbl_kept.proofs.RowsKeeping.{RowBegunKept-command, RowBegunKept-first, RowBegunKept-rule, elements_of-command, elements_of-rule}
 use Rattle.tbl_kept.specs.Joined.{ends_joined, line_at}
 use Rattle.tbl_kept.specs.Rows.{RowsKept, Command as OneCommand, Rule as OneRule, elements_of, with_command, with_rule}
@@ -33,8 +33,8 @@ use Rattle.tbl_kept.specs.TableNotes.{KeptNotes}
 use Rattle.tbl_kept.specs.TableText.{KeptText, block_of}
 use Rattle.tbl_layout.proofs.Fields.{field_len, length-part, rest-part}
 use Rattle.tbl_layout.specs.Data.{fields}
-use Rattle.tbl_layout.specs.DataLines.{block_line_kind, ends_in_block, is_laid_out, len_of_fields, line_kind, without_opening}
-use Rattle.tbl_layout.specs.Entries.{Content, Element, content_read}
+use Rattle.tbl_layout.specs.DataLines.{block_line_kind, ends_in_block, len_of_fields, line_kind, without_opening}
+use Rattle.tbl_layout.specs.Entries.{Content, Element}
 use Rattle.tbl_layout.specs.KeptEntries.{content_of}
 use Rattle.tbl_layout.specs.declared.entry.Entry.{Entry}
 use Rattle.tbl_layout.specs.declared.data_lines.BlockLineKind.TheVariants.{End, Text}
@@ -47,7 +47,7 @@ use Rattle.tbl_text.specs.Measuring.{notes_from}
 -- between two lines all is known that is known between two fields
 pub row-fits : (bytes : List ℕ) (d : TableData) → length (all_rows d.format.format) < 2 ^ 32 → DataFits bytes d → RowFits bytes d
 row-fits bytes d small fits =
-    record { kept = fits.kept; columns = fits.columns; first = fits.first; serves = fits.serves; small = small; whole = fits.whole; notes = fits.notes }
+    record { kept = fits.kept; columns = fits.columns; served = fits.served; small = small; whole = fits.whole; notes = fits.notes }
 
 -- no field is kept where no block is open
 pub none-kept : (k : KeptText) (d : TableData) → DataFits (block_of k) d → d.open ≡ Nothing → d.rows.row ≡ []
@@ -80,7 +80,7 @@ kind-line k line kind other most phase d new is made =
 -- a further format
 module _ (k : KeptText) (line : DataLine) (d : TableData) (fits : DataFits (block_of k) d) (closed : d.open ≡ Nothing) where
   abbrev pub with_further : ℕ → TableData
-  with_further keys = record d { format = record d.format { format = further d.format.format }; keys = keys }
+  with_further keys = record d { format = record d.format { format = further d.format.format }; keys = keys; rules = 0 }
 
   same-rows : all_rows (further d.format.format) ≡ all_rows d.format.format
   same-rows = append-nil (all_rows d.format.format)
@@ -92,8 +92,8 @@ module _ (k : KeptText) (line : DataLine) (d : TableData) (fits : DataFits (bloc
   formats-follow keys is = record {
     table = λ options same.
         let t = table_by InData options (block_of k) d in
-        let next : keys - length (all_rows d.format.format) ≡ 0 = omega (arith, is) in
-        ap (λ (rows : List FormatRow). record t { phase = InFormat; format = further t.format; next_row = keys - length (all_rows d.format.format); body = elements_of (block_of k) rows d.rows.elements }) same-rows
+        let next : keys - 0 - length (all_rows d.format.format) ≡ 0 = omega (arith, is) in
+        ap (λ (rows : List FormatRow). record t { phase = InFormat; format = further t.format; next_row = keys - 0 - length (all_rows d.format.format); body = elements_of (block_of k) rows d.rows.elements }) same-rows
         ∙ ap (λ (n : ℕ). record t { phase = InFormat; format = further t.format; next_row = n }) next;
     fits = record {
       kept = RowBegunKept-first (block_of k) (all_rows (further d.format.format)) d.rows keys none-before
@@ -102,6 +102,7 @@ module _ (k : KeptText) (line : DataLine) (d : TableData) (fits : DataFits (bloc
       none = none-before;
       columns = omega (arith, fits.columns);
       first = is;
+      rules = refl;
       notes = fits.notes;
     };
     ends = subst (λ (o : OpenBlock). OpenEndsAt line.to o d.rows.row) (sym closed) tt;
@@ -122,8 +123,7 @@ module _ (k : KeptText) (line : DataLine) (d : TableData) (fits : DataFits (bloc
       kept = RowBegunKept-rule (block_of k) (all_rows d.format.format) d.rows d.keys sign fits.kept;
       block = fits.block;
       columns = fits.columns;
-      first = fits.first;
-      serves = fits.serves;
+      served = fits.served;
       whole = fits.whole;
       notes = fits.notes;
     };
@@ -151,8 +151,7 @@ module _ (k : KeptText) (line : DataLine) (d : TableData) (fits : DataFits (bloc
       kept = RowBegunKept-command (block_of k) (all_rows d.format.format) d.rows d.keys line.from line.to order within fits.kept;
       block = fits.block;
       columns = fits.columns;
-      first = fits.first;
-      serves = fits.serves;
+      served = fits.served;
       whole = fits.whole;
       notes = fits.notes;
     };
@@ -196,8 +195,7 @@ module _ (k : KeptText) (line : DataLine) (most : ℕ) (d mid : TableData) (some
       kept = made.fits.kept;
       block = made.fits.block;
       columns = made.fits.columns;
-      first = made.fits.first;
-      serves = made.fits.serves;
+      served = made.fits.served;
       whole = made.fits.whole;
       notes = subst (λ (n : KeptNotes). NotesWithin (length (block_of k)) n.notes) (sym told) (within-append (length (block_of k)) mid.notes.notes kept made.fits.notes (on-line (length (block_of k))));
     };
@@ -220,13 +218,6 @@ module _ (k : KeptText) (line : DataLine) (most : ℕ) (d mid : TableData) (some
     };
   })
 
-kept-open : (o : OpenBlock) → o ≡ Kept → o ≡ Nothing → ⊥
-kept-open o kept none = let is : Kept ≡ Nothing = sym kept ∙ none in absurd (cc)
-
-is-some-of : {A : Type 0} (x : Option A) → is_none x ≡ false → is_some x ≡ true
-is-some-of None is = absurd (cc)
-is-some-of (Some x) is = refl
-
 -- what is told of a line of a block that is kept
 pub text-notes : (k : KeptText) (line : DataLine) (d : TableData) (options : Options) → d.open ≡ Kept → DataFits (block_of k) d
     → with_notes (told_of_all (block_of k) (notes_kept (ends_joined k.pending) line.number 0 (notes_from 0 (items (left_from k line line.from)))))
@@ -237,7 +228,7 @@ text-notes k line d options is fits =
     let ends = ends_joined k.pending in
     let row = row_begun d.open (contents_in k d) in
     let t = record (table_by InData options (block_of k) d) { begun = Some (with_text text row) } in
-    let some : is_some row.block ≡ true = is-some-of row.block (begun-dropped d.open (block_of k) d.rows.row fits.block (λ none. kept-open d.open is none) ∙ ap is_dropped is) in
+    let some : is_some row.block ≡ true = begun-kept d.open (block_of k) d.rows.row fits.block is in
     ap (λ (ts : List Told). with_notes ts t) (items-told ends line.number 0 (block_of k) (items text))
     ∙ sym (ap (λ (b : Bool). with_notes (if b then item_notes ends line.number 0 (items text) else []) t) some)
 
@@ -260,9 +251,10 @@ fields-begun : (ends : List (ℕ × ℕ)) (n place : ℕ) (all : List (List ℕ)
 fields-begun ends n place all in_front had t begun =
     let room = columns t - length in_front in
     let texts = take room (without_opening all) in
-    let built = take_while is_laid_out texts in
-    outcome-begun (nat_lt (length built) (length texts)) (ends_in_block all) (nat_lt room (length all)) had (line_at ends (place + len_of_fields built) n) (line_at ends (place + len_of_fields texts - 1) n)
-    (in_front ++ map content_read texts) (with_notes (field_notes ends n place built) t) begun
+    let fields = keyed (serving t) (length in_front) texts in
+    let built = take_while is-laid fields in
+    outcome-begun (nat_lt (length built) (length texts)) (ends_in_block all) (nat_lt room (length all)) had (line_at ends (place + len_of_fields (take (length built) texts)) n) (line_at ends (place + len_of_fields texts - 1) n)
+    (in_front ++ map content-of fields) (with_notes (field_notes ends n place built) t) begun
 
 -- rooms go by no block
 rooms-of : (d : TableData) (o : OpenBlock) (new : TableData) → SameRooms (record d { «open» = o }) new → SameRooms d new
@@ -286,8 +278,8 @@ module _ (k : KeptText) (line : DataLine) (lies : LineLies (block_of k) line) (d
   same-contents : fields_with_block row_open ≡ contents_in k d
   same-contents = begun-contents d.open (block_of k) d.rows.row fits.block some
 
-  same-dropped : is_none row_open.block ≡ is_dropped d.open
-  same-dropped = begun-dropped d.open (block_of k) d.rows.row fits.block some
+  same-surplus : row_open.had_surplus ≡ had_surplus d.open
+  same-surplus = begun-surplus d.open (block_of k) d.rows.row fits.block some
 
   end-is : (options : Options) → options.separator ≡ line.separator
       → block_line_made End k line d (table_by InData options (block_of k) d)
@@ -310,10 +302,10 @@ module _ (k : KeptText) (line : DataLine) (lies : LineLies (block_of k) line) (d
     grown = record { entries = omega (arith, grown.entries); elements = grown.elements; notes = omega (arith, grown.notes); to_tell = grown.to_tell; rooms = rooms-of d Nothing new grown.rooms };
   }
 
-  pub end-fields : (most : ℕ) (phase : Phase) (new : TableData) (had : Bool) → had ≡ is_dropped d.open → line.from + 2 + len < line.to → line.to - (line.from + 2 + len + 1) + 1 ≤ most
+  pub end-fields : (most : ℕ) (phase : Phase) (new : TableData) (had : Bool) → had ≡ had_surplus d.open → line.from + 2 + len < line.to → line.to - (line.from + 2 + len + 1) + 1 ≤ most
       → Makes k line (line.to - (line.from + 2 + len + 1) + 1) (fields_made k line (line.from + 2 + len + 1) had ended) phase ended new
       → Makes k line most (block_line_made End k line d) phase d new
-  end-fields most phase new had dropped more few made =
+  end-fields most phase new had surplus more few made =
       let at = line.from + 2 + len in
       let next = some-fields line.separator (left_from k line (at + 1)) in
       let ends = ends_joined k.pending in
@@ -327,8 +319,8 @@ module _ (k : KeptText) (line : DataLine) (lies : LineLies (block_of k) line) (d
             ∙ fields-begun ends n (at + 1 - line.from) (fields line.separator (left_from k line (at + 1))) (contents_in k d) had t (begun_by Nothing (contents_in k d))
             ∙ ap (λ (p : ℕ). with_fields ends n p (fields line.separator (left_from k line (at + 1))) (contents_in k d) had t) place
             ∙ ap (λ (cs : List Content). with_fields ends n (length first + 3) (fields line.separator (left_from k line (at + 1))) cs had t) (sym same-contents)
-            ∙ ap (λ (b : Bool). with_fields ends n (length first + 3) (fields line.separator (left_from k line (at + 1))) (fields_with_block row_open) b t) (dropped ∙ sym same-dropped)
-            ∙ ap (λ (fs : List (List ℕ)). with_fields ends n (length first + 3) fs (fields_with_block row_open) (is_none row_open.block) t) next.is
+            ∙ ap (λ (b : Bool). with_fields ends n (length first + 3) (fields line.separator (left_from k line (at + 1))) (fields_with_block row_open) b t) (surplus ∙ sym same-surplus)
+            ∙ ap (λ (fs : List (List ℕ)). with_fields ends n (length first + 3) fs (fields_with_block row_open) row_open.had_surplus t) next.is
             ∙ sym (end-is options sep
             ∙ ap (λ (fs : List (List ℕ)). behind_block ends n fs row_open t) (fields-first k line lies (line.from + 2) len two is more ∙ ap (λ (fs : List (List ℕ)). first ∷ fs) next.is));
         fits = made.fits;
@@ -342,7 +334,7 @@ pub whole-open : (o : OpenBlock) (ends : List (ℕ × ℕ)) (n : ℕ) (line : Li
     → with_block_line (block_line_kind line) ends n line (row_begun o contents) t ≡ with_whole (begun_by o contents) ends n line t
 whole-open Nothing ends n line contents t some = absurd (some refl)
 whole-open Kept ends n line contents t some = refl
-whole-open Dropped ends n line contents t some = refl
+whole-open (Dropped had) ends n line contents t some = refl
 
 pub whole-closed : (o : OpenBlock) (ends : List (ℕ × ℕ)) (n : ℕ) (line : List ℕ) (contents : List Content) (t : TableRead) → o ≡ Nothing
     → with_line (line_kind line) ends n line t ≡ with_whole (begun_by o contents) ends n line t
@@ -351,7 +343,7 @@ whole-closed o ends n line contents t is = sym (ap (λ (x : OpenBlock). with_who
 pub some-open : (o : OpenBlock) → is_open o ≡ true → o ≢ Nothing
 some-open Nothing is none = absurd (cc)
 some-open Kept is none = absurd (cc)
-some-open Dropped is none = absurd (cc)
+some-open (Dropped had) is none = absurd (cc)
 
 -- a block ends with the table
 pub closed-open : (bytes : List ℕ) (d : TableData) (t : TableRead) → DataFits bytes d → d.open ≢ Nothing

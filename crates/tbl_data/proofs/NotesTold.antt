@@ -3,9 +3,9 @@ use Rattle.std.proofs.Common.{◌≡◌, ℕ, suc, ◌+◌, ◌≤◌, Bool, tru
 use Rattle.std.specs.Prelude.{is_some, option_map, option_to_list}
 use Rattle.tbl_data.specs.DataRead.{item_notes}
 use Rattle.tbl_data.specs.LineTaken.{more_notes, notes_kept}
-use Rattle.tbl_format.specs.Notes.{NotesWithin, told_at, told_of_all}
-use Rattle.tbl_format.specs.declared.message.Message.TheVariants.{NotMeasured as NotMeasuredMessage}
-use Rattle.tbl_format.specs.declared.message.Told.{Told}
+use Rattle.tbl_options.specs.Notes.{NotesWithin, told_at, told_of_all}
+use Rattle.tbl_options.specs.declared.message.Message.TheVariants.{NotMeasured as NotMeasuredMessage}
+use Rattle.tbl_options.specs.declared.message.Told.{Told}
 use Rattle.tbl_kept.specs.Joined.{line_at}
 use Rattle.tbl_kept.specs.TableNotes.{KeptNotes}
 use Rattle.memchr.specs.Find.{IsFirstByte, Nowhere, Passes, is_byte2}

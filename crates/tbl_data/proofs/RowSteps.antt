@@ -1,35 +1,38 @@
 -- What is kept of a table behind a step of its data: a row that ends, a block that opens, messages.
-use Rattle.std.proofs.Common.{◌≡◌, ℕ, suc, ◌+◌, ◌-◌, ◌<◌, ◌≤◌, Bool, true, false, List, [], ◌∷◌, ◌++◌, length, map, Some, refl, sym, ap, subst, ◌∙◌, arith, length-append, nat_lt, if◌then◌else◌}
+use Rattle.std.proofs.Common.{◌≡◌, ℕ, suc, ◌+◌, ◌-◌, ◌<◌, ◌≤◌, Bool, true, false, List, [], ◌∷◌, ◌++◌, length, map, take, drop, Option, None, Some, refl, sym, ap, ◌∙◌, arith, length-append, nat_lt, if◌then◌else◌}
 use Rattle.std.specs.List.{slice_range}
-use Rattle.std.proofs.lemmas.Bool.{eq-eqb, ltb-true}
+use Rattle.std.proofs.lemmas.Bool.{eq-eqb}
 use Rattle.std.proofs.lemmas.Bool.Decides.{nat_tests}
-use Rattle.std.proofs.lemmas.List.{map-append}
-use Rattle.std.proofs.Math.Seq.{get_or-append_right}
-use Rattle.tbl_data.specs.FieldsTaken.{row_opened}
-use Rattle.tbl_data.specs.LineTaken.{EndsRow, Grows, OpensBlock, RowFits, more_notes}
-use Rattle.tbl_data.specs.TableData.{ElementEnds, EndsBy, EndsInBlock, EntryEnds, LastEndsAt, row_with_block, table_by}
+use Rattle.std.proofs.lemmas.List.{length-drop, length-map, map-append}
+use Rattle.std.proofs.Math.Seq.{drop-append-add, get_or-append_right}
+use Rattle.tbl_data.specs.DataRead.{row_opened, row_opened_under, rules_in_front, rules_next, serving}
+use Rattle.tbl_data.specs.LineTaken.{EndsRow, Grows, OpensBlock, RowFits, key_next, more_notes}
+use Rattle.tbl_data.specs.TableData.{ElementEnds, EndsBy, EndsInBlock, EntryEnds, LastEndsAt, Serves, row_with_block, table_by}
 use Rattle.tbl_data.specs.TableRead.{RowBegun, with_notes}
 use Rattle.tbl_data.specs.declared.phase.Phase.{Phase}
 use Rattle.tbl_data.specs.declared.phase.Phase.TheVariants.{InData}
-use Rattle.tbl_data.specs.declared.table_data.OpenBlock.TheVariants.{Kept, Nothing}
+use Rattle.tbl_data.specs.declared.table_data.OpenBlock.TheVariants.{Dropped, Kept, Nothing}
 use Rattle.tbl_data.specs.declared.table_data.TableData.{TableData}
 use Rattle.tbl_data.proofs.EndsKept.{all-append}
-use Rattle.tbl_format.specs.Format.{FormatRow}
-use Rattle.tbl_format.specs.Notes.{told_of, told_of_all}
+use Rattle.tbl_data.proofs.RuleRows.{rule_rows-fewer, rule_rows-last}
+use Rattle.tbl_format.specs.Format.{Format, FormatRow}
+use Rattle.tbl_options.specs.Notes.{told_of, told_of_all}
 use Rattle.tbl_format.specs.RowsServed.{all_rows, next_of, no_keys, row_at}
 use Rattle.tbl_format.specs.declared.format.FormatKey.{FormatKey}
-use Rattle.tbl_format.specs.declared.message.Told.{Told}
-use Rattle.tbl_format.specs.declared.notes.KeptNote.{KeptNote}
-use Rattle.tbl_format.specs.declared.options.Options.{Options}
+use Rattle.tbl_options.specs.declared.message.Told.{Told}
+use Rattle.tbl_options.specs.declared.notes.KeptNote.{KeptNote}
+use Rattle.tbl_options.specs.declared.options.Options.{Options}
 use Rattle.tbl_kept.proofs.RowsKeeping.{RowBegunKept-entry, RowBegunKept-first, RowsKept-row, contents-entry, elements_of-row}
 use Rattle.tbl_kept.specs.RowsLaying.{AreOpened, IsOpenedKind}
 use Rattle.tbl_layout.specs.declared.entry.EntryKind.{EntryKind}
 use Rattle.tbl_layout.specs.declared.entry.EntryKind.TheVariants.{Block as BlockKind, Repeated as RepeatedKind, Ruled as RuledKind, Short as ShortKind, Split as SplitKind, Text as TextKind}
 use Rattle.tbl_format.specs.declared.format.Key.{Key}
-use Rattle.tbl_kept.specs.Rows.{AreKept, KeptElement, KeptRows, Row, elements_of, entries_in, holding, with_entry, with_row as row_kept}
+use Rattle.tbl_kept.specs.Rows.{AreKept, KeptElement, KeptRows, Row, elements_of, entries_in, holding, rows_in_front, with_entry, with_row as row_kept}
 use Rattle.tbl_kept.specs.TableNotes.{KeptNotes}
-use Rattle.tbl_layout.specs.Entries.{Block, Content, Element, Row as OneRow, key_at}
-use Rattle.tbl_layout.specs.KeptEntries.{IsKeptBy, block_lines, content_of, not_filled, opened_at}
+use Rattle.tbl_layout.specs.Entries.{Block, Content, Element, Row as OneRow, completed, key_at}
+use Rattle.tbl_layout.specs.KeptEntries.{IsKeptBy, block_lines, content_of, not_filled, opened_at, rule_entry}
+use Rattle.tbl_layout.specs.RuleKeys.{rule_rows, rule_sign}
+use Rattle.tbl_layout.specs.declared.data_lines.RuleSign.{RuleSign}
 use Rattle.tbl_layout.specs.declared.columns.Column.{Column}
 use Rattle.tbl_layout.specs.declared.entry.Entry.{Entry}
 use Rattle.tbl_text.specs.BlockWords.{lines_in}
@@ -54,40 +57,89 @@ holding-length format column [] columns = refl
 holding-length format column (e ∷ entries) [] = refl
 holding-length format column (e ∷ entries) (c ∷ columns) = ap suc (holding-length format (suc column) entries columns)
 
--- the row of the last format, by its place among all
+-- the row of the last format, by its place among all, and those from one on
 serving-at : (earlier rows : List FormatRow) (keys : ℕ) → length earlier ≤ keys → row_at (earlier ++ rows) keys ≡ row_at rows (keys - length earlier)
 serving-at earlier rows keys behind = get_or-append_right earlier rows keys no_keys behind
 
--- the row behind it
-module _ (earlier rows : List FormatRow) (keys : ℕ) (first : length earlier ≤ keys) where
-  next-by : (more : Bool) → nat_lt (keys - length earlier + 1) (length rows) ≡ more
-      → (if more then keys + 1 else keys) - length earlier ≡ next_of (keys - length earlier) (length rows)
-  next-by true is =
-      let next : keys + 1 - length earlier ≡ keys - length earlier + 1 = omega (arith, first) in
-      next ∙ sym (ap (λ (b : Bool). if b then keys - length earlier + 1 else keys - length earlier) is)
-  next-by false is = sym (ap (λ (b : Bool). if b then keys - length earlier + 1 else keys - length earlier) is)
+rows-from : (earlier rows : List FormatRow) (at : ℕ) → length earlier ≤ at → drop (at - length earlier) rows ≡ drop at (earlier ++ rows)
+rows-from earlier rows at behind =
+    let here : length earlier + (at - length earlier) ≡ at = omega (arith, behind) in
+    sym (drop-append-add earlier rows (at - length earlier)) ∙ ap (λ (n : ℕ). drop n (earlier ++ rows)) here
 
-  same-test : (more : Bool) → nat_lt (keys + 1) (length (earlier ++ rows)) ≡ more → nat_lt (keys - length earlier + 1) (length rows) ≡ more
-  same-test true is = grind (arith, nat_tests, is, first, length-append earlier rows)
-  same-test false is = grind (arith, nat_tests, is, first, length-append earlier rows)
+-- a row of a format serves the next row of the data, by the place of the first of those in front of it that weren't served
+module _ (f : Format) (keys rules : ℕ) (served : Serves f keys rules) where
+  abbrev first-left : ℕ
+  first-left = keys - rules - length f.earlier
 
-  pub next-row : (next : ℕ) → next ≡ (if nat_lt (keys + 1) (length (earlier ++ rows)) then keys + 1 else keys)
-      → next - length earlier ≡ next_of (keys - length earlier) (length rows)
-  next-row next is =
-      let more = nat_lt (keys + 1) (length (earlier ++ rows)) in
-      ap (λ (k : ℕ). k - length earlier) is ∙ next-by more (same-test more refl)
+  abbrev left : List FormatRow
+  left = drop first-left f.rows
 
--- it is one of them
-pub record IsNext (keys count next : ℕ) : Type 0 where
-  pub behind : keys ≤ next
-  pub serves : next < count
+  left-is : left ≡ drop (keys - rules) (all_rows f)
+  left-is = rows-from f.earlier f.rows (keys - rules) (omega (arith, served.first))
 
-next-within : (keys count : ℕ) (more : Bool) → nat_lt (keys + 1) count ≡ more → keys < count → IsNext keys count (if more then keys + 1 else keys)
-next-within keys count true is serves = record { behind = omega arith; serves = ltb-true (keys + 1) count is }
-next-within keys count false is serves = record { behind = omega arith; serves = serves }
+  rules-are : rule_rows left ≡ rules
+  rules-are = ap rule_rows left-is ∙ served.skipped
 
-pub next-is : (keys count next : ℕ) → next ≡ (if nat_lt (keys + 1) count then keys + 1 else keys) → keys < count → IsNext keys count next
-next-is keys count next is serves = subst (IsNext keys count) (sym is) (next-within keys count (nat_lt (keys + 1) count) refl serves)
+  place-is : first-left + rule_rows left ≡ keys - length f.earlier
+  place-is = omega (arith, rules-are, served.first)
+
+  front-is : take (rule_rows left) left ≡ rows_in_front (all_rows f) keys rules
+  front-is = ap (λ (n : ℕ). take n left) rules-are ∙ ap (λ (rows : List FormatRow). take rules rows) left-is
+
+  row-is : row_at f.rows (first-left + rule_rows left) ≡ row_at (all_rows f) keys
+  row-is = ap (λ (n : ℕ). row_at f.rows n) place-is ∙ sym (serving-at f.earlier f.rows keys (omega (arith, served.first)))
+
+-- the key of the column that comes next
+pub key-is : (phase : Phase) (options : Options) (bytes : List ℕ) (d : TableData) → Serves d.format.format d.keys d.rules
+    → key_at (serving (table_by phase options bytes d)) (length (map (content_of bytes) d.rows.row)) ≡ key_next d
+key-is phase options bytes d served =
+    ap (λ (row : FormatRow). key_at row (length (map (content_of bytes) d.rows.row))) (row-is d.format.format d.keys d.rules served)
+    ∙ ap (λ (n : ℕ). key_at (row_at (all_rows d.format.format) d.keys) n) (length-map d.rows.row (content_of bytes))
+
+-- another row serves the row of the data behind it
+pub record IsNext (f : Format) (keys next rules : ℕ) : Type 0 where
+  pub served : Serves f next rules
+  pub is : next - rules - length f.earlier ≡ next_of (keys - length f.earlier) (length f.rows)
+
+module _ (f : Format) (keys rules : ℕ) (served : Serves f keys rules) where
+  abbrev from : ℕ
+  from = keys - length f.earlier
+
+  behind-earlier : length f.earlier ≤ keys
+  behind-earlier = omega (arith, served.first)
+
+  next-by : (more : Bool) → nat_lt (from + 1) (length f.rows) ≡ more → next_of from (length f.rows) ≡ (if more then from + 1 else from)
+  next-by more is = ap (λ (b : Bool). if b then from + 1 else from) is
+
+  pub next-served : keys + 1 < length (all_rows f) → (next : ℕ) → next ≡ rule_rows (drop (keys + 1) (all_rows f)) → IsNext f keys (keys + 1 + next) next
+  next-served more next is =
+      let left = drop (keys + 1) (all_rows f) in
+      let some : length left ≡ length (all_rows f) - (keys + 1) = length-drop (keys + 1) (all_rows f) in
+      let fewer = rule_rows-fewer left (omega (arith, some, more)) in
+      let back : keys + 1 + next - next ≡ keys + 1 = omega arith in
+      let test : nat_lt (from + 1) (length f.rows) ≡ true = grind (arith, nat_tests, more, behind-earlier, length-append f.earlier f.rows) in
+      let place : keys + 1 + next - next - length f.earlier ≡ from + 1 = omega (arith, behind-earlier) in
+      record {
+        served = record {
+          first = omega (arith, behind-earlier);
+          serves = omega (arith, is, some, fewer, more);
+          skipped = ap (λ (n : ℕ). rule_rows (drop n (all_rows f))) back ∙ sym is;
+        };
+        is = place ∙ sym (next-by true test);
+      }
+
+  pub last-served : length (all_rows f) ≤ keys + 1 → IsNext f keys keys 0
+  last-served last =
+      let test : nat_lt (from + 1) (length f.rows) ≡ false = grind (arith, nat_tests, last, behind-earlier, length-append f.earlier f.rows) in
+      let place : keys - 0 - length f.earlier ≡ from = omega arith in
+      record {
+        served = record {
+          first = omega (arith, behind-earlier);
+          serves = served.serves;
+          skipped = ap (λ (n : ℕ). rule_rows (drop n (all_rows f))) (omega arith) ∙ rule_rows-last (all_rows f) keys last;
+        };
+        is = place ∙ sym (next-by false test);
+      }
 
 -- the blocks of a row that is kept aren't filled
 opened-by : (kind : EntryKind) (bytes : List ℕ) (key : Key) (e : Entry) → e.kind ≡ kind → IsKeptBy kind bytes key e → IsOpenedKind kind
@@ -110,37 +162,43 @@ module _ (bytes : List ℕ) (d : TableData) where
   abbrev formats : List FormatRow
   formats = all_rows d.format.format
 
-  abbrev pub row_ended : ℕ → TableData
-  row_ended next = record d { keys = next; rows = row_kept d.keys (row_at formats d.keys) d.rows; «open» = Nothing }
+  abbrev pub row_ended : ℕ → ℕ → TableData
+  row_ended next rules =
+      record d { keys = next; rules = rules; rows = row_kept d.keys d.rules (row_at formats d.keys) d.rows; «open» = Nothing }
 
-  pub row-ends : (next : ℕ) → next ≡ (if nat_lt (d.keys + 1) (length formats) then d.keys + 1 else d.keys) → RowFits bytes d
-      → EndsRow bytes d (row_ended next)
-  row-ends next is fits =
-      let earlier = d.format.format.earlier in
-      let rows = d.format.format.rows in
+  pub row-ends : (next rules : ℕ) → IsNext d.format.format d.keys next rules → length (row_at formats d.keys).keys ≤ length d.format.format.asked
+      → RowFits bytes d → EndsRow bytes d (row_ended next rules)
+  row-ends next rules is few fits =
+      let f = d.format.format in
       let contents = map (content_of bytes) d.rows.row in
       let body = elements_of bytes formats d.rows.elements in
-      let serves = next-is d.keys (length formats) next is fits.serves in
-      let first : length earlier ≤ next = omega (arith, serves.behind, fits.first) in
+      let served = fits.served in
+      let before : d.rules ≤ d.keys = omega (arith, served.first) in
+      let within : length (row_at formats d.keys).keys ≤ length d.rows.columns = omega (arith, few, fits.columns) in
       record {
         table = λ options.
-            ap (λ (n : ℕ). record (table_by InData options bytes (row_ended next)) { next_row = n }) (next-row earlier rows d.keys fits.first next is)
-            ∙ ap (λ (b : List Element). record (table_by InData options bytes (row_ended next)) { next_row = next_of (d.keys - length earlier) (length rows); body = b })
-            (elements_of-row bytes formats d.rows d.keys ∙ ap (λ (r : FormatRow). body ++ OneRow r contents ∷ []) (serving-at earlier rows d.keys fits.first));
+            let t = table_by InData options bytes d in
+            let ended = table_by InData options bytes (row_ended next rules) in
+            let place = next_of (t.next_row + rules_next t) (length f.rows) in
+            ap (λ (n : ℕ). record ended { next_row = n }) (is.is ∙ sym (ap (λ (n : ℕ). next_of n (length f.rows)) (place-is f d.keys d.rules served)))
+            ∙ ap (λ (b : List Element). record ended { next_row = place; body = b }) (elements_of-row bytes formats d.rows d.keys d.rules)
+            ∙ ap (λ (rows : List FormatRow). record ended { next_row = place; body = body ++ OneRow rows (row_at formats d.keys) (completed (row_at formats d.keys) contents) ∷ [] }) (sym (front-is f d.keys d.rules served))
+            ∙ ap (λ (row : FormatRow). record ended { next_row = place; body = body ++ OneRow (rules_in_front t) row (completed row contents) ∷ [] }) (sym (row-is f d.keys d.rules served));
         fits = record {
-          kept = RowBegunKept-first bytes formats (row_kept d.keys (row_at formats d.keys) d.rows) next refl (RowsKept-row bytes formats d.rows d.keys fits.serves fits.kept);
+          kept = RowBegunKept-first bytes formats (row_kept d.keys d.rules (row_at formats d.keys) d.rows) next refl
+              (RowsKept-row bytes formats d.rows d.keys d.rules served.serves before within fits.kept);
           block = refl;
           columns = holding-length (row_at formats d.keys) 0 d.rows.row d.rows.columns ∙ fits.columns;
-          first = first;
-          serves = serves.serves;
+          served = is.served;
           whole = fits.whole;
           notes = fits.notes;
         };
       }
 
-pub row-grows : (d : TableData) (next keys : ℕ) (format : FormatRow) → Grows 0 1 d (record d { keys = next; rows = row_kept keys format d.rows; «open» = Nothing })
-row-grows d next keys format =
-    let row : List KeptElement = Row keys 1 d.rows.row ∷ [] in
+pub row-grows : (d : TableData) (next skipped keys rules : ℕ) (format : FormatRow)
+    → Grows 0 1 d (record d { keys = next; rules = skipped; rows = row_kept keys rules format d.rows; «open» = Nothing })
+row-grows d next skipped keys rules format =
+    let row : List KeptElement = Row keys rules 1 d.rows.row ∷ [] in
     record {
       entries = omega (arith, entries_in-append d.rows.elements row);
       elements = omega (arith, length-append d.rows.elements row);
@@ -149,23 +207,23 @@ row-grows d next keys format =
       rooms = record { entries = refl; elements = refl; columns = refl; notes = refl; keys = refl; asked = refl; escapes = refl };
     }
 
-pub row-settled : (d : TableData) (next keys : ℕ) (format : FormatRow) (place : ℕ) → EndsBy place d
-    → EndsBy place (record d { keys = next; rows = row_kept keys format d.rows; «open» = Nothing })
-row-settled d next keys format place ends =
-    record { elements = all-append (ElementEnds place) d.rows.elements (Row keys 1 d.rows.row) ends.elements ends.row; row = tt; notes = ends.notes }
+pub row-settled : (d : TableData) (next skipped keys rules : ℕ) (format : FormatRow) (place : ℕ) → EndsBy place d
+    → EndsBy place (record d { keys = next; rules = skipped; rows = row_kept keys rules format d.rows; «open» = Nothing })
+row-settled d next skipped keys rules format place ends =
+    record { elements = all-append (ElementEnds place) d.rows.elements (Row keys rules 1 d.rows.row) ends.elements ends.row; row = tt; notes = ends.notes }
 
 pub opened-settled : (d : TableData) (to : ℕ) → EndsBy to d → EndsBy to (record d { rows = with_entry (opened_at to) d.rows; «open» = Kept })
 opened-settled d to ends =
     record { elements = ends.elements; row = all-append (EntryEnds to) d.rows.row (opened_at to) ends.row (omega arith); notes = ends.notes }
 
 -- a row of which the keys are known is that one
-pub row-by : (keys : ℕ) (row : FormatRow) (ks : List FormatKey) (k new : KeptRows) → ks ≡ row.keys → ((bars : ℕ) → new ≡ row_kept keys (record { keys = ks; bars = bars }) k)
-    → new ≡ row_kept keys row k
-row-by keys row ks k new is made = made row.bars ∙ ap (λ (xs : List FormatKey). row_kept keys (record { keys = xs; bars = row.bars }) k) is
+pub row-by : (keys rules : ℕ) (row : FormatRow) (ks : List FormatKey) (k new : KeptRows) → ks ≡ row.keys
+    → ((bars : ℕ) → new ≡ row_kept keys rules (record { keys = ks; bars = bars }) k) → new ≡ row_kept keys rules row k
+row-by keys rules row ks k new is made = made row.bars ∙ ap (λ (xs : List FormatKey). row_kept keys rules (record { keys = xs; bars = row.bars }) k) is
 
 -- a block opens
 pub block-last : (contents : List Content) (lines : List (List ℕ))
-    → row_with_block (contents ++ Block lines ∷ []) ≡ record { fields = contents; block = Some lines }
+    → row_with_block (contents ++ Block lines ∷ []) ≡ record { fields = contents; block = Some lines; had_surplus = false }
 block-last [] lines = refl
 block-last (content ∷ []) lines = refl
 block-last (content ∷ next ∷ contents) lines =
@@ -181,16 +239,17 @@ ends-at [] to = refl
 ends-at (e ∷ []) to = refl
 ends-at (e ∷ next ∷ row) to = ends-at (next ∷ row) to
 
-pub opens-kept : (bytes : List ℕ) (d : TableData) (to : ℕ) → to ≤ length bytes → length d.rows.row < length d.rows.columns → RowFits bytes d
-    → OpensBlock bytes false d (record d { rows = with_entry (opened_at to) d.rows; «open» = Kept })
-opens-kept bytes d to within column fits =
+pub opens-kept : (bytes : List ℕ) (d : TableData) (to : ℕ) → to ≤ length bytes → length d.rows.row < length d.rows.columns → rule_sign (key_next d) ≡ None
+    → RowFits bytes d → OpensBlock bytes false d (record d { rows = with_entry (opened_at to) d.rows; «open» = Kept })
+opens-kept bytes d to within column none fits =
     let rows = with_entry (opened_at to) d.rows in
     let contents = map (content_of bytes) d.rows.row in
-    let none : block_lines bytes to to ≡ [] = ap (λ (b : Bool). if b then [] else lines_in (slice_range bytes (to + 1) to)) (eq-eqb to to refl) in
-    let block : row_with_block (map (content_of bytes) rows.row) ≡ row_opened contents false =
+    let no-line : block_lines bytes to to ≡ [] = ap (λ (b : Bool). if b then [] else lines_in (slice_range bytes (to + 1) to)) (eq-eqb to to refl) in
+    let block : row_with_block (map (content_of bytes) rows.row) ≡ row_opened false (key_next d) contents =
     ap row_with_block (contents-entry bytes (all_rows d.format.format) d.rows (opened_at to))
     ∙ block-last contents (block_lines bytes to to)
-    ∙ ap (λ (lines : List (List ℕ)). record { fields = contents; block = Some lines }) none in
+    ∙ ap (λ (lines : List (List ℕ)). record { fields = contents; block = Some lines; had_surplus = false }) no-line
+    ∙ sym (ap (λ (sign : Option RuleSign). row_opened_under sign contents) none) in
     let here : to ≤ to = omega arith in
     record {
       table = λ options. ap (λ (row : RowBegun). record (table_by InData options bytes d) { begun = Some row }) block;
@@ -199,9 +258,50 @@ opens-kept bytes d to within column fits =
             (record { lies = record { order = here; within = within }; is = refl }) fits.kept;
         block = ends-in-block d.rows.row to;
         columns = fits.columns;
-        first = fits.first;
-        serves = fits.serves;
+        served = fits.served;
         whole = fits.whole;
         notes = fits.notes;
       };
     }
+
+-- and under a rule key it is dropped
+pub opens-ruled : (bytes : List ℕ) (d : TableData) (to : ℕ) (sign : RuleSign) → to ≤ length bytes → length d.rows.row < length d.rows.columns
+    → rule_sign (key_next d) ≡ Some sign → RowFits bytes d
+    → OpensBlock bytes false d (record d { rows = with_entry (rule_entry to 0 (RuledKind sign)) d.rows; «open» = Dropped false })
+opens-ruled bytes d to sign within column is fits =
+    let e = rule_entry to 0 (RuledKind sign) in
+    let contents = map (content_of bytes) d.rows.row in
+    let row : record { fields = map (content_of bytes) (with_entry e d.rows).row; block = None; had_surplus = false } ≡ row_opened false (key_next d) contents =
+    ap (λ (fields : List Content). record { fields = fields; block = None; had_surplus = false }) (contents-entry bytes (all_rows d.format.format) d.rows e)
+    ∙ sym (ap (λ (s : Option RuleSign). row_opened_under s contents) is) in
+    record {
+      table = λ options. ap (λ (r : RowBegun). record (table_by InData options bytes d) { begun = Some r }) row;
+      fits = record {
+        kept = RowBegunKept-entry bytes (all_rows d.format.format) d.rows d.keys e column
+            (record { order = omega arith; within = omega (arith, within) }) fits.kept;
+        block = tt;
+        columns = fits.columns;
+        served = fits.served;
+        whole = fits.whole;
+        notes = fits.notes;
+      };
+    }
+
+pub ruled-settled : (d : TableData) (to : ℕ) (sign : RuleSign) → EndsBy to d
+    → EndsBy to (record d { rows = with_entry (rule_entry to 0 (RuledKind sign)) d.rows; «open» = Dropped false })
+ruled-settled d to sign ends = record {
+  elements = ends.elements;
+  row = all-append (EntryEnds to) d.rows.row (rule_entry to 0 (RuledKind sign)) ends.row (omega arith);
+  notes = ends.notes;
+}
+
+-- and without a column
+pub opens-surplus : (bytes : List ℕ) (d : TableData) → RowFits bytes d → OpensBlock bytes true d (record d { «open» = Dropped true })
+opens-surplus bytes d fits = record {
+  table = λ options. refl;
+  fits = record { kept = fits.kept; block = tt; columns = fits.columns; served = fits.served; whole = fits.whole; notes = fits.notes };
+}
+
+-- no more rows of rule keys stand in front of the row that serves than rows at all
+pub rules-in-front : (bytes : List ℕ) (d : TableData) → RowFits bytes d → d.rules ≤ d.keys
+rules-in-front bytes d fits = omega (arith, fits.served.first)

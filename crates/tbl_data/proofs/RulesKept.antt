@@ -1,17 +1,17 @@
 -- A field that is a rule, as it is kept in the row that is begun.
-use Rattle.std.proofs.Common.{◌≡◌, ℕ, ◌+◌, ◌-◌, ◌<◌, ◌≤◌, List, [], length, refl, sym, ap, subst, arith}
+use Rattle.std.proofs.Common.{◌≡◌, ℕ, ◌-◌, ◌<◌, ◌≤◌, List, [], length, refl, sym, ap, subst, arith}
 use Rattle.std.specs.List.{slice_range}
 use Rattle.tbl_data.specs.DataRead.{notes_by_kind}
-use Rattle.tbl_data.specs.LineTaken.{KeepsRule, LineLies, RowFits, TakesField}
+use Rattle.tbl_data.specs.LineTaken.{KeepsRule, LineLies, RowFits, TakesField, key_next}
 use Rattle.tbl_data.specs.declared.data_line.DataLine.{DataLine}
 use Rattle.tbl_data.specs.declared.table_data.OpenBlock.TheVariants.{Nothing}
 use Rattle.tbl_data.specs.declared.table_data.TableData.{TableData}
-use Rattle.tbl_data.proofs.FieldsKept.{key_next, more-none, takes-entry}
+use Rattle.tbl_data.proofs.FieldsKept.{more-none, takes-entry}
 use Rattle.tbl_format.specs.declared.format.Key.{Key}
 use Rattle.tbl_kept.specs.Joined.{ends_joined}
 use Rattle.tbl_kept.specs.Rows.{with_entry}
 use Rattle.tbl_kept.specs.TableText.{KeptText, block_of}
-use Rattle.tbl_layout.specs.DataLines.{field_kind}
+use Rattle.tbl_layout.specs.DataLines.{kind_under}
 use Rattle.tbl_layout.specs.Entries.{content_by_kind}
 use Rattle.tbl_layout.specs.KeptEntries.{IsKeptBy, Lies, content_by, rule_entry}
 use Rattle.tbl_layout.specs.declared.data_lines.FieldKind.{FieldKind}
@@ -48,7 +48,7 @@ module _ (k : KeptText) (line : DataLine) (at end : ℕ) (d : TableData) (kept :
   abbrev field : List ℕ
   field = slice_range (block_of k) at end
 
-  pub takes-rule : KeepsRule (field_kind field) kept → RowFits (block_of k) d → d.open ≡ Nothing → length d.rows.row < length d.format.format.asked
+  pub takes-rule : KeepsRule (kind_under (key_next d) field) kept → RowFits (block_of k) d → d.open ≡ Nothing → length d.rows.row < length d.format.format.asked
       → TakesField k line at end d (record d { rows = with_entry (rule_entry at (end - at) kept) d.rows })
   takes-rule keeps fits closed column =
       let e = rule_entry at (end - at) kept in
@@ -56,8 +56,8 @@ module _ (k : KeptText) (line : DataLine) (at end : ℕ) (d : TableData) (kept :
       let lies-there : Lies (block_of k) e = record { order = omega arith; within = omega (arith, to, on-line, lies.within) } in
       let new = record d { rows = with_entry e d.rows } in
       takes-entry k line at end d e (record {
-        content = rule-content (field_kind field) kept keeps (block_of k) at e.to field;
-        kept = rule-lies (field_kind field) kept keeps (block_of k) (key_next d) e lies-there;
+        content = rule-content (kind_under (key_next d) field) kept keeps (block_of k) at e.to field;
+        kept = rule-lies (kind_under (key_next d) field) kept keeps (block_of k) (key_next d) e lies-there;
         to = to;
         on_line = on-line;
         closed = closed;
@@ -65,7 +65,7 @@ module _ (k : KeptText) (line : DataLine) (at end : ℕ) (d : TableData) (kept :
         fits = fits;
       }) d.notes [] (record {
         is = more-none d.notes;
-        all = rule-untold (field_kind field) kept keeps (ends_joined k.pending) line.number (at - line.from) field;
+        all = rule-untold (kind_under (key_next d) field) kept keeps (ends_joined k.pending) line.number (at - line.from) field;
         within = λ len. tt;
         few = omega arith;
       }) new refl refl

@@ -2,29 +2,27 @@
 use Rattle.std.proofs.Common.{◌≡◌, ℕ, ◌+◌, ◌-◌, ◌<◌, ◌≤◌, Bool, true, false, List, [], ◌∷◌, length, Option, None, Some, refl, sym, ap, ◌∙◌, arith, if◌then◌else◌}
 use Rattle.std.specs.List.{slice_range}
 use Rattle.tbl_data.specs.DataRead.{notes_by_kind, notes_of_field}
-use Rattle.tbl_data.specs.LineTaken.{RowFits, TakesField, more_notes, notes_kept}
+use Rattle.tbl_data.specs.LineTaken.{RowFits, TakesField, key_next, more_notes, notes_kept}
 use Rattle.tbl_data.specs.declared.data_line.DataLine.{DataLine}
 use Rattle.tbl_data.specs.declared.table_data.OpenBlock.TheVariants.{Nothing}
 use Rattle.tbl_data.specs.declared.table_data.TableData.{TableData}
-use Rattle.tbl_data.proofs.FieldsKept.{key_next, takes-entry}
+use Rattle.tbl_data.proofs.FieldsKept.{takes-entry}
 use Rattle.tbl_data.proofs.NotesTold.{items-told, items-within, none-told}
-use Rattle.tbl_format.specs.Notes.{told_of_all}
-use Rattle.tbl_format.specs.Format.{FormatRow}
-use Rattle.tbl_format.specs.declared.format.FormatKey.{FormatKey}
+use Rattle.tbl_options.specs.Notes.{told_of_all}
 use Rattle.tbl_format.specs.declared.format.Key.{Key}
-use Rattle.tbl_format.specs.declared.notes.KeptNote.{KeptNote}
+use Rattle.tbl_options.specs.declared.notes.KeptNote.{KeptNote}
 use Rattle.tbl_kept.specs.Joined.{ends_joined}
 use Rattle.tbl_kept.specs.Rows.{with_entry}
 use Rattle.tbl_kept.specs.TableNotes.{KeptNotes}
 use Rattle.tbl_kept.specs.TableText.{KeptText, block_of}
 use Rattle.tbl_layout.proofs.Fields.{length-part}
-use Rattle.tbl_layout.specs.DataLines.{field_kind}
-use Rattle.tbl_layout.specs.Entries.{Content, Text as OneText, content_by_kind, content_read, is_number, key_at}
+use Rattle.tbl_layout.specs.DataLines.{kind_under}
+use Rattle.tbl_layout.specs.Entries.{Text as OneText, content_by_kind, content_under, is_number}
 use Rattle.tbl_layout.specs.KeptEntries.{IsKept, IsKeptBy, IsText, content_by, content_of, entry_by, kind_with}
 use Rattle.tbl_layout.specs.declared.data_lines.FieldKind.{FieldKind}
 use Rattle.tbl_layout.specs.declared.data_lines.FieldKind.TheVariants.{Text as TextField}
 use Rattle.tbl_layout.specs.declared.entry.Entry.{Entry}
-use Rattle.tbl_text.specs.Items.{Item, is_ampersand, items, note}
+use Rattle.tbl_text.specs.Items.{Item, is_ampersand, items}
 use Rattle.tbl_text.specs.Measuring.{has_notes, measured, notes_from, without_ampersand}
 use Rattle.tbl_text.specs.declared.items.What.{What}
 use Rattle.tbl_text.specs.declared.items.What.TheVariants.{Ampersand, Blank, Byte, Dropped, Glyph, NotMeasured, Nothing as PrintsNothing}
@@ -66,15 +64,6 @@ content-as : (split : Option Split) (from glyphs width : ℕ) (bytes : List ℕ)
 content-as None from glyphs width bytes a b = refl
 content-as (Some s) from glyphs width bytes a b = refl
 
--- a text is a number by its key
-pub number-by : (row : FormatRow) (at : ℕ) (keys : List FormatKey) (n : ℕ) (key : Key) (num : Bool) → keys ≡ row.keys → n ≡ at
-    → ((bars : ℕ) → key ≡ key_at (record { keys = keys; bars = bars }) n) → num ≡ is_number key → num ≡ is_number (key_at row at)
-number-by row at keys n key num of_row here is_key is =
-    is
-    ∙ ap is_number (is_key row.bars)
-    ∙ ap (λ (ks : List FormatKey). is_number (key_at (record { keys = ks; bars = row.bars }) n)) of_row
-    ∙ ap (λ (m : ℕ). is_number (key_at row m)) here
-
 -- a text is one field more of the row
 module _ (k : KeptText) (line : DataLine) (at end : ℕ) (order : at ≤ end) (within : end ≤ length (block_of k)) (d : TableData) where
   abbrev bytes : List ℕ
@@ -106,8 +95,8 @@ module _ (k : KeptText) (line : DataLine) (at end : ℕ) (order : at ≤ end) (w
   is-kept : IsKept bytes key field_entry
   is-kept = let m = measured (is_number key) field in kept-by m.split at (at + m.glyphs) m.width bytes key field_entry is-text
 
-  module _ (is : field_kind field ≡ TextField) where
-    content-is : content_of bytes field_entry ≡ content_read field
+  module _ (is : kind_under key field ≡ TextField) where
+    content-is : content_of bytes field_entry ≡ content_under key field
     content-is =
         let m = measured (is_number key) field in
         content-as m.split at (at + m.glyphs) m.width bytes at (at + (end - at))
@@ -117,7 +106,7 @@ module _ (k : KeptText) (line : DataLine) (at end : ℕ) (order : at ≤ end) (w
     abbrev told : List KeptNote
     told = notes_kept (ends_joined k.pending) line.number (at - line.from) (notes_from 0 (items field))
 
-    told-is : told_of_all bytes told ≡ notes_of_field (ends_joined k.pending) line.number (at - line.from) field
+    told-is : told_of_all bytes told ≡ notes_of_field key (ends_joined k.pending) line.number (at - line.from) field
     told-is =
         items-told (ends_joined k.pending) line.number (at - line.from) bytes (items field)
         ∙ ap (λ (kind : FieldKind). notes_by_kind kind (ends_joined k.pending) line.number (at - line.from) field) (sym is)

@@ -2,16 +2,19 @@
 --
 -- A line that is whole may be joined of several lines of the input: `ends` says where each of these ended but the last, which has
 -- the number `n`. A message names the line on which what it tells begins.
-use Rattle.std.specs.Prelude.{ℕ, ◌+◌, ◌-◌, Bool, false, not, ◌&&◌, ◌||◌, List, [], ◌∷◌, ◌++◌, length, map, take, drop, take_while, nat_lt, Option, None, Some, is_none, is_some, option_map, option_to_list, if◌then◌else◌}
+use Rattle.std.specs.Prelude.{ℕ, suc, ◌+◌, ◌-◌, Bool, true, false, not, ◌&&◌, ◌||◌, List, [], ◌∷◌, ◌++◌, length, map, take, drop, take_while, nat_lt, Option, None, Some, is_some, option_map, option_to_list, if◌then◌else◌}
 use Rattle.tbl_format.specs.Format.{FormatRow, further}
-use Rattle.tbl_format.specs.Notes.{told_at}
+use Rattle.tbl_options.specs.Notes.{told_at}
 use Rattle.tbl_format.specs.RowsServed.{next_of, row_at}
-use Rattle.tbl_format.specs.declared.message.Message.TheVariants.{NotMeasured, RequestInTextBlock, TooManyFields}
-use Rattle.tbl_format.specs.declared.message.Told.{Told}
+use Rattle.tbl_options.specs.declared.message.Message.TheVariants.{NotMeasured, RequestInTextBlock, TooManyFields}
+use Rattle.tbl_options.specs.declared.message.Told.{Told}
 use Rattle.tbl_kept.specs.Joined.{behind_joined, ends_joined, goes_on, line_at}
 use Rattle.tbl_layout.specs.Data.{fields}
-use Rattle.tbl_layout.specs.DataLines.{block_line_kind, ends_in_block, field_kind, is_laid_out, len_of_fields, line_kind, without_opening}
-use Rattle.tbl_layout.specs.Entries.{Block, Command as OneCommand, Content, Row as OneRow, Rule as OneRule, content_read}
+use Rattle.tbl_layout.specs.DataLines.{block_line_kind, ends_in_block, is_laid_out, kind_under, len_of_fields, line_kind, without_opening}
+use Rattle.tbl_layout.specs.Entries.{Block, Command as OneCommand, Content, Row as OneRow, Rule as OneRule, Ruled, completed, content_under, key_at}
+use Rattle.tbl_layout.specs.RuleKeys.{rule_rows, rule_sign}
+use Rattle.tbl_layout.specs.declared.data_lines.RuleSign.{RuleSign}
+use Rattle.tbl_format.specs.declared.format.Key.{Key}
 use Rattle.tbl_layout.specs.declared.data_lines.BlockLineKind.{BlockLineKind}
 use Rattle.tbl_layout.specs.declared.data_lines.BlockLineKind.TheVariants.{End, Request, Text}
 use Rattle.tbl_layout.specs.declared.data_lines.FieldKind.{FieldKind}
@@ -34,29 +37,53 @@ abbrev pub notes_by_kind : FieldKind → List (ℕ × ℕ) → ℕ → ℕ → L
 notes_by_kind OneText ends n place field = item_notes ends n place (items field)
 notes_by_kind kind ends n place field = []
 
-abbrev pub notes_of_field : List (ℕ × ℕ) → ℕ → ℕ → List ℕ → List Told
-notes_of_field ends n place field = notes_by_kind (field_kind field) ends n place field
+abbrev pub notes_of_field : Key → List (ℕ × ℕ) → ℕ → ℕ → List ℕ → List Told
+notes_of_field key ends n place field = notes_by_kind (kind_under key field) ends n place field
 
--- those of fields, each with a separator behind it
-abbrev pub field_notes : List (ℕ × ℕ) → ℕ → ℕ → List (List ℕ) → List Told
+-- those of fields under these keys, each with a separator behind it
+abbrev pub field_notes : List (ℕ × ℕ) → ℕ → ℕ → List (Key × List ℕ) → List Told
 field_notes ends n place [] = []
-field_notes ends n place (field ∷ fields) = notes_of_field ends n place field ++ field_notes ends n (place + length field + 1) fields
+field_notes ends n place (field ∷ fields) =
+    notes_of_field field.0 ends n place field.1 ++ field_notes ends n (place + length field.1 + 1) fields
 
--- the row of the format that serves the next row of data
+-- how many rows of rule keys stand in front of the row of the format that serves the next row of data; they themselves; and that row
+abbrev pub rules_next : TableRead → ℕ
+rules_next t = rule_rows (drop t.next_row t.format.rows)
+
+abbrev pub rules_in_front : TableRead → List FormatRow
+rules_in_front t = take (rules_next t) (drop t.next_row t.format.rows)
+
 abbrev pub serving : TableRead → FormatRow
-serving t = row_at t.format.rows t.next_row
+serving t = row_at t.format.rows (t.next_row + rules_next t)
 
--- a row is whole that has these fields: the next row of the format serves the next one, and the last one all further ones
+-- a row is whole that has these fields: the next row of the format comes next, and the last one serves all further rows of data
 abbrev pub with_row : List Content → TableRead → TableRead
 with_row contents t = record t {
-  next_row = next_of t.next_row (length t.format.rows);
+  next_row = next_of (t.next_row + rules_next t) (length t.format.rows);
   begun = None;
-  body = t.body ++ OneRow (serving t) contents ∷ [];
+  body = t.body ++ OneRow (rules_in_front t) (serving t) (completed (serving t) contents) ∷ [];
 }
 
--- a row of which a text block opens, or which is whole
-abbrev pub with_open_row : Bool → RowBegun → TableRead → TableRead
-with_open_row opens row t = if opens then record t { begun = Some row } else with_row row.fields t
+-- the row of which a text block opens behind some fields, in the column of a key: under a rule key it is dropped
+abbrev pub row_opened_under : Option RuleSign → List Content → RowBegun
+row_opened_under None contents = record { fields = contents; block = Some []; had_surplus = false }
+row_opened_under (Some sign) contents = record { fields = contents ++ Ruled sign ∷ []; block = None; had_surplus = false }
+
+-- and without a column
+abbrev pub row_opened : Bool → Key → List Content → RowBegun
+row_opened true key contents = record { fields = contents; block = None; had_surplus = true }
+row_opened false key contents = row_opened_under (rule_sign key) contents
+
+-- a row of which a text block opens behind its fields, the last of them or too many, or which is whole
+abbrev pub with_open_row : Bool → Bool → List Content → TableRead → TableRead
+with_open_row true had_surplus contents t =
+    record t { begun = Some (row_opened had_surplus (key_at (serving t) (length contents)) contents) }
+with_open_row false had_surplus contents t = with_row contents t
+
+-- fields with their keys, from a column on
+abbrev pub keyed : FormatRow → ℕ → List (List ℕ) → List (Key × List ℕ)
+keyed format column [] = []
+keyed format column (field ∷ fields) = (key_at format column, field) ∷ keyed format (suc column) fields
 
 -- the message of surplus fields, once a row: it names the line of the separator in front of the first
 abbrev pub surplus_notes : Bool → ℕ → List Told
@@ -68,12 +95,13 @@ abbrev pub with_fields : List (ℕ × ℕ) → ℕ → ℕ → List (List ℕ) �
 with_fields ends n place all in_front had_surplus t =
     let room = columns t - length in_front in
     let texts = take room (without_opening all) in
-    let built = take_while is_laid_out texts in
+    let keyed_texts = keyed (serving t) (length in_front) texts in
+    let built = take_while (λ field. is_laid_out (kind_under field.0 field.1)) keyed_texts in
     let has_surplus = nat_lt room (length all) in
     let told = with_notes (field_notes ends n place built) t in
-    if nat_lt (length built) (length texts) then bad (line_at ends (place + len_of_fields built) n) told
-    else with_open_row (ends_in_block all)
-    (record { fields = in_front ++ map content_read texts; block = if has_surplus || had_surplus then None else Some [] })
+    if nat_lt (length built) (length texts) then bad (line_at ends (place + len_of_fields (take (length built) texts)) n) told
+    else with_open_row (ends_in_block all) (has_surplus || had_surplus)
+    (in_front ++ map (λ field. content_under field.0 field.1) keyed_texts)
     (with_notes (surplus_notes (has_surplus && not had_surplus) (line_at ends (place + len_of_fields texts - 1) n)) told)
 
 -- a line, by what it is, where no text block is open
@@ -92,7 +120,7 @@ abbrev pub behind_block : List (ℕ × ℕ) → ℕ → List (List ℕ) → RowB
 behind_block ends n [] row t = with_row (fields_with_block row) t
 behind_block ends n (first ∷ []) row t = with_row (fields_with_block row) t
 behind_block ends n (first ∷ field ∷ fields) row t =
-    with_fields ends n (length first + 3) (field ∷ fields) (fields_with_block row) (is_none row.block) t
+    with_fields ends n (length first + 3) (field ∷ fields) (fields_with_block row) row.had_surplus t
 
 -- a text block that is open ends with the table
 abbrev pub closed_block : Option RowBegun → TableRead → TableRead

@@ -1,38 +1,40 @@
 -- The fields of a line of a table, taken one after another.
-use Rattle.std.specs.Prelude.{◌≡◌, ℕ, ◌+◌, ◌-◌, ◌<◌, ◌≤◌, Bool, true, false, not, List, [], ◌∷◌, ◌++◌, length, Some, None, if◌then◌else◌}
+use Rattle.std.specs.Prelude.{◌≡◌, ℕ, ◌+◌, ◌-◌, ◌<◌, ◌≤◌, Bool, true, false, not, List, [], ◌∷◌, ◌++◌, length, Some}
 use Rattle.tbl_kept.specs.Joined.{line_at}
-use Rattle.tbl_layout.specs.DataLines.{ends_in_block, is_laid_out, opens_block}
-use Rattle.tbl_layout.specs.Entries.{Content, content_read}
-use Rattle.tbl_data.specs.DataRead.{notes_of_field, surplus_notes, with_fields, with_open_row, with_row}
-use Rattle.tbl_data.specs.TableRead.{RowBegun, TableRead, bad, columns, with_notes}
+use Rattle.tbl_layout.specs.DataLines.{ends_in_block, is_laid_out, kind_under, opens_block}
+use Rattle.tbl_layout.specs.Entries.{Content, content_under, key_at}
+use Rattle.tbl_data.specs.DataRead.{notes_of_field, row_opened, serving, surplus_notes, with_fields, with_open_row, with_row}
+use Rattle.tbl_data.specs.TableRead.{TableRead, bad, columns, with_notes}
 
--- the row that is begun where a text block opens behind these fields; as one that is dropped, if they were too many
-abbrev pub row_opened : List Content → Bool → RowBegun
-row_opened contents is_dropped = record { fields = contents; block = if is_dropped then None else Some [] }
-
--- what the first of some fields makes of the table, by what it is and where it stands
+-- what the first of some fields makes of the table, by what it is under the key of its column, and where it stands
 pub record TakesFields : Type 0 where
   -- one that is laid out and has a column is kept, its messages are told, and the others go on behind it
   pub first : (ends : List (ℕ × ℕ)) (n place : ℕ) (field next : List ℕ) (rest : List (List ℕ)) (in_front : List Content) (had : Bool) (t : TableRead)
-      → is_laid_out field ≡ true → length in_front < columns t
+      → let key = key_at (serving t) (length in_front) in
+      is_laid_out (kind_under key field) ≡ true → length in_front < columns t
       → with_fields ends n place (field ∷ next ∷ rest) in_front had t
-      ≡ with_fields ends n (place + length field + 1) (next ∷ rest) (in_front ++ content_read field ∷ []) had (with_notes (notes_of_field ends n place field) t)
+      ≡ with_fields ends n (place + length field + 1) (next ∷ rest) (in_front ++ content_under key field ∷ []) had
+      (with_notes (notes_of_field key ends n place field) t)
   -- the last one ends the row, or opens a text block
   pub last : (ends : List (ℕ × ℕ)) (n place : ℕ) (in_front : List Content) (had : Bool) (t : TableRead) (field : List ℕ)
-      → length in_front < columns t → opens_block field ≡ false → is_laid_out field ≡ true
-      → with_fields ends n place (field ∷ []) in_front had t ≡ with_row (in_front ++ content_read field ∷ []) (with_notes (notes_of_field ends n place field) t)
+      → let key = key_at (serving t) (length in_front) in
+      length in_front < columns t → opens_block field ≡ false → is_laid_out (kind_under key field) ≡ true
+      → with_fields ends n place (field ∷ []) in_front had t
+      ≡ with_row (in_front ++ content_under key field ∷ []) (with_notes (notes_of_field key ends n place field) t)
   pub opening : (ends : List (ℕ × ℕ)) (n place : ℕ) (in_front : List Content) (had : Bool) (t : TableRead) (field : List ℕ)
       → length in_front < columns t → opens_block field ≡ true
-      → with_fields ends n place (field ∷ []) in_front had t ≡ record t { begun = Some (row_opened in_front had) }
+      → with_fields ends n place (field ∷ []) in_front had t
+      ≡ record t { begun = Some (row_opened had (key_at (serving t) (length in_front)) in_front) }
   -- one that isn't laid out is a fault on its line
   pub unbuilt : (ends : List (ℕ × ℕ)) (n place : ℕ) (in_front : List Content) (had : Bool) (t : TableRead) (field next : List ℕ) (rest : List (List ℕ))
-      → length in_front < columns t → is_laid_out field ≡ false
+      → length in_front < columns t → is_laid_out (kind_under (key_at (serving t) (length in_front)) field) ≡ false
       → with_fields ends n place (field ∷ next ∷ rest) in_front had t ≡ bad (line_at ends place n) t
   pub unbuilt_last : (ends : List (ℕ × ℕ)) (n place : ℕ) (in_front : List Content) (had : Bool) (t : TableRead) (field : List ℕ)
-      → length in_front < columns t → opens_block field ≡ false → is_laid_out field ≡ false
+      → length in_front < columns t → opens_block field ≡ false
+      → is_laid_out (kind_under (key_at (serving t) (length in_front)) field) ≡ false
       → with_fields ends n place (field ∷ []) in_front had t ≡ bad (line_at ends place n) t
   -- without a column all are surplus, which is told once a row; of them only a last one counts that opens a text block
   pub surplus : (ends : List (ℕ × ℕ)) (n place : ℕ) (in_front : List Content) (had : Bool) (t : TableRead) (field : List ℕ) (rest : List (List ℕ))
       → columns t ≤ length in_front
       → with_fields ends n place (field ∷ rest) in_front had t
-      ≡ with_open_row (ends_in_block (field ∷ rest)) (row_opened in_front true) (with_notes (surplus_notes (not had) (line_at ends (place - 1) n)) t)
+      ≡ with_open_row (ends_in_block (field ∷ rest)) true in_front (with_notes (surplus_notes (not had) (line_at ends (place - 1) n)) t)

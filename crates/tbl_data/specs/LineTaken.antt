@@ -1,9 +1,8 @@
 -- What a line of the data adds to what is kept of a table, and what holds while it is taken (Lesk, "Tbl": Data).
-use Rattle.std.specs.Prelude.{◌≡◌, ℕ, ◌+◌, ◌-◌, ◌≤◌, ◌<◌, ◌^◌, Bool, List, [], ◌∷◌, ◌++◌, length, map, None, Some, option_map, if◌then◌else◌}
+use Rattle.std.specs.Prelude.{◌≡◌, ℕ, ◌+◌, ◌-◌, ◌≤◌, ◌<◌, ◌^◌, Bool, true, List, [], ◌∷◌, ◌++◌, length, map, None, Some, option_map, if◌then◌else◌}
 use Rattle.std.specs.List.{slice_range}
-use Rattle.tbl_data.specs.DataRead.{notes_of_field, with_block_line, with_fields, with_line, with_row, with_text}
-use Rattle.tbl_data.specs.FieldsTaken.{row_opened}
-use Rattle.tbl_data.specs.TableData.{DataFits, EndsBy, FitsBehind, OpenEndsAt, SameRooms, row_with_block, table_by}
+use Rattle.tbl_data.specs.DataRead.{notes_of_field, row_opened, with_block_line, with_fields, with_line, with_row, with_text}
+use Rattle.tbl_data.specs.TableData.{DataFits, EndsBy, FitsBehind, OpenEndsAt, SameRooms, Serves, row_with_block, table_by}
 use Rattle.tbl_data.specs.TableRead.{RowBegun, TableRead, with_notes}
 use Rattle.tbl_data.specs.declared.data_line.DataLine.{DataLine}
 use Rattle.tbl_data.specs.declared.phase.Phase.{Phase}
@@ -11,11 +10,12 @@ use Rattle.tbl_data.specs.declared.phase.Phase.TheVariants.{InData}
 use Rattle.tbl_data.specs.declared.table_data.OpenBlock.{OpenBlock}
 use Rattle.tbl_data.specs.declared.table_data.OpenBlock.TheVariants.{Dropped, Kept, Nothing}
 use Rattle.tbl_data.specs.declared.table_data.TableData.{TableData}
-use Rattle.tbl_format.specs.Notes.{NotesWithin}
-use Rattle.tbl_format.specs.RowsServed.{all_rows}
-use Rattle.tbl_format.specs.declared.notes.Cause.TheVariants.{NotMeasured, TooManyFields}
-use Rattle.tbl_format.specs.declared.notes.KeptNote.{KeptNote}
-use Rattle.tbl_format.specs.declared.options.Options.{Options}
+use Rattle.tbl_options.specs.Notes.{NotesWithin}
+use Rattle.tbl_format.specs.RowsServed.{all_rows, row_at}
+use Rattle.tbl_format.specs.declared.format.Key.{Key}
+use Rattle.tbl_options.specs.declared.notes.Cause.TheVariants.{NotMeasured, TooManyFields}
+use Rattle.tbl_options.specs.declared.notes.KeptNote.{KeptNote}
+use Rattle.tbl_options.specs.declared.options.Options.{Options}
 use Rattle.tbl_kept.specs.Joined.{ends_joined, line_at}
 use Rattle.tbl_kept.specs.Rows.{RowBegunKept, entries_of}
 use Rattle.tbl_kept.specs.TableNotes.{KeptNotes}
@@ -27,7 +27,7 @@ use Rattle.tbl_layout.specs.declared.data_lines.FieldKind.TheVariants.{Repeated,
 use Rattle.tbl_layout.specs.declared.data_lines.LineKind.{LineKind}
 use Rattle.tbl_layout.specs.declared.entry.EntryKind.{EntryKind}
 use Rattle.tbl_layout.specs.declared.entry.EntryKind.TheVariants.{Repeated as RepeatedKind, Ruled as RuledKind, Short as ShortKind}
-use Rattle.tbl_layout.specs.Entries.{Content, content_read}
+use Rattle.tbl_layout.specs.Entries.{Content, content_under, key_at}
 use Rattle.tbl_layout.specs.KeptEntries.{content_of}
 use Rattle.tbl_text.specs.declared.measure.Note.{Note}
 
@@ -65,8 +65,7 @@ surplus_kept is_first line = if is_first then record { line = line; cause = TooM
 pub record RowFits (bytes : List ℕ) (d : TableData) : Type 0 where
   pub kept : RowBegunKept bytes (all_rows d.format.format) d.keys d.rows
   pub columns : length d.rows.columns ≡ length d.format.format.asked
-  pub first : length d.format.format.earlier ≤ d.keys
-  pub serves : d.keys < length (all_rows d.format.format)
+  pub served : Serves d.format.format d.keys d.rules
   pub small : length (all_rows d.format.format) < 2 ^ 32
   pub whole : d.format.format.row ≡ []
   pub notes : NotesWithin (length bytes) d.notes.notes
@@ -93,12 +92,16 @@ KeepsRule Short kept = kept ≡ ShortKind
 KeepsRule (Repeated b) kept = kept ≡ RepeatedKind b
 KeepsRule kind kept = ⊥
 
+-- the key of the column that comes next
+abbrev pub key_next : TableData → Key
+key_next d = key_at (row_at (all_rows d.format.format) d.keys) (length d.rows.row)
+
 -- one field more of the row that is begun, which lies there
 pub record TakesField (k : KeptText) (line : DataLine) (at end : ℕ) (old new : TableData) : Type 0 where
   pub table : (options : Options) → table_by InData options (block_of k) new
-      ≡ with_notes (notes_of_field (ends_joined k.pending) line.number (at - line.from) (slice_range (block_of k) at end))
+      ≡ with_notes (notes_of_field (key_next old) (ends_joined k.pending) line.number (at - line.from) (slice_range (block_of k) at end))
       (table_by InData options (block_of k) old)
-  pub row : contents_in k new ≡ contents_in k old ++ content_read (slice_range (block_of k) at end) ∷ []
+  pub row : contents_in k new ≡ contents_in k old ++ content_under (key_next old) (slice_range (block_of k) at end) ∷ []
   pub fits : RowFits (block_of k) new
   pub closed : new.open ≡ old.open
   pub settled : EndsBy line.to old → EndsBy line.to new
@@ -109,10 +112,10 @@ pub record EndsRow (bytes : List ℕ) (old new : TableData) : Type 0 where
   pub table : (options : Options) → table_by InData options bytes new ≡ with_row (map (content_of bytes) old.rows.row) (table_by InData options bytes old)
   pub fits : DataFits bytes new
 
--- a text block opens behind the fields of the row that is begun
-pub record OpensBlock (bytes : List ℕ) (is_dropped : Bool) (old new : TableData) : Type 0 where
+-- a text block opens behind the fields of the row that is begun, in the column that comes next, or without one
+pub record OpensBlock (bytes : List ℕ) (had_surplus : Bool) (old new : TableData) : Type 0 where
   pub table : (options : Options) → table_by InData options bytes new
-      ≡ record (table_by InData options bytes old) { begun = Some (row_opened (map (content_of bytes) old.rows.row) is_dropped) }
+      ≡ record (table_by InData options bytes old) { begun = Some (row_opened had_surplus (key_next old) (map (content_of bytes) old.rows.row)) }
   pub fits : DataFits bytes new
 
 -- a line is done, or what is left of it: what that makes of the table, what is read then, and where a block ends that is open
@@ -138,9 +141,9 @@ abbrev pub made_by : LineKind → KeptText → DataLine → TableRead → TableR
 made_by kind k line t = with_line kind (ends_joined k.pending) line.number (left_from k line line.from) t
 
 abbrev pub row_begun : OpenBlock → List Content → RowBegun
-row_begun Nothing contents = record { fields = contents; block = None }
+row_begun Nothing contents = record { fields = contents; block = None; had_surplus = true }
 row_begun Kept contents = row_with_block contents
-row_begun Dropped contents = record { fields = contents; block = None }
+row_begun (Dropped had_surplus) contents = record { fields = contents; block = None; had_surplus = had_surplus }
 
 abbrev pub block_line_made : BlockLineKind → KeptText → DataLine → TableData → TableRead → TableRead
 block_line_made kind k line d t =

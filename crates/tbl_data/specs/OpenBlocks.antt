@@ -7,10 +7,10 @@ use Rattle.tbl_data.specs.declared.table_data.OpenBlock.TheVariants.{Dropped, Ke
 abbrev pub is_open : OpenBlock → Bool
 is_open Nothing = false
 is_open Kept = true
-is_open Dropped = true
+is_open (Dropped had_surplus) = true
 
--- whether one is that is dropped
-abbrev pub is_dropped : OpenBlock → Bool
-is_dropped Nothing = false
-is_dropped Kept = false
-is_dropped Dropped = true
+-- whether one is whose row had a field too many
+abbrev pub had_surplus : OpenBlock → Bool
+had_surplus Nothing = false
+had_surplus Kept = false
+had_surplus (Dropped had) = had

@@ -1,5 +1,5 @@
 -- What is kept of the data of a table while it is read (Lesk, "Tbl": Data).
-use Rattle.std.specs.Prelude.{◌≡◌, ℕ, ◌-◌, ◌≤◌, ◌<◌, List, [], ◌∷◌, length, map, get_or, Option, None, Some}
+use Rattle.std.specs.Prelude.{◌≡◌, ℕ, ◌+◌, ◌-◌, ◌≤◌, ◌<◌, List, [], ◌∷◌, drop, length, map, get_or, Option, None, Some, false}
 use Rattle.roff_source.specs.Bytes.{newline}
 use Rattle.std.specs.List.{AllByRecursion}
 use Rattle.tbl_data.specs.TableRead.{RowBegun, TableRead}
@@ -8,26 +8,28 @@ use Rattle.tbl_data.specs.declared.phase.Phase.TheVariants.{AtHead, Bad, InData,
 use Rattle.tbl_data.specs.declared.table_data.OpenBlock.{OpenBlock}
 use Rattle.tbl_data.specs.declared.table_data.OpenBlock.TheVariants.{Dropped, Kept, Nothing}
 use Rattle.tbl_data.specs.declared.table_data.TableData.{TableData}
-use Rattle.tbl_format.specs.Notes.{NotesWithin, told_of_all}
+use Rattle.tbl_format.specs.Format.{Format}
+use Rattle.tbl_options.specs.Notes.{NotesWithin, told_of_all}
 use Rattle.tbl_format.specs.RowsServed.{all_rows}
-use Rattle.tbl_format.specs.declared.options.Options.{Options}
+use Rattle.tbl_options.specs.declared.options.Options.{Options}
 use Rattle.tbl_kept.specs.Rows.{Command, KeptElement, Row, RowBegunKept, Rule, elements_of}
 use Rattle.tbl_layout.specs.Entries.{Block, Content}
 use Rattle.tbl_layout.specs.KeptEntries.{content_of}
+use Rattle.tbl_layout.specs.RuleKeys.{rule_rows}
 use Rattle.tbl_layout.specs.declared.entry.Entry.{Entry}
 use Rattle.tbl_layout.specs.declared.entry.EntryKind.{EntryKind}
 use Rattle.tbl_layout.specs.declared.entry.EntryKind.TheVariants.{Block as BlockKind}
 
 -- the row of which a block is open that isn't dropped: the block is the last of its fields
 abbrev pub with_content : Content → List Content → RowBegun
-with_content (Block lines) contents = record { fields = contents; block = Some lines }
-with_content content contents = record { fields = contents; block = Some [] }
+with_content (Block lines) contents = record { fields = contents; block = Some lines; had_surplus = false }
+with_content content contents = record { fields = contents; block = Some []; had_surplus = false }
 
 abbrev pub behind_field : Content → RowBegun → RowBegun
 behind_field content row = record row { fields = content ∷ row.fields }
 
 abbrev pub row_with_block : List Content → RowBegun
-row_with_block [] = record { fields = []; block = Some [] }
+row_with_block [] = record { fields = []; block = Some []; had_surplus = false }
 row_with_block (content ∷ []) = with_content content []
 row_with_block (content ∷ next ∷ contents) = behind_field content (row_with_block (next ∷ contents))
 
@@ -35,7 +37,7 @@ row_with_block (content ∷ next ∷ contents) = behind_field content (row_with_
 abbrev pub begun_by : OpenBlock → List Content → Option RowBegun
 begun_by Nothing contents = None
 begun_by Kept contents = Some (row_with_block contents)
-begun_by Dropped contents = Some (record { fields = contents; block = None })
+begun_by (Dropped had_surplus) contents = Some (record { fields = contents; block = None; had_surplus = had_surplus })
 
 -- the table whose texts lie in these bytes, where no line goes on
 abbrev pub table_by : Phase → Options → List ℕ → TableData → TableRead
@@ -43,7 +45,7 @@ table_by phase options bytes d = record {
   phase = phase;
   options = options;
   format = d.format.format;
-  next_row = d.keys - length d.format.format.earlier;
+  next_row = d.keys - d.rules - length d.format.format.earlier;
   pending = None;
   begun = begun_by d.open (map (content_of bytes) d.rows.row);
   body = elements_of bytes (all_rows d.format.format) d.rows.elements;
@@ -64,7 +66,7 @@ EndsInBlock (e ∷ next ∷ entries) = EndsInBlock (next ∷ entries)
 abbrev pub OpenFits : OpenBlock → List Entry → Type 0
 OpenFits Nothing row = row ≡ []
 OpenFits Kept row = EndsInBlock row
-OpenFits Dropped row = Unit {0}
+OpenFits (Dropped had_surplus) row = Unit {0}
 
 -- the last of them ends at a place
 abbrev pub LastEndsAt : ℕ → List Entry → Type 0
@@ -76,7 +78,7 @@ LastEndsAt place (e ∷ next ∷ entries) = LastEndsAt place (next ∷ entries)
 abbrev pub OpenEndsAt : ℕ → OpenBlock → List Entry → Type 0
 OpenEndsAt place Nothing row = Unit {0}
 OpenEndsAt place Kept row = LastEndsAt place row
-OpenEndsAt place Dropped row = Unit {0}
+OpenEndsAt place (Dropped had_surplus) row = Unit {0}
 
 -- the line that begins at a place stands behind the newline of the last one of the block
 pub record StandsBehind (bytes : List ℕ) (from : ℕ) (row : List Entry) : Type 0 where
@@ -88,7 +90,19 @@ pub record StandsBehind (bytes : List ℕ) (from : ℕ) (row : List Entry) : Typ
 abbrev pub OpenBehind : List ℕ → ℕ → OpenBlock → List Entry → Type 0
 OpenBehind bytes from Nothing row = Unit {0}
 OpenBehind bytes from Kept row = StandsBehind bytes from row
-OpenBehind bytes from Dropped row = Unit {0}
+OpenBehind bytes from (Dropped had_surplus) row = Unit {0}
+
+-- the row from one of all on that takes a row of the data serves the next one
+abbrev pub serving_from : ℕ → TableData → TableData
+serving_from first d =
+    let rules = rule_rows (drop first (all_rows d.format.format)) in
+    record d { keys = first + rules; rules = rules }
+
+-- a row of the last format serves the next row of the data, and those in front of it that weren't served are rows of rule keys
+pub record Serves (f : Format) (keys rules : ℕ) : Type 0 where
+  pub first : length f.earlier + rules ≤ keys
+  pub serves : keys < length (all_rows f)
+  pub skipped : rule_rows (drop (keys - rules) (all_rows f)) ≡ rules
 
 -- between two lines of the data: the format is whole, one of its rows serves the next row, and the columns are those of all
 -- formats
@@ -96,8 +110,7 @@ pub record DataFits (bytes : List ℕ) (d : TableData) : Type 0 where
   pub kept : RowBegunKept bytes (all_rows d.format.format) d.keys d.rows
   pub block : OpenFits d.open d.rows.row
   pub columns : length d.rows.columns ≡ length d.format.format.asked
-  pub first : length d.format.format.earlier ≤ d.keys
-  pub serves : d.keys < length (all_rows d.format.format)
+  pub served : Serves d.format.format d.keys d.rules
   pub whole : d.format.format.row ≡ []
   pub notes : NotesWithin (length bytes) d.notes.notes
 
@@ -108,6 +121,7 @@ pub record FormatFits (bytes : List ℕ) (d : TableData) : Type 0 where
   pub none : d.rows.row ≡ []
   pub columns : length d.rows.columns ≤ length d.format.format.asked
   pub first : d.keys ≡ length d.format.format.earlier
+  pub rules : d.rules ≡ 0
   pub notes : NotesWithin (length bytes) d.notes.notes
 
 -- what is kept ends by a place
@@ -115,7 +129,7 @@ abbrev pub EntryEnds : ℕ → Entry → Type 0
 EntryEnds place e = e.to ≤ place
 
 abbrev pub ElementEnds : ℕ → KeptElement → Type 0
-ElementEnds place (Row keys height entries) = AllByRecursion (EntryEnds place) entries
+ElementEnds place (Row keys rules height entries) = AllByRecursion (EntryEnds place) entries
 ElementEnds place (Rule sign) = Unit {0}
 ElementEnds place (Command from to) = to ≤ place
 

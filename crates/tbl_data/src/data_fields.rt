@@ -5,18 +5,19 @@ ghost use Rattle.std.specs.Prelude.{◌≡◌, ℕ, ◌+◌, ◌-◌, ◌<◌, �
 ghost use Rattle.std.specs.Prelude.{length, slice_range, true};
 ghost use Rattle.tbl_data.specs.LineTaken.{EndsRow, Grows, HasRoom, IsOnLine, KeepsRule};
 ghost use Rattle.tbl_data.specs.LineTaken.{LineLies, Makes};
-ghost use Rattle.tbl_data.specs.LineTaken.{OpensBlock, RowFits, TakesField, fields_made, last_made};
+ghost use Rattle.tbl_data.specs.LineTaken.{OpensBlock, RowFits, TakesField, fields_made};
+ghost use Rattle.tbl_data.specs.LineTaken.{key_next, last_made};
 ghost use Rattle.tbl_data.specs.TableData.{EndsBy, OpenEndsAt};
 ghost use Rattle.tbl_data.specs.declared.phase.Phase.TheVariants.{InData};
 ghost use Rattle.tbl_data.specs.TableRead.{bad};
 ghost use Rattle.tbl_data.specs.declared.table_data.OpenBlock.TheVariants.{Nothing};
-ghost use Rattle.tbl_format.specs.Notes.{NotesWithin};
+ghost use Rattle.tbl_options.specs.Notes.{NotesWithin};
 ghost use Rattle.tbl_format.specs.RowsServed.{all_rows};
 ghost use Rattle.tbl_kept.specs.Joined.{ends_joined, line_at};
 ghost use Rattle.tbl_kept.specs.Rows.{entries_of};
 ghost use Rattle.tbl_kept.specs.RowsLaying.{AreOpened};
 ghost use Rattle.tbl_kept.specs.TableText.{KeptText, block_of};
-ghost use Rattle.tbl_layout.specs.DataLines.{field_kind, is_laid_out};
+ghost use Rattle.tbl_layout.specs.DataLines.{is_laid_out, kind_under};
 ghost use Rattle.tbl_layout.specs.Entries.{is_number};
 ghost use Rattle.tbl_layout.specs.declared.data_lines.FieldKind.TheVariants.{Text as OneText};
 
@@ -24,12 +25,13 @@ use crate::data_line::{DataLine, tell, tell_items, tell_surplus};
 use crate::phase::Phase;
 use crate::table_data::{OpenBlock, TableData};
 use tbl_format::format::Key;
-use tbl_format::notes::Cause;
 use tbl_kept::rows::key_at;
 use tbl_kept::table_text::TableText;
 use tbl_layout::data::field_len;
-use tbl_layout::data_lines::{FieldKind, ends_in_block, field_kind, opens_block};
+use tbl_layout::data_lines::{FieldKind, ends_in_block, kind_under, opens_block};
 use tbl_layout::entry::{Entry, EntryKind};
+use tbl_layout::rule_keys::rule_sign;
+use tbl_options::notes::Cause;
 use tbl_text::measure::measure;
 
 impl TableData {
@@ -132,13 +134,15 @@ impl TableData {
         requires column { length self.old.rows.row < length self.old.format.format.asked }
         requires room { HasRoom (end - at + 1) self.old }
         ensures text { text.new ≡ text.old }
-        ensures laid { result ≡ is_laid_out (slice_range (block_of text.old) at end) }
+        ensures laid { result ≡ is_laid_out
+            (kind_under (key_next self.old) (slice_range (block_of text.old) at end)) }
         ensures taken { result ≡ true → TakesField text.old line at end self.old self.new }
         ensures same { result ≡ false → self.new ≡ self.old }
     {
-        match field_kind(&text.block()[at..end]) {
+        let key = self.key_next();
+        match kind_under(key, &text.block()[at..end]) {
             FieldKind::Text => {
-                self.take_text_field(text, line, at, end);
+                self.take_text_field(text, line, at, end, key);
                 true
             }
             FieldKind::Ruled(sign) => {
@@ -165,7 +169,7 @@ impl TableData {
         requires room { entries_of self.old.rows < self.old.rows.entry_room }
         ensures taken { (k : KeptText) (line : DataLine) → LineLies (block_of k) line
             → end ≤ line.to
-            → KeepsRule (field_kind (slice_range (block_of k) at end)) kind
+            → KeepsRule (kind_under (key_next self.old) (slice_range (block_of k) at end)) kind
             → RowFits (block_of k) self.old → self.old.open ≡ Nothing
             → length self.old.rows.row < length self.old.format.format.asked
             → TakesField k line at end self.old self.new }
@@ -174,12 +178,20 @@ impl TableData {
     }
 
     /// A text of a column: it is kept, and what isn't measured of it is told.
-    fn take_text_field(&mut self, text: &mut TableText, line: DataLine, at: usize, end: usize)
+    fn take_text_field(
+        &mut self,
+        text: &mut TableText,
+        line: DataLine,
+        at: usize,
+        end: usize,
+        key: Key,
+    )
+        requires key { key ≡ key_next self.old }
         requires lies { LineLies (block_of text.old) line }
         requires at { IsOnLine line at }
         requires order { at ≤ end }
         requires end { end ≤ line.to }
-        requires kind { field_kind (slice_range (block_of text.old) at end) ≡ OneText }
+        requires kind { kind_under key (slice_range (block_of text.old) at end) ≡ OneText }
         requires fits { RowFits (block_of text.old) self.old }
         requires closed { self.old.open ≡ Nothing }
         requires column { length self.old.rows.row < length self.old.format.format.asked }
@@ -187,35 +199,52 @@ impl TableData {
         ensures text { text.new ≡ text.old }
         ensures taken { TakesField text.old line at end self.old self.new }
     {
-        let keys = self.format.row_of_all(self.keys);
-        let is_number = is_number(key_at(keys, self.rows.row_len()));
-        let measured = measure(&mut self.escapes, &text.block()[at..end], is_number);
+        let measured = measure(&mut self.escapes, &text.block()[at..end], is_number(key));
         self.rows.keep(Entry::of_text(at, end - at, measured));
         if measured.has_notes {
             tell_items(&mut self.notes, &mut self.escapes, text, line, at, end);
         }
     }
 
-    /// A text block begins behind a line that ends there: as a field, or dropped.
-    fn open_block(&mut self, line_end: usize, is_dropped: bool) -> Phase
+    /// A text block begins behind a line that ends there: as a field, or dropped under a rule key,
+    /// or without a column.
+    fn open_block(&mut self, line_end: usize, had_surplus: bool) -> Phase
         requires small { line_end < 2 ^ 32 }
-        requires room { is_dropped ≡ false → entries_of self.old.rows < self.old.rows.entry_room }
+        requires serves { self.old.keys < length (all_rows self.old.format.format) }
+        requires room { had_surplus ≡ false → entries_of self.old.rows < self.old.rows.entry_room }
         ensures phase { result ≡ InData }
-        ensures opens { (bytes : List ℕ) → line_end ≤ length bytes → (is_dropped ≡ false
+        ensures opens { (bytes : List ℕ) → line_end ≤ length bytes → (had_surplus ≡ false
             → length self.old.rows.row < length self.old.rows.columns) → RowFits bytes self.old
-            → OpensBlock bytes is_dropped self.old self.new }
+            → OpensBlock bytes had_surplus self.old self.new }
         ensures ends { OpenEndsAt line_end self.new.open self.new.rows.row }
         ensures settled { EndsBy line_end self.old → EndsBy line_end self.new }
-        ensures grown { Grows (if is_dropped then 0 else 1) 0 self.old self.new }
+        ensures grown { Grows (if had_surplus then 0 else 1) 0 self.old self.new }
         ensures notes { self.new.notes ≡ self.old.notes }
     {
-        if is_dropped {
-            self.open = OpenBlock::Dropped;
-        } else {
-            self.rows.keep(Entry::opened(line_end));
-            self.open = OpenBlock::Kept;
+        if had_surplus {
+            self.open = OpenBlock::Dropped(true);
+            return Phase::InData;
+        }
+        match rule_sign(self.key_next()) {
+            Some(sign) => {
+                self.rows
+                    .keep(Entry::of_rule(line_end, 0, EntryKind::Ruled(sign)));
+                self.open = OpenBlock::Dropped(false);
+            }
+            None => {
+                self.rows.keep(Entry::opened(line_end));
+                self.open = OpenBlock::Kept;
+            }
         }
         Phase::InData
+    }
+
+    /// The key of the column that comes next.
+    fn key_next(&self) -> Key
+        requires { self.now.keys < length (all_rows self.now.format.format) }
+        ensures { result ≡ key_next self.now }
+    {
+        key_at(self.format.row_of_all(self.keys), self.rows.row_len())
     }
 
     /// The row that is begun is whole: the next one of the format serves the next row.
@@ -224,6 +253,7 @@ impl TableData {
         requires opened { AreOpened self.old.rows.row }
         requires elements { length self.old.rows.elements < self.old.rows.element_room }
         requires serves { self.old.keys < length (all_rows self.old.format.format) }
+        requires rules { self.old.rules ≤ self.old.keys }
         requires small { length (all_rows self.old.format.format) < 2 ^ 32 }
         ensures phase { result ≡ InData }
         ensures ends { (bytes : List ℕ) → RowFits bytes self.old → EndsRow bytes self.old self.new }
@@ -234,10 +264,12 @@ impl TableData {
         ensures format { self.new.format ≡ self.old.format }
     {
         self.rows
-            .end_row(self.keys, self.format.row_of_all(self.keys));
+            .end_row(self.keys, self.rules, self.format.row_of_all(self.keys));
         self.open = OpenBlock::Nothing;
         if self.keys + 1 < self.format.all_rows() {
-            self.keys += 1;
+            self.serve_from(self.keys + 1);
+        } else {
+            self.rules = 0;
         }
         Phase::InData
     }

@@ -10,9 +10,9 @@ ghost use Rattle.tbl_text.specs.Measuring.{notes_from};
 
 use memchr::memchr2;
 use roff_escape::OpenEscapes;
-use tbl_format::notes::{Cause, KeptNote};
 use tbl_kept::table_notes::TableNotes;
 use tbl_kept::table_text::TableText;
+use tbl_options::notes::{Cause, KeptNote};
 use tbl_text::measure::next_note;
 
 /// A whole line of the data, as it lies in the table's bytes.

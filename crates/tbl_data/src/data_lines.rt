@@ -12,7 +12,7 @@ ghost use Rattle.tbl_data.specs.TableData.{SameRooms, begun_by, table_by};
 ghost use Rattle.tbl_data.specs.declared.phase.Phase.TheVariants.{InData};
 ghost use Rattle.tbl_data.specs.declared.table_data.OpenBlock.TheVariants.{Nothing};
 ghost use Rattle.tbl_format.specs.RowsServed.{all_rows};
-ghost use Rattle.tbl_format.specs.declared.options.Options.{Options};
+ghost use Rattle.tbl_options.specs.declared.options.Options.{Options};
 ghost use Rattle.tbl_kept.specs.Joined.{ends_joined};
 ghost use Rattle.tbl_kept.specs.Rows.{entries_of};
 ghost use Rattle.tbl_kept.specs.RowsLaying.{AreOpened};
@@ -27,10 +27,10 @@ ghost use Rattle.tbl_layout.specs.KeptEntries.{content_of};
 use crate::data_line::{DataLine, tell, tell_items};
 use crate::phase::Phase;
 use crate::table_data::{OpenBlock, TableData};
-use tbl_format::notes::Cause;
 use tbl_kept::table_text::TableText;
 use tbl_layout::data::field_len;
 use tbl_layout::data_lines::{BlockLineKind, LineKind, RuleSign, block_line_kind, line_kind};
+use tbl_options::notes::Cause;
 
 impl TableData {
     /// A whole line of the data is done, which lies there in the table's bytes; the last line of
@@ -83,7 +83,7 @@ impl TableData {
         match self.open {
             OpenBlock::Nothing => self.take_data_line(text, line),
             OpenBlock::Kept => self.take_block_line(text, line),
-            OpenBlock::Dropped => self.take_block_line(text, line),
+            OpenBlock::Dropped(_) => self.take_block_line(text, line),
         }
     }
 
@@ -93,6 +93,7 @@ impl TableData {
         requires opened { AreOpened self.old.rows.row }
         requires elements { length self.old.rows.elements < self.old.rows.element_room }
         requires serves { self.old.keys < length (all_rows self.old.format.format) }
+        requires rules { self.old.rules ≤ self.old.keys }
         requires small { length (all_rows self.old.format.format) < 2 ^ 32 }
         ensures table { (options : Options) (bytes : List ℕ) → DataFits bytes self.old
             → table_by InData options bytes self.new
@@ -140,6 +141,7 @@ impl TableData {
     {
         self.format.begin_further();
         self.keys = self.format.earlier_rows();
+        self.rules = 0;
         Phase::InFormat
     }
 
@@ -201,14 +203,14 @@ impl TableData {
         ensures made { Makes text.old line (line.to - line.from + 1)
             (block_line_made End text.old line self.old) result self.old self.new }
     {
-        let was_dropped = self.open.is_dropped();
+        let had_surplus = self.open.had_surplus();
         self.open = OpenBlock::Nothing;
         let behind = line.from + 2;
         let end = behind + field_len(line.separator, &text.block()[behind..line.to]);
         if end == line.to {
             return self.end_row();
         }
-        self.take_fields(text, line, end + 1, was_dropped)
+        self.take_fields(text, line, end + 1, had_surplus)
     }
 
     /// A request in a text block. It is kept as a line of it, and passed over as the block is
@@ -251,7 +253,7 @@ impl TableData {
     {
         match self.open {
             OpenBlock::Nothing => Phase::InData,
-            OpenBlock::Dropped => Phase::InData,
+            OpenBlock::Dropped(_) => Phase::InData,
             OpenBlock::Kept => {
                 self.extend_block(line);
                 tell_items(
@@ -281,7 +283,7 @@ impl TableData {
         match self.open {
             OpenBlock::Nothing => {}
             OpenBlock::Kept => self.rows.extend_block(line.to),
-            OpenBlock::Dropped => {}
+            OpenBlock::Dropped(_) => {}
         }
     }
 }

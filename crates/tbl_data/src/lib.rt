@@ -7,4 +7,5 @@ mod data_line;
 pub mod data_lines;
 pub mod laws;
 pub mod phase;
+pub mod served;
 pub mod table_data;

@@ -1,7 +1,7 @@
 //! What is kept of the data of a table while it is read (Lesk, "Tbl": Data).
 
 ghost use Rattle.std.specs.Prelude.{◌≡◌};
-ghost use Rattle.tbl_data.specs.OpenBlocks.{is_dropped, is_open};
+ghost use Rattle.tbl_data.specs.OpenBlocks.{had_surplus, is_open};
 
 use roff_escape::OpenEscapes;
 use tbl_format::format_rows::FormatRows;
@@ -15,8 +15,9 @@ pub enum OpenBlock {
     Nothing,
     /// One that is kept, as the last field of the row that is begun.
     Kept,
-    /// One that is dropped: it has no column.
-    Dropped,
+    /// One that is dropped, as it stands under a rule key or without a column, and whether the row
+    /// had a field without a column.
+    Dropped(bool),
 }
 
 impl OpenBlock {
@@ -27,18 +28,18 @@ impl OpenBlock {
         match self {
             OpenBlock::Nothing => false,
             OpenBlock::Kept => true,
-            OpenBlock::Dropped => true,
+            OpenBlock::Dropped(_) => true,
         }
     }
 
-    /// Whether one is that is dropped.
-    pub(crate) fn is_dropped(self) -> bool
-        ensures { result ≡ is_dropped self }
+    /// Whether one is whose row had a field without a column.
+    pub(crate) fn had_surplus(self) -> bool
+        ensures { result ≡ had_surplus self }
     {
         match self {
             OpenBlock::Nothing => false,
             OpenBlock::Kept => false,
-            OpenBlock::Dropped => true,
+            OpenBlock::Dropped(had_surplus) => had_surplus,
         }
     }
 }
@@ -50,6 +51,8 @@ pub struct TableData {
     pub format: FormatRows,
     /// Which of the rows of all formats serves the next row of the data.
     pub keys: usize,
+    /// How many rows of rule keys stand directly in front of that.
+    pub rules: usize,
     /// The rows and commands, and the fields of the row that is begun.
     pub rows: TableRows,
     /// The text block that is open.

@@ -5,14 +5,14 @@ use Rattle.roff_source.specs.Bytes.{newline}
 use Rattle.tbl_format.specs.Format.{Format, format_byte, format_read, if_letter, last_does, left_out, left_out_at, left_out_behind, letters_left_out}
 use Rattle.tbl_format.specs.FormatSteps.{again, step, step_of, widening, width_of}
 use Rattle.tbl_format.specs.LaidOut.{is_laid_out}
-use Rattle.tbl_format.specs.Notes.{left_out_message, left_out_note, told_at, told_of_all}
+use Rattle.tbl_options.specs.Notes.{left_out_message, left_out_note, told_at, told_of_all}
 use Rattle.tbl_format.specs.declared.format.FormatPlace.{FormatPlace}
 use Rattle.tbl_format.specs.declared.format.FormatPlace.TheVariants.{AtEnd, AtFault, InRows}
 use Rattle.tbl_format.specs.declared.format.RowPart.{RowPart}
 use Rattle.tbl_format.specs.declared.format.RowPart.TheVariants.{AtFont, AtKeys, AtMacro, AtSize, AtWidth, BehindFont, BehindKey, BehindMacro, Brackets, InFont, InMacro, Number, Signed, Sized, WidthDigits}
 use Rattle.tbl_format.specs.declared.format_step.FormatStep.{FormatStep}
-use Rattle.tbl_format.specs.declared.message.Told.{Told}
-use Rattle.tbl_format.specs.declared.notes.KeptNote.{KeptNote}
+use Rattle.tbl_options.specs.declared.message.Told.{Told}
+use Rattle.tbl_options.specs.declared.notes.KeptNote.{KeptNote}
 use Rattle.tbl_format.proofs.FormatReading.{read-more}
 
 -- one byte more

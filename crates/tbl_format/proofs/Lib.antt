@@ -1,9 +1,10 @@
 pub mod StepPlaces
 pub mod LeftOut
 pub mod DefaultTexts
-pub mod Words
 pub mod KeyCounting
 pub mod Parts
 pub mod Slices
+pub mod Elements
 pub mod FormatBlocks
 pub mod FormatReading
+pub mod RowsHeld

@@ -6,7 +6,7 @@ use Rattle.tbl_format.specs.FormatSteps.{again, among_keys, among_keys_by, among
 use Rattle.tbl_format.specs.KeyCounts.{IsOnLine, StandsOnLine}
 use Rattle.tbl_format.specs.Keys.{is_between, is_one_of, key_of, separates_rows}
 use Rattle.tbl_format.specs.LaidOut.{is_laid_out}
-use Rattle.tbl_format.specs.Options.{closing, opening}
+use Rattle.tbl_options.specs.Options.{closing, opening}
 use Rattle.tbl_format.specs.declared.format.FormatPlace.{FormatPlace}
 use Rattle.tbl_format.specs.declared.format.FormatPlace.TheVariants.{AtEnd, AtFault, InRows}
 use Rattle.tbl_format.specs.declared.format.Key.{Key}

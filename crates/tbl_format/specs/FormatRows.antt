@@ -1,7 +1,7 @@
 -- What is kept of a format while it is read.
 use Rattle.std.specs.Prelude.{◌≡◌, ℕ, ◌+◌, ◌≤◌, List, [], ◌∷◌, length, take, drop, vec_capacity}
 use Rattle.tbl_format.specs.Format.{Format, FormatRow}
-use Rattle.tbl_format.specs.Parts.{EndWithin, last_end, parts_ending}
+use Rattle.tbl_format.specs.Parts.{AreFew, EndWithin, last_end, parts_ending}
 use Rattle.tbl_format.specs.declared.format.FormatKey.{FormatKey}
 use Rattle.tbl_format.specs.declared.format_rows.FormatRows.TheInside.{Inside}
 
@@ -59,4 +59,5 @@ pub record IsSound (a : Inside) : Type 0 where
   pub ends : EndWithin (length a.keys.items) 0 a.ends.items
   pub bars : length a.row_bars.items ≡ length a.ends.items
   pub first : a.first ≤ length a.ends.items
+  pub short : AreFew (length a.asked.items) 0 a.ends.items
   pub row : length (drop (last_end 0 a.ends.items) a.keys.items) ≤ length a.asked.items

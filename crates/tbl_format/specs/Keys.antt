@@ -2,7 +2,7 @@
 use Rattle.std.specs.Prelude.{ℕ, Bool, ◌||◌, List, Option, None, Some, codes, if◌then◌else◌, ◌==◌}
 use Rattle.std.specs.List.{list_any}
 use Rattle.roff_source.specs.Bytes.{tab, newline, blank}
-use Rattle.tbl_format.specs.Options.{comma, as_small}
+use Rattle.tbl_options.specs.Options.{comma, as_small}
 use Rattle.tbl_format.specs.declared.format.Key.{Key}
 use Rattle.tbl_format.specs.declared.format.Key.TheVariants.{Above, Alphabetic, Center, DoubleRule, Left, Numeric, Right, Rule, Spanned}
 

@@ -1,14 +1,11 @@
 pub mod TblLimits
-pub mod Messages
-pub mod Options
-pub mod OptionWords
 pub mod Keys
 pub mod LaidOut
 pub mod FormatSteps
 pub mod Format
 pub mod FormatWorked
 pub mod RowsServed
-pub mod Notes
 pub mod Parts
 pub mod KeyCounts
 pub mod FormatRows
+pub mod FormatLaws

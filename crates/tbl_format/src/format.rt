@@ -5,7 +5,7 @@ ghost use Rattle.std.specs.Prelude.{◌≡◌};
 ghost use Rattle.tbl_format.specs.Format.{plain_key};
 ghost use Rattle.tbl_format.specs.Keys.{is_between, key_of, separates_rows};
 
-use crate::option_words::as_small;
+use tbl_options::option_words::as_small;
 
 /// A key of the format: how the texts of a column stand in it.
 #[derive(Clone, Copy)]

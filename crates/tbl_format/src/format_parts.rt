@@ -11,8 +11,8 @@ ghost use Rattle.tbl_format.specs.Format.{greater};
 
 use crate::format::{FormatPlace, RowPart, Standing, is_between, key_of, separates_rows};
 use crate::format_step::{Does, FormatStep};
-use crate::option_words::as_small;
 use roff_num::{Scale, eval, round_h};
+use tbl_options::option_words::as_small;
 
 /// Keys, bars, and the ends of rows and of the format.
 pub(crate) fn among_keys(byte: u8) -> FormatStep

@@ -341,7 +341,8 @@ impl FormatRows {
     /// The keys of one of them.
     pub fn row_of_all(&self, at: usize) -> &[FormatKey]
         requires { at < length (all_rows self.now.format) }
-        ensures { result.now ≡ (row_at (all_rows self.now.format) at).keys }
+        ensures keys { result.now ≡ (row_at (all_rows self.now.format) at).keys }
+        ensures short { length result.now ≤ length self.now.format.asked }
     {
         &self.keys.as_slice()[part_start(self.ends.as_slice(), at)..self.ends[at]]
     }

@@ -13,8 +13,8 @@ fn is_key_laid_out(key: Key) -> bool
     match key {
         Key::Spanned => false,
         Key::Above => false,
-        Key::Rule => false,
-        Key::DoubleRule => false,
+        Key::Rule => true,
+        Key::DoubleRule => true,
         Key::Left => true,
         Key::Right => true,
         Key::Center => true,

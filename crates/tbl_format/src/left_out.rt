@@ -4,10 +4,10 @@ ghost use Rattle.std.specs.Prelude.{◌≡◌, ℕ, ◌+◌, ◌<◌, ◌≤◌,
 ghost use Rattle.std.specs.Prelude.{vec_capacity};
 ghost use Rattle.tbl_format.specs.Format.{Format, if_letter, letters_left_out};
 ghost use Rattle.tbl_format.specs.KeyCounts.{Counts, IsCount};
-ghost use Rattle.tbl_format.specs.Notes.{left_out_note};
+ghost use Rattle.tbl_options.specs.Notes.{left_out_note};
 
 use crate::key_count::KeyCount;
-use crate::notes::{Cause, KeptNote};
+use tbl_options::notes::{Cause, KeptNote};
 
 /// Keeps a message for each letter that is left out of a line of the format, behind what is counted
 /// of the lines before it.

@@ -4,7 +4,7 @@ ghost use Rattle.std.specs.Prelude.{◌≡◌, [], ◌∷◌, None, Some, codes,
 ghost use Rattle.tbl_format.specs.Format.{format_read, further, letters_left_out, no_format};
 ghost use Rattle.tbl_format.specs.Format.{nothing_asked, plain_key};
 ghost use Rattle.tbl_format.specs.FormatWorked.{all_done, does_in};
-ghost use Rattle.tbl_format.specs.Options.{options_read};
+ghost use Rattle.tbl_options.specs.Options.{options_read};
 ghost use Rattle.tbl_format.specs.declared.format.FormatPlace.TheVariants.{AtEnd, AtFault, InRows};
 ghost use Rattle.tbl_format.specs.declared.format.Key.TheVariants.{Above, Alphabetic, Center};
 ghost use Rattle.tbl_format.specs.declared.format.Key.TheVariants.{DoubleRule, Left, Numeric, Right};
@@ -122,9 +122,10 @@ pub fn formats()
 pub fn readings()
     ensures laid_out { (format_read no_format (codes "l xR3,cen,a.")).place ≡ AtEnd }
     ensures left_out { letters_left_out no_format (codes "lxmabr X,c.") ≡ 120 ∷ 109 ∷ 88 ∷ [] }
-    ensures behind_a_fault { letters_left_out no_format (codes "lx= x,c.") ≡ 120 ∷ [] }
-    ensures key { (format_read no_format (codes "l_.")).place ≡ AtFault }
-    ensures counted { (format_read no_format (codes "l=s.")).asked
+    ensures behind_a_fault { letters_left_out no_format (codes "lxs x,c.") ≡ 120 ∷ [] }
+    ensures rule { (format_read no_format (codes "l_,=.")).place ≡ AtEnd }
+    ensures key { (format_read no_format (codes "l,^.")).place ≡ AtFault }
+    ensures counted { (format_read no_format (codes "ls=.")).asked
         ≡ nothing_asked ∷ nothing_asked ∷ [] }
 {}
 

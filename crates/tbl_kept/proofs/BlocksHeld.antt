@@ -22,6 +22,7 @@ use Rattle.tbl_kept.specs.Rows.{AreKept, Command, ElementKept, KeptElement, Row,
 use Rattle.tbl_kept.specs.RowsLaying.{all_held, block_stands, holding_blocks, with_measures}
 use Rattle.tbl_kept.proofs.ColumnsHeld.{needing-nowhere, needs-same}
 use Rattle.tbl_layout.proofs.TextStands.{text-stands}
+use Rattle.tbl_layout.proofs.UnderKeys.{stands-completed}
 
 -- needs with further entries, one after another, and those of two
 abbrev with_all : Needs → List Stands → Needs
@@ -125,7 +126,7 @@ module _ (bytes : List ℕ) where
   module _ (formats : List FormatRow) where
     abbrev blocks_in : ℕ → ℕ → List KeptElement → List Stands
     blocks_in measure column [] = []
-    blocks_in measure column (Row keys height entries ∷ elements) =
+    blocks_in measure column (Row keys rules height entries ∷ elements) =
         block_at (row_at formats keys) measure column column entries ∷ blocks_in measure column elements
     blocks_in measure column (Rule sign ∷ elements) = blocks_in measure column elements
     blocks_in measure column (Command from to ∷ elements) = blocks_in measure column elements
@@ -134,8 +135,13 @@ module _ (bytes : List ℕ) where
         → both (needs_of (stands_in formats column elements)) (needs_of (blocks_in measure column elements))
         ≡ needs_of (entries_of measure column (elements_of bytes formats elements))
     needs-all columns measure column [] kept = needs-same _ _ (omega arith) (omega arith) (omega arith) (omega arith) (omega arith)
-    needs-all columns measure column (Row keys height entries ∷ elements) kept =
-        both-more _ _ _ _ _ _ (joins-at (row_at formats keys) measure column 0 column entries (omega arith) kept.0.kept)
+    needs-all columns measure column (Row keys rules height entries ∷ elements) kept =
+        let format = row_at formats keys in
+        let key = key_at format column in
+        both-more _ _ _ _ _ _
+        (subst (λ (s : Stands). Joins (stands_at format column column entries) (block_at format measure column column entries) s)
+        (sym (stands-completed measure key format (map (content_of bytes) entries) column))
+        (joins-at format measure column 0 column entries (omega arith) kept.0.kept))
         (needs-all columns measure column elements kept.1)
     needs-all columns measure column (Rule sign ∷ elements) kept = needs-all columns measure column elements kept.1
     needs-all columns measure column (Command from to ∷ elements) kept = needs-all columns measure column elements kept.1
@@ -150,7 +156,7 @@ module _ (bytes : List ℕ) where
     each_held-none column [] = refl
     each_held-none column (c ∷ columns) = ap (λ (cs : List Column). c ∷ cs) (each_held-none (suc column) columns)
 
-    module _ (keys height : ℕ) (entries : List Entry) (elements : List KeptElement) where
+    module _ (keys rules height : ℕ) (entries : List Entry) (elements : List KeptElement) where
       abbrev format : FormatRow
       format = row_at formats keys
 
@@ -161,24 +167,24 @@ module _ (bytes : List ℕ) where
 
       first-block : (c : Column) (column : ℕ) (rest : List Entry) → drop column entries ≡ rest
           → with_all (needing c.needs (block_at format c.measure column 0 rest)) (blocks_in c.measure column elements)
-          ≡ with_all c.needs (blocks_in c.measure column (Row keys height entries ∷ elements))
+          ≡ with_all c.needs (blocks_in c.measure column (Row keys rules height entries ∷ elements))
       first-block c column rest is =
           ap (λ (s : Stands). with_all (needing c.needs s) (blocks_in c.measure column elements))
           (sym (block_at-drop format c.measure column column entries ∙ ap (λ (es : List Entry). block_at format c.measure column 0 es) is))
 
       each_held-row : (column : ℕ) (rest : List Entry) (columns : List Column) → drop column entries ≡ rest
-          → each_held elements column (holding_blocks bytes format column rest columns) ≡ each_held (Row keys height entries ∷ elements) column columns
+          → each_held elements column (holding_blocks bytes format column rest columns) ≡ each_held (Row keys rules height entries ∷ elements) column columns
       each_held-row column [] [] is = refl
       each_held-row column (e ∷ rest) [] is = refl
       each_held-row column [] (c ∷ columns) is =
           ap (λ (n : Needs). record c { needs = n } ∷ each_held elements (suc column) columns)
           (ap (λ (n : Needs). with_all n (blocks_in c.measure column elements)) (sym (needing-nowhere c.needs)) ∙ first-block c column [] is)
-          ∙ ap (λ (cs : List Column). record c { needs = with_all c.needs (blocks_in c.measure column (Row keys height entries ∷ elements)) } ∷ cs)
+          ∙ ap (λ (cs : List Column). record c { needs = with_all c.needs (blocks_in c.measure column (Row keys rules height entries ∷ elements)) } ∷ cs)
           (each_held-row (suc column) [] columns (next-rest column [] is))
       each_held-row column (e ∷ rest) (c ∷ columns) is =
           ap (λ (n : Needs). record c { needs = n } ∷ each_held elements (suc column) (holding_blocks bytes format (suc column) rest columns))
           (first-block c column (e ∷ rest) is)
-          ∙ ap (λ (cs : List Column). record c { needs = with_all c.needs (blocks_in c.measure column (Row keys height entries ∷ elements)) } ∷ cs)
+          ∙ ap (λ (cs : List Column). record c { needs = with_all c.needs (blocks_in c.measure column (Row keys rules height entries ∷ elements)) } ∷ cs)
           (each_held-row (suc column) rest columns (next-rest column (e ∷ rest) is))
 
     each_held-command : (from to : ℕ) (elements : List KeptElement) (column : ℕ) (columns : List Column)
@@ -197,9 +203,9 @@ module _ (bytes : List ℕ) where
 
     all_held-each : (elements : List KeptElement) (columns : List Column) → all_held bytes formats elements columns ≡ each_held elements 0 columns
     all_held-each [] columns = each_held-none 0 columns
-    all_held-each (Row keys height entries ∷ elements) columns =
+    all_held-each (Row keys rules height entries ∷ elements) columns =
         all_held-each elements (holding_blocks bytes (row_at formats keys) 0 entries columns)
-        ∙ each_held-row keys height entries elements 0 entries columns refl
+        ∙ each_held-row keys rules height entries elements 0 entries columns refl
     all_held-each (Rule sign ∷ elements) columns = all_held-each elements columns ∙ each_held-rule sign elements 0 columns
     all_held-each (Command from to ∷ elements) columns = all_held-each elements columns ∙ each_held-command from to elements 0 columns
 
@@ -211,10 +217,10 @@ module _ (bytes : List ℕ) where
     each-from columns line_length count elements kept column [] = refl
     each-from columns line_length count elements kept column (a ∷ asked) =
         let measure = measure_of line_length count a in
-        ap (λ (n : Needs). record { needs = n; measure = measure; width = 0; start = 0 }
+        ap (λ (n : Needs). record { needs = n; measure = measure; bars = a.bars; width = 0; start = 0 }
         ∷ each_held elements (suc column) (with_measures line_length count asked (columns_holding formats elements (suc column) (length asked))))
         (with_all-both (needs_of (stands_in formats column elements)) (blocks_in measure column elements) ∙ needs-all columns measure column elements kept)
-        ∙ ap (λ (cs : List Column). record { needs = needs_of (entries_of measure column (elements_of bytes formats elements)); measure = measure; width = 0; start = 0 } ∷ cs)
+        ∙ ap (λ (cs : List Column). record { needs = needs_of (entries_of measure column (elements_of bytes formats elements)); measure = measure; bars = a.bars; width = 0; start = 0 } ∷ cs)
         (each-from columns line_length count elements kept (suc column) asked)
 
     pub all_held-from : (columns line_length : ℕ) (elements : List KeptElement) (asked : List Asked) → AllByRecursion (ElementKept bytes formats columns) elements

@@ -59,21 +59,21 @@ stands_at-behind format at (suc column) (e ∷ entries) short = stands_at-behind
 
 module _ (formats : List FormatRow) where
   -- one row more
-  stands_in-row : (column : ℕ) (elements : List KeptElement) (keys height : ℕ) (entries : List Entry)
-      → stands_in formats column (elements ++ Row keys height entries ∷ [])
+  stands_in-row : (column : ℕ) (elements : List KeptElement) (keys rules height : ℕ) (entries : List Entry)
+      → stands_in formats column (elements ++ Row keys rules height entries ∷ [])
       ≡ stands_in formats column elements ++ stands_at (row_at formats keys) column column entries ∷ []
-  stands_in-row column [] keys height entries = refl
-  stands_in-row column (Row other high row ∷ elements) keys height entries =
-      ap (λ (rest : List Stands). stands_at (row_at formats other) column column row ∷ rest) (stands_in-row column elements keys height entries)
-  stands_in-row column (Rule sign ∷ elements) keys height entries = stands_in-row column elements keys height entries
-  stands_in-row column (Command from to ∷ elements) keys height entries = stands_in-row column elements keys height entries
+  stands_in-row column [] keys rules height entries = refl
+  stands_in-row column (Row other before high row ∷ elements) keys rules height entries =
+      ap (λ (rest : List Stands). stands_at (row_at formats other) column column row ∷ rest) (stands_in-row column elements keys rules height entries)
+  stands_in-row column (Rule sign ∷ elements) keys rules height entries = stands_in-row column elements keys rules height entries
+  stands_in-row column (Command from to ∷ elements) keys rules height entries = stands_in-row column elements keys rules height entries
 
-  module _ (elements : List KeptElement) (keys height : ℕ) (entries : List Entry) where
+  module _ (elements : List KeptElement) (keys rules height : ℕ) (entries : List Entry) where
     needs-row : (column : ℕ) (rest : List Entry) → drop column entries ≡ rest
-        → needs_of (stands_in formats column (elements ++ Row keys height entries ∷ []))
+        → needs_of (stands_in formats column (elements ++ Row keys rules height entries ∷ []))
         ≡ needing (needs_of (stands_in formats column elements)) (stands_at (row_at formats keys) column 0 rest)
     needs-row column rest is =
-        ap needs_of (stands_in-row column elements keys height entries)
+        ap needs_of (stands_in-row column elements keys rules height entries)
         ∙ needs_of-last (stands_in formats column elements) (stands_at (row_at formats keys) column column entries)
         ∙ ap (λ (s : Stands). needing (needs_of (stands_in formats column elements)) s)
         (stands_at-drop (row_at formats keys) column column entries ∙ ap (λ (es : List Entry). stands_at (row_at formats keys) column 0 es) is)
@@ -85,25 +85,25 @@ module _ (formats : List FormatRow) where
 
     pub holding-row : (count column : ℕ) (rest : List Entry) → drop column entries ≡ rest
         → holding (row_at formats keys) column rest (columns_holding formats elements column count)
-        ≡ columns_holding formats (elements ++ Row keys height entries ∷ []) column count
+        ≡ columns_holding formats (elements ++ Row keys rules height entries ∷ []) column count
     holding-row zero column [] is = refl
     holding-row zero column (e ∷ rest) is = refl
     holding-row (suc count) column [] is =
         ap (λ (n : Needs). record no_column { needs = n } ∷ columns_holding formats elements (suc column) count)
         (sym (needs-row column [] is ∙ needing-nowhere (needs_of (stands_in formats column elements))))
-        ∙ ap (λ (cs : List Column). record no_column { needs = needs_of (stands_in formats column (elements ++ Row keys height entries ∷ [])) } ∷ cs)
+        ∙ ap (λ (cs : List Column). record no_column { needs = needs_of (stands_in formats column (elements ++ Row keys rules height entries ∷ [])) } ∷ cs)
         (holding-row count (suc column) [] (next-rest column [] is))
     holding-row (suc count) column (e ∷ rest) is =
         ap (λ (n : Needs). record no_column { needs = n } ∷ holding (row_at formats keys) (suc column) rest (columns_holding formats elements (suc column) count))
         (sym (needs-row column (e ∷ rest) is))
-        ∙ ap (λ (cs : List Column). record no_column { needs = needs_of (stands_in formats column (elements ++ Row keys height entries ∷ [])) } ∷ cs)
+        ∙ ap (λ (cs : List Column). record no_column { needs = needs_of (stands_in formats column (elements ++ Row keys rules height entries ∷ [])) } ∷ cs)
         (holding-row count (suc column) rest (next-rest column (e ∷ rest) is))
 
   -- a command stands in no column
   stands_in-command : (column : ℕ) (elements : List KeptElement) (from to : ℕ)
       → stands_in formats column (elements ++ Command from to ∷ []) ≡ stands_in formats column elements
   stands_in-command column [] from to = refl
-  stands_in-command column (Row keys height entries ∷ elements) from to =
+  stands_in-command column (Row keys rules height entries ∷ elements) from to =
       ap (λ (rest : List Stands). stands_at (row_at formats keys) column column entries ∷ rest) (stands_in-command column elements from to)
   stands_in-command column (Rule sign ∷ elements) from to = stands_in-command column elements from to
   stands_in-command column (Command start end ∷ elements) from to = stands_in-command column elements from to
@@ -121,7 +121,7 @@ module _ (formats : List FormatRow) where
   stands_in-rule : (column : ℕ) (elements : List KeptElement) (sign : RuleSign)
       → stands_in formats column (elements ++ Rule sign ∷ []) ≡ stands_in formats column elements
   stands_in-rule column [] sign = refl
-  stands_in-rule column (Row keys height entries ∷ elements) sign =
+  stands_in-rule column (Row keys rules height entries ∷ elements) sign =
       ap (λ (rest : List Stands). stands_at (row_at formats keys) column column entries ∷ rest) (stands_in-rule column elements sign)
   stands_in-rule column (Rule other ∷ elements) sign = stands_in-rule column elements sign
   stands_in-rule column (Command from to ∷ elements) sign = stands_in-rule column elements sign
@@ -159,7 +159,7 @@ module _ (formats : List FormatRow) where
     needs-behind : (column : ℕ) (elements : List KeptElement) → columns ≤ column → AllByRecursion (ElementKept bytes formats columns) elements
         → needs_of (stands_in formats column elements) ≡ needs_of []
     needs-behind column [] behind kept = refl
-    needs-behind column (Row keys height entries ∷ elements) behind kept =
+    needs-behind column (Row keys rules height entries ∷ elements) behind kept =
         ap (λ (s : Stands). needs_of (s ∷ stands_in formats column elements))
         (stands_at-behind (row_at formats keys) column column entries (omega (arith, behind, kept.0.short)))
         ∙ needs_of-nowhere (stands_in formats column elements)
@@ -182,7 +182,7 @@ module _ (bytes : List ℕ) (formats more : List FormatRow) (columns : ℕ) wher
   stands_in-formats : (column : ℕ) (elements : List KeptElement) → AllByRecursion (ElementKept bytes formats columns) elements
       → stands_in (formats ++ more) column elements ≡ stands_in formats column elements
   stands_in-formats column [] kept = refl
-  stands_in-formats column (Row keys height entries ∷ elements) kept =
+  stands_in-formats column (Row keys rules height entries ∷ elements) kept =
       ap (λ (row : FormatRow). stands_at row column column entries ∷ stands_in (formats ++ more) column elements) (row_at-more keys kept.0.serves)
       ∙ ap (λ (rest : List Stands). stands_at (row_at formats keys) column column entries ∷ rest) (stands_in-formats column elements kept.1)
   stands_in-formats column (Rule sign ∷ elements) kept = stands_in-formats column elements kept.1

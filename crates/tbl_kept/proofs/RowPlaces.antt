@@ -61,8 +61,8 @@ module _ (fields : List Entry) where
         let last = LieBetween-order row.to to elements lie.2 in
         let front : take row.to fields ≡ take row.to others =
         sym (take-take row.to to fields last) ∙ ap (λ (es : List Entry). take row.to es) same ∙ take-take row.to to others last in
-        ap (λ (es : List Entry). Row row.keys row.height es ∷ map (kept_in fields) elements) (slice_range-front fields others row.from row.to front)
-        ∙ ap (λ (es : List KeptElement). Row row.keys row.height (slice_range others row.from row.to) ∷ es) (kept-front row.to to elements same lie.2)
+        ap (λ (es : List Entry). Row row.keys row.rules row.height es ∷ map (kept_in fields) elements) (slice_range-front fields others row.from row.to front)
+        ∙ ap (λ (es : List KeptElement). Row row.keys row.rules row.height (slice_range others row.from row.to) ∷ es) (kept-front row.to to elements same lie.2)
     kept-front from to (OneRule sign ∷ elements) same lie =
         ap (λ (es : List KeptElement). Rule sign ∷ es) (kept-front from to elements same lie)
     kept-front from to (OneCommand start end ∷ elements) same lie =
@@ -81,8 +81,8 @@ module _ (fields : List Entry) where
     kept-behind from to (OneRow row ∷ elements) same lie =
         let part : slice_range fields row.from row.to ≡ slice_range others row.from row.to =
         ap (λ (es : List Entry). take (row.to - row.from) es) (drop-further from row.from (omega (arith, lie.0)) same) in
-        ap (λ (es : List Entry). Row row.keys row.height es ∷ map (kept_in fields) elements) part
-        ∙ ap (λ (es : List KeptElement). Row row.keys row.height (slice_range others row.from row.to) ∷ es)
+        ap (λ (es : List Entry). Row row.keys row.rules row.height es ∷ map (kept_in fields) elements) part
+        ∙ ap (λ (es : List KeptElement). Row row.keys row.rules row.height (slice_range others row.from row.to) ∷ es)
         (kept-behind row.to to elements (drop-further from row.to (omega (arith, lie.1)) same) lie.2)
     kept-behind from to (OneRule sign ∷ elements) same lie =
         ap (λ (es : List KeptElement). Rule sign ∷ es) (kept-behind from to elements same lie)
@@ -136,21 +136,21 @@ module _ (row : KeptRow) (height : ℕ) where
 
   module _ (fields others part : List Entry) (is_changed : RowChanged fields others part row.from row.to) where
     first-changed : (first : KeptRow) (to : ℕ) (elements : List Element) → first ≡ row → LieBetween first.to elements to
-        → Row first.keys height (slice_range others first.from first.to) ∷ map (kept_in others) elements ≡ Row row.keys height part ∷ map (kept_in fields) elements
+        → Row first.keys first.rules height (slice_range others first.from first.to) ∷ map (kept_in others) elements ≡ Row row.keys row.rules height part ∷ map (kept_in fields) elements
     first-changed first to elements same lie =
         let behind : drop first.to others ≡ drop first.to fields = subst (λ (r : KeptRow). drop r.to others ≡ drop r.to fields) (sym same) is_changed.behind in
-        ap (λ (r : KeptRow). Row r.keys height (slice_range others r.from r.to) ∷ map (kept_in others) elements) same
-        ∙ ap (λ (es : List Entry). Row row.keys height es ∷ map (kept_in others) elements) is_changed.is
-        ∙ ap (λ (es : List KeptElement). Row row.keys height part ∷ es) (kept-behind others fields first.to to elements behind lie)
+        ap (λ (r : KeptRow). Row r.keys r.rules height (slice_range others r.from r.to) ∷ map (kept_in others) elements) same
+        ∙ ap (λ (es : List Entry). Row row.keys row.rules height es ∷ map (kept_in others) elements) is_changed.is
+        ∙ ap (λ (es : List KeptElement). Row row.keys row.rules height part ∷ es) (kept-behind others fields first.to to elements behind lie)
 
     pub kept-set : (from to at : ℕ) (elements : List Element) (none : Element) → at < length elements → get_or elements at none ≡ OneRow row
         → LieBetween from elements to
         → map (kept_in others) (set elements at (OneRow (record row { height = height })))
-        ≡ set (map (kept_in fields) elements) at (Row row.keys height part)
+        ≡ set (map (kept_in fields) elements) at (Row row.keys row.rules height part)
     kept-set from to at [] none more is lie = absurd (omega (arith, more))
     kept-set from to zero (OneRow first ∷ elements) none more is lie =
         let same : first ≡ row = cc in
-        ap (λ (r : KeptRow). Row r.keys height (slice_range others r.from r.to) ∷ map (kept_in others) elements) (sym same)
+        ap (λ (r : KeptRow). Row r.keys r.rules height (slice_range others r.from r.to) ∷ map (kept_in others) elements) (sym same)
         ∙ first-changed first to elements same lie.2
     kept-set from to zero (OneRule sign ∷ elements) none more is lie = absurd cc
     kept-set from to zero (OneCommand start end ∷ elements) none more is lie = absurd cc
@@ -160,9 +160,9 @@ module _ (row : KeptRow) (height : ℕ) where
         sym (take-take first.to row.from others rest.first)
         ∙ ap (λ (es : List Entry). take first.to es) is_changed.front
         ∙ take-take first.to row.from fields rest.first in
-        ap (λ (es : List Entry). Row first.keys first.height es ∷ map (kept_in others) (set elements at (OneRow (record row { height = height }))))
+        ap (λ (es : List Entry). Row first.keys first.rules first.height es ∷ map (kept_in others) (set elements at (OneRow (record row { height = height }))))
         (slice_range-front others fields first.from first.to front)
-        ∙ ap (λ (es : List KeptElement). Row first.keys first.height (slice_range fields first.from first.to) ∷ es)
+        ∙ ap (λ (es : List KeptElement). Row first.keys first.rules first.height (slice_range fields first.from first.to) ∷ es)
         (kept-set first.to to at elements none (omega (arith, more)) is lie.2)
     kept-set from to (suc at) (OneRule sign ∷ elements) none more is lie =
         ap (λ (es : List KeptElement). Rule sign ∷ es) (kept-set from to at elements none (omega (arith, more)) is lie)

@@ -8,13 +8,13 @@ use Rattle.tbl_format.specs.RowsServed.{row_at}
 use Rattle.tbl_format.specs.declared.format.Asked.{Asked}
 use Rattle.tbl_format.specs.declared.format.Key.{Key}
 use Rattle.tbl_layout.specs.Columns.{equalled, placed, with_equal, with_widths}
-use Rattle.tbl_layout.specs.Entries.{Content, Element, Row as OneRow, key_at}
+use Rattle.tbl_layout.specs.Entries.{Content, Element, Row as OneRow, completed, key_at}
 use Rattle.tbl_layout.specs.KeptEntries.{IsKeptBy, IsLaid, IsLaidBy, content_by, content_of, lines_by}
 use Rattle.tbl_layout.specs.declared.columns.Column.{Column}
 use Rattle.tbl_layout.specs.declared.entry.Entry.{Entry}
 use Rattle.tbl_layout.specs.declared.entry.EntryKind.{EntryKind}
 use Rattle.tbl_layout.specs.declared.entry.EntryKind.TheVariants.{Block as BlockKind, Repeated as RepeatedKind, Ruled as RuledKind, Short as ShortKind, Split as SplitKind, Text as TextKind}
-use Rattle.tbl_kept.specs.Rows.{AreKept, AreLaid, Command, ElementKept, ElementLaid, KeptElement, Row, Rule, element_of, elements_of, height_of, measures}
+use Rattle.tbl_kept.specs.Rows.{AreKept, AreLaid, Command, ElementKept, ElementLaid, KeptElement, Row, Rule, element_of, elements_of, height_of, measures, rows_in_front}
 use Rattle.tbl_kept.specs.RowsLaying.{FieldLies, FieldsLie, laid_by, laid_element, laid_entries, laid_entry, measures_of}
 use Rattle.tbl_kept.proofs.Stepping.{greatest-more}
 
@@ -82,11 +82,13 @@ module _ (bytes : List ℕ) (columns : List Column) where
     pub all-laid : (elements : List KeptElement) → AllByRecursion (ElementKept bytes formats (length columns)) elements
         → AllByRecursion (ElementLaid bytes formats columns) (map (laid_element bytes (measures_of columns)) elements)
     all-laid [] kept = tt
-    all-laid (Row keys height entries ∷ elements) kept =
-        let few = length-laid bytes (measures_of columns) entries in (
+    all-laid (Row keys rules height entries ∷ elements) kept =
+        let same = length-laid bytes (measures_of columns) entries in (
           record {
             serves = kept.0.serves;
-            short = omega (arith, kept.0.short, few);
+            in_front = kept.0.in_front;
+            few = kept.0.few;
+            short = omega (arith, kept.0.short, same);
             laid = fields-laid (row_at formats keys) 0 (measures_of columns) entries refl (omega (arith, kept.0.short, length-measures columns)) kept.0.kept;
             high = refl;
           },
@@ -99,10 +101,11 @@ module _ (bytes : List ℕ) (columns : List Column) where
     pub elements_of-laid : (measures : List ℕ) (elements : List KeptElement)
         → elements_of bytes formats (map (laid_element bytes measures) elements) ≡ elements_of bytes formats elements
     elements_of-laid measures [] = refl
-    elements_of-laid measures (Row keys height entries ∷ elements) =
-        ap (λ (fields : List Content). OneRow (row_at formats keys) fields ∷ elements_of bytes formats (map (laid_element bytes measures) elements))
+    elements_of-laid measures (Row keys rules height entries ∷ elements) =
+        ap (λ (fields : List Content). OneRow (rows_in_front formats keys rules) (row_at formats keys) (completed (row_at formats keys) fields)
+        ∷ elements_of bytes formats (map (laid_element bytes measures) elements))
         (contents-laid bytes measures entries)
-        ∙ ap (λ (es : List Element). OneRow (row_at formats keys) (map (content_of bytes) entries) ∷ es) (elements_of-laid measures elements)
+        ∙ ap (λ (es : List Element). element_of bytes formats (Row keys rules height entries) ∷ es) (elements_of-laid measures elements)
     elements_of-laid measures (Rule sign ∷ elements) =
         ap (λ (es : List Element). element_of bytes formats (Rule sign) ∷ es) (elements_of-laid measures elements)
     elements_of-laid measures (Command from to ∷ elements) =
@@ -120,9 +123,11 @@ module _ (bytes : List ℕ) (columns : List Column) where
     pub RowsLaid-measures : (others : List Column) → measures_of columns ≡ measures_of others → (elements : List KeptElement)
         → AllByRecursion (ElementLaid bytes formats columns) elements → AllByRecursion (ElementLaid bytes formats others) elements
     RowsLaid-measures others same [] laid = tt
-    RowsLaid-measures others same (Row keys height entries ∷ elements) laid = (
+    RowsLaid-measures others same (Row keys rules height entries ∷ elements) laid = (
       record {
         serves = laid.0.serves;
+        in_front = laid.0.in_front;
+        few = omega (arith, laid.0.few, ap length same, length-measures columns, length-measures others);
         short = omega (arith, laid.0.short, ap length same, length-measures columns, length-measures others);
         laid = fields-measured others same (row_at formats keys) 0 entries laid.0.laid;
         high = laid.0.high;

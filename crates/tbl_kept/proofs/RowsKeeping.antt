@@ -1,17 +1,17 @@
 -- What is kept of a table's rows stays as it is behind each step of its reading.
-use Rattle.std.proofs.Common.{◌≡◌, ℕ, zero, suc, ◌+◌, ◌-◌, ◌<◌, ◌≤◌, List, [], ◌∷◌, ◌++◌, length, map, replicate, refl, sym, ap, subst, ◌∙◌, arith, length-append}
+use Rattle.std.proofs.Common.{◌≡◌, ℕ, zero, suc, ◌+◌, ◌-◌, ◌<◌, ◌≤◌, List, [], ◌∷◌, ◌++◌, length, map, take, drop, replicate, refl, sym, ap, subst, ◌∙◌, arith, length-append, length-drop}
 use Rattle.std.specs.List.{AllByRecursion, slice_range}
-use Rattle.std.proofs.lemmas.List.{length-replicate, map-append}
+use Rattle.std.proofs.lemmas.List.{drop-append-le, length-replicate, map-append, take-append-le}
 use Rattle.tbl_format.specs.Format.{FormatRow}
 use Rattle.tbl_format.specs.RowsServed.{row_at}
 use Rattle.tbl_layout.specs.Columns.{needs_of}
-use Rattle.tbl_layout.specs.Entries.{Command as OneCommand, Content, Element, Row as OneRow, Rule as OneRule, key_at}
+use Rattle.tbl_layout.specs.Entries.{Command as OneCommand, Content, Element, Row as OneRow, Rule as OneRule, completed, key_at}
 use Rattle.tbl_layout.specs.KeptEntries.{IsKept, content_of, with_end}
 use Rattle.tbl_layout.specs.declared.columns.Column.{Column}
 use Rattle.tbl_layout.specs.declared.data_lines.RuleSign.{RuleSign}
 use Rattle.tbl_layout.specs.declared.entry.Entry.{Entry}
-use Rattle.tbl_layout.proofs.Elements.{each-append}
-use Rattle.tbl_kept.specs.Rows.{AreKept, AreLaid, Command, ElementKept, ElementLaid, KeptElement, KeptRows, Row, RowBegunKept, RowsKept, RowsLaid, Rule, columns_holding, element_of, elements_of, holding, last_changed, measures, no_column, no_rows, with_block_end, with_columns, with_command, with_entry, with_row, with_rule}
+use Rattle.tbl_format.proofs.Elements.{each-append}
+use Rattle.tbl_kept.specs.Rows.{AreKept, AreLaid, Command, ElementKept, ElementLaid, KeptElement, KeptRows, Row, RowBegunKept, RowsKept, RowsLaid, Rule, columns_holding, element_of, elements_of, fields_of, holding, last_changed, measures, no_column, no_rows, rows_in_front, with_block_end, with_columns, with_command, with_entry, with_row, with_rule}
 use Rattle.tbl_kept.specs.RowsGrowing.{BlockGrows, with_line}
 use Rattle.tbl_kept.proofs.ColumnsHeld.{columns_holding-behind, columns_holding-command, columns_holding-formats, columns_holding-more, columns_holding-rule, holding-row, length-columns_holding, row_at-more}
 use Rattle.tbl_kept.proofs.KeptFields.{AreKept-front, AreKept-last, AreKept-more, IsKept-block_end, IsLaid-more, content_of-block_end, content_of-laid-more, contents-more, last_changed-last, more-within, part-more}
@@ -35,8 +35,10 @@ RowsKept-none bytes formats entries elements columns = record { elements = tt; c
 -- bytes behind those of the table change no row
 module _ (bytes more : List ℕ) (formats : List FormatRow) where
   element-kept-more : (columns : ℕ) (e : KeptElement) → ElementKept bytes formats columns e → ElementKept (bytes ++ more) formats columns e
-  element-kept-more columns (Row keys height entries) kept = record {
+  element-kept-more columns (Row keys rules height entries) kept = record {
     serves = kept.serves;
+    in_front = kept.in_front;
+    few = kept.few;
     short = kept.short;
     kept = AreKept-more bytes more (row_at formats keys) 0 entries kept.kept;
     low = kept.low;
@@ -46,8 +48,8 @@ module _ (bytes more : List ℕ) (formats : List FormatRow) where
 
   element_of-more : (columns : ℕ) (e : KeptElement) → ElementKept bytes formats columns e
       → element_of (bytes ++ more) formats e ≡ element_of bytes formats e
-  element_of-more columns (Row keys height entries) kept =
-      ap (λ (fields : List Content). OneRow (row_at formats keys) fields) (contents-more bytes more (row_at formats keys) 0 entries kept.kept)
+  element_of-more columns (Row keys rules height entries) kept =
+      ap (λ (fields : List Content). OneRow (rows_in_front formats keys rules) (row_at formats keys) (completed (row_at formats keys) fields)) (contents-more bytes more (row_at formats keys) 0 entries kept.kept)
   element_of-more columns (Rule sign) kept = refl
   element_of-more columns (Command from to) kept = ap OneCommand (part-more bytes more from to kept.within)
 
@@ -87,8 +89,10 @@ module _ (bytes more : List ℕ) (formats : List FormatRow) where
       ∙ ap (λ (cs : List Content). content_of bytes e ∷ cs) (contents-laid-more columns format (suc column) entries laid.1)
 
   element-laid-more : (columns : List Column) (e : KeptElement) → ElementLaid bytes formats columns e → ElementLaid (bytes ++ more) formats columns e
-  element-laid-more columns (Row keys height entries) laid = record {
+  element-laid-more columns (Row keys rules height entries) laid = record {
     serves = laid.serves;
+    in_front = laid.in_front;
+    few = laid.few;
     short = laid.short;
     laid = fields-laid-more columns (row_at formats keys) 0 entries laid.laid;
     high = laid.high;
@@ -98,8 +102,8 @@ module _ (bytes more : List ℕ) (formats : List FormatRow) where
 
   element_of-laid-more : (columns : List Column) (e : KeptElement) → ElementLaid bytes formats columns e
       → element_of (bytes ++ more) formats e ≡ element_of bytes formats e
-  element_of-laid-more columns (Row keys height entries) laid =
-      ap (λ (fields : List Content). OneRow (row_at formats keys) fields) (contents-laid-more columns (row_at formats keys) 0 entries laid.laid)
+  element_of-laid-more columns (Row keys rules height entries) laid =
+      ap (λ (fields : List Content). OneRow (rows_in_front formats keys rules) (row_at formats keys) (completed (row_at formats keys) fields)) (contents-laid-more columns (row_at formats keys) 0 entries laid.laid)
   element_of-laid-more columns (Rule sign) laid = refl
   element_of-laid-more columns (Command from to) laid = ap OneCommand (part-more bytes more from to laid.within)
 
@@ -114,10 +118,18 @@ module _ (bytes more : List ℕ) (formats : List FormatRow) where
       (element_of-laid-more k.columns) k.elements laid
 
 -- rows of formats behind those that are known change no row
+pub rows_in_front-more : (formats more : List FormatRow) (keys rules : ℕ) → keys < length formats → rules ≤ keys
+    → rows_in_front (formats ++ more) keys rules ≡ rows_in_front formats keys rules
+rows_in_front-more formats more keys rules serves few =
+    ap (λ (rows : List FormatRow). take rules rows) (drop-append-le (keys - rules) formats more (omega (arith, serves)))
+    ∙ take-append-le rules (drop (keys - rules) formats) more (omega (arith, serves, few, length-drop (keys - rules) formats))
+
 module _ (bytes : List ℕ) (formats more : List FormatRow) where
   element-kept-formats : (columns : ℕ) (e : KeptElement) → ElementKept bytes formats columns e → ElementKept bytes (formats ++ more) columns e
-  element-kept-formats columns (Row keys height entries) kept = record {
+  element-kept-formats columns (Row keys rules height entries) kept = record {
     serves = omega (arith, kept.serves, length-append formats more);
+    in_front = kept.in_front;
+    few = subst (λ (row : FormatRow). length row.keys ≤ columns) (sym (row_at-more bytes formats more columns keys kept.serves)) kept.few;
     short = kept.short;
     kept = subst (λ (row : FormatRow). AreKept bytes row 0 entries) (sym (row_at-more bytes formats more columns keys kept.serves)) kept.kept;
     low = kept.low;
@@ -127,8 +139,11 @@ module _ (bytes : List ℕ) (formats more : List FormatRow) where
 
   element_of-formats : (columns : ℕ) (e : KeptElement) → ElementKept bytes formats columns e
       → element_of bytes (formats ++ more) e ≡ element_of bytes formats e
-  element_of-formats columns (Row keys height entries) kept =
-      ap (λ (row : FormatRow). OneRow row (map (content_of bytes) entries)) (row_at-more bytes formats more columns keys kept.serves)
+  element_of-formats columns (Row keys rules height entries) kept =
+      ap (λ (row : FormatRow). OneRow (rows_in_front (formats ++ more) keys rules) row (fields_of bytes row entries))
+      (row_at-more bytes formats more columns keys kept.serves)
+      ∙ ap (λ (front : List FormatRow). OneRow front (row_at formats keys) (fields_of bytes (row_at formats keys) entries))
+      (rows_in_front-more formats more keys rules kept.serves kept.in_front)
   element_of-formats columns (Rule sign) kept = refl
   element_of-formats columns (Command from to) kept = refl
 
@@ -212,26 +227,27 @@ module _ (bytes : List ℕ) (formats : List FormatRow) (k : KeptRows) where
         ∙ ap (λ (c : Content). map (content_of bytes) front ++ c ∷ []) (content_of-block_end bytes e to grows)
 
   -- the row that is begun is whole
-  pub RowsKept-row : (keys : ℕ) → keys < length formats → RowBegunKept bytes formats keys k
-      → RowsKept bytes formats (with_row keys (row_at formats keys) k)
-  RowsKept-row keys serves begun =
+  pub RowsKept-row : (keys rules : ℕ) → keys < length formats → rules ≤ keys → length (row_at formats keys).keys ≤ length k.columns
+      → RowBegunKept bytes formats keys k → RowsKept bytes formats (with_row keys rules (row_at formats keys) k)
+  RowsKept-row keys rules serves in_front few begun =
       let columns : holding (row_at formats keys) 0 k.row k.columns
-      ≡ columns_holding formats (k.elements ++ Row keys 1 k.row ∷ []) 0 (length k.columns) =
+      ≡ columns_holding formats (k.elements ++ Row keys rules 1 k.row ∷ []) 0 (length k.columns) =
       ap (λ (cs : List Column). holding (row_at formats keys) 0 k.row cs) begun.all.columns
-      ∙ holding-row formats k.elements keys 1 k.row (length k.columns) 0 k.row refl in
+      ∙ holding-row formats k.elements keys rules 1 k.row (length k.columns) 0 k.row refl in
       let same : length (holding (row_at formats keys) 0 k.row k.columns) ≡ length k.columns =
-      ap length columns ∙ length-columns_holding formats (k.elements ++ Row keys 1 k.row ∷ []) 0 (length k.columns) in
-      let all : AllByRecursion (ElementKept bytes formats (length k.columns)) (k.elements ++ Row keys 1 k.row ∷ []) =
-      each-append (ElementKept bytes formats (length k.columns)) k.elements (Row keys 1 k.row ∷ []) begun.all.elements
-      (record { serves = serves; short = begun.short; kept = begun.row; low = refl }, tt) in
+      ap length columns ∙ length-columns_holding formats (k.elements ++ Row keys rules 1 k.row ∷ []) 0 (length k.columns) in
+      let all : AllByRecursion (ElementKept bytes formats (length k.columns)) (k.elements ++ Row keys rules 1 k.row ∷ []) =
+      each-append (ElementKept bytes formats (length k.columns)) k.elements (Row keys rules 1 k.row ∷ []) begun.all.elements
+      (record { serves = serves; in_front = in_front; few = few; short = begun.short; kept = begun.row; low = refl }, tt) in
       record {
-        elements = subst (λ (n : ℕ). AllByRecursion (ElementKept bytes formats n) (k.elements ++ Row keys 1 k.row ∷ [])) (sym same) all;
-        columns = columns ∙ ap (λ (n : ℕ). columns_holding formats (k.elements ++ Row keys 1 k.row ∷ []) 0 n) (sym same);
+        elements = subst (λ (n : ℕ). AllByRecursion (ElementKept bytes formats n) (k.elements ++ Row keys rules 1 k.row ∷ [])) (sym same) all;
+        columns = columns ∙ ap (λ (n : ℕ). columns_holding formats (k.elements ++ Row keys rules 1 k.row ∷ []) 0 n) (sym same);
       }
 
-  pub elements_of-row : (keys : ℕ) → elements_of bytes formats (with_row keys (row_at formats keys) k).elements
-      ≡ elements_of bytes formats k.elements ++ OneRow (row_at formats keys) (map (content_of bytes) k.row) ∷ []
-  elements_of-row keys = map-append (element_of bytes formats) k.elements (Row keys 1 k.row ∷ [])
+  pub elements_of-row : (keys rules : ℕ) → elements_of bytes formats (with_row keys rules (row_at formats keys) k).elements
+      ≡ elements_of bytes formats k.elements
+      ++ OneRow (rows_in_front formats keys rules) (row_at formats keys) (fields_of bytes (row_at formats keys) k.row) ∷ []
+  elements_of-row keys rules = map-append (element_of bytes formats) k.elements (Row keys rules 1 k.row ∷ [])
 
   -- a command
   pub RowsKept-command : (from to : ℕ) → from ≤ to → to ≤ length bytes → RowsKept bytes formats k
@@ -270,8 +286,15 @@ module _ (bytes : List ℕ) (formats : List FormatRow) (k : KeptRows) where
   length-columns count = omega (arith, length-append k.columns (replicate (count - length k.columns) no_column), length-replicate (count - length k.columns) no_column)
 
   element-wider : (few many : ℕ) → few ≤ many → (e : KeptElement) → ElementKept bytes formats few e → ElementKept bytes formats many e
-  element-wider few many less (Row keys height entries) kept =
-      record { serves = kept.serves; short = omega (arith, kept.short, less); kept = kept.kept; low = kept.low }
+  element-wider few many less (Row keys rules height entries) kept =
+      record {
+        serves = kept.serves;
+        in_front = kept.in_front;
+        few = omega (arith, kept.few, less);
+        short = omega (arith, kept.short, less);
+        kept = kept.kept;
+        low = kept.low;
+      }
   element-wider few many less (Rule sign) kept = tt
   element-wider few many less (Command from to) kept = record { order = kept.order; within = kept.within }
 

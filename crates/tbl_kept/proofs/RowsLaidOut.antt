@@ -45,10 +45,10 @@ module _ (fields others part : List Entry) (elements : List Element) (start at :
       let rows_with : List KeptElement → List Entry → List Column → KeptRows =
       λ els r cs. record { elements = els; row = r; columns = cs; entry_room = entry_room; element_room = element_room; column_room = column_room } in
       let kept = map (kept_in fields) elements in
-      let same : get_or kept at (Command 0 0) ≡ Row row.keys row.height slice = kept-at fields elements at none (OneRow row) (Command 0 0) more is in
-      let element : Row row.keys height part ≡ laid_element bytes (measures_of columns) (get_or kept at (Command 0 0)) =
-      ap (λ (h : ℕ). Row row.keys h part) high
-      ∙ ap (λ (es : List Entry). Row row.keys (height_of es) es) laid
+      let same : get_or kept at (Command 0 0) ≡ Row row.keys row.rules row.height slice = kept-at fields elements at none (OneRow row) (Command 0 0) more is in
+      let element : Row row.keys row.rules height part ≡ laid_element bytes (measures_of columns) (get_or kept at (Command 0 0)) =
+      ap (λ (h : ℕ). Row row.keys row.rules h part) high
+      ∙ ap (λ (es : List Entry). Row row.keys row.rules (height_of es) es) laid
       ∙ ap (λ (e : KeptElement). laid_element bytes (measures_of columns) e) (sym same) in
       ap (λ (els : List KeptElement). rows_with els (drop start others) new_columns) (kept-set row height fields others part changed 0 start at elements none more is lie
       ∙ ap (λ (e : KeptElement). set kept at e) element)

@@ -66,7 +66,7 @@ measures-held bytes format column (e ∷ entries) (c ∷ columns) = ap (λ (ms :
 
 pub measures-blocks_held : (bytes : List ℕ) (formats : List FormatRow) (e : KeptElement) (columns : List Column)
     → measures_of (blocks_held bytes formats e columns) ≡ measures_of columns
-measures-blocks_held bytes formats (Row keys height entries) columns = measures-held bytes (row_at formats keys) 0 entries columns
+measures-blocks_held bytes formats (Row keys rules height entries) columns = measures-held bytes (row_at formats keys) 0 entries columns
 measures-blocks_held bytes formats (Rule sign) columns = refl
 measures-blocks_held bytes formats (Command from to) columns = refl
 
@@ -83,15 +83,16 @@ next-laid bytes entries columns others at e new c in_entries in_columns same is 
     (is ∙ ap (λ (m : ℕ). laid_entry bytes m (get_or entries at e)) (sym (measure-at columns at c in_columns)))
 
 -- a column has its measure
-pub next-measured : (line_length count : ℕ) (asked : List Asked) (columns : List Column) (at : ℕ) (a : Asked) (c : Column) (m : ℕ)
-    → at < length asked → at < length columns → m ≡ measure_of line_length count (get_or asked at a)
-    → take (at + 1) (set columns at (record (get_or columns at c) { measure = m }))
-    ++ with_measures line_length count (drop (at + 1) asked) (drop (at + 1) (set columns at (record (get_or columns at c) { measure = m })))
+pub next-measured : (line_length count : ℕ) (asked : List Asked) (columns : List Column) (at : ℕ) (a : Asked) (c : Column) (m bars : ℕ)
+    → at < length asked → at < length columns → m ≡ measure_of line_length count (get_or asked at a) → bars ≡ (get_or asked at a).bars
+    → take (at + 1) (set columns at (record (get_or columns at c) { measure = m; bars = bars }))
+    ++ with_measures line_length count (drop (at + 1) asked) (drop (at + 1) (set columns at (record (get_or columns at c) { measure = m; bars = bars })))
     ≡ take at columns ++ with_measures line_length count (drop at asked) (drop at columns)
-next-measured line_length count asked columns at a c m in_asked in_columns is =
-    next-along (with_measures line_length count) (with_measures line_length count) (λ x d. record d { measure = measure_of line_length count x })
-    (λ x xs d rest. refl) columns asked at a c (record (get_or columns at c) { measure = m }) in_columns in_asked
-    (ap (λ (k : ℕ). record (get_or columns at c) { measure = k }) is)
+next-measured line_length count asked columns at a c m bars in_asked in_columns is same =
+    next-along (with_measures line_length count) (with_measures line_length count) (λ x d. record d { measure = measure_of line_length count x; bars = x.bars })
+    (λ x xs d rest. refl) columns asked at a c (record (get_or columns at c) { measure = m; bars = bars }) in_columns in_asked
+    (ap (λ (k : ℕ). record (get_or columns at c) { measure = k; bars = bars }) is
+    ∙ ap (λ (b : ℕ). record (get_or columns at c) { measure = measure_of line_length count (get_or asked at a); bars = b }) same)
 
 -- and the measures in front of it stay narrow
 pub next-narrow : (columns : List Column) (at most : ℕ) (new : Column) → at < length columns → new.measure < most

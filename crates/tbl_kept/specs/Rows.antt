@@ -1,10 +1,10 @@
 -- The rows, rules and commands of a table, as they are kept: their texts lie in the table's bytes (Lesk, "Tbl": Data).
-use Rattle.std.specs.Prelude.{◌≡◌, ℕ, zero, suc, ◌+◌, ◌-◌, ◌≤◌, ◌<◌, max, List, [], ◌∷◌, ◌++◌, length, map, replicate, get_or}
+use Rattle.std.specs.Prelude.{◌≡◌, ℕ, zero, suc, ◌+◌, ◌-◌, ◌≤◌, ◌<◌, max, List, [], ◌∷◌, ◌++◌, length, map, take, drop, replicate, get_or}
 use Rattle.std.specs.List.{slice_range, AllByRecursion}
 use Rattle.tbl_format.specs.Format.{FormatRow}
 use Rattle.tbl_format.specs.RowsServed.{row_at}
 use Rattle.tbl_layout.specs.Columns.{greatest, needing, needs_of}
-use Rattle.tbl_layout.specs.Entries.{Command as OneCommand, Element, Row as OneRow, Rule as OneRule, key_at}
+use Rattle.tbl_layout.specs.Entries.{Command as OneCommand, Content, Element, Row as OneRow, Rule as OneRule, completed, key_at}
 use Rattle.tbl_layout.specs.KeptEntries.{IsKept, IsLaid, content_of, lines_by, stands_of, with_end}
 use Rattle.tbl_kept.specs.declared.rows.Lent.{Lent}
 use Rattle.tbl_kept.specs.declared.rows.Lent.TheVariants.{Command as LentCommand, Row as LentRow, Rule as LentRule}
@@ -14,10 +14,11 @@ use Rattle.tbl_layout.specs.declared.columns.Stands.TheVariants.{Nowhere}
 use Rattle.tbl_layout.specs.declared.data_lines.RuleSign.{RuleSign}
 use Rattle.tbl_layout.specs.declared.entry.Entry.{Entry}
 
--- a row by the place of the row of the formats that serves it, its lines, and its fields; a rule over the whole table; or a command
+-- a row by the place of the row of the formats that serves it, how many rows of rule keys stand in front of it, its lines, and its
+-- fields; a rule over the whole table; or a command
 -- by where it lies
 pub data KeptElement : Type 0 where
-  Row : (keys height : ℕ) (entries : List Entry) → KeptElement
+  Row : (keys rules height : ℕ) (entries : List Entry) → KeptElement
   Rule : (sign : RuleSign) → KeptElement
   Command : (from to : ℕ) → KeptElement
 
@@ -41,7 +42,7 @@ cleared k = no_rows k.entry_room k.element_room k.column_room
 
 -- how many fields they have, with those of the row that is begun
 abbrev pub len_of : KeptElement → ℕ
-len_of (Row keys height entries) = length entries
+len_of (Row keys rules height entries) = length entries
 len_of (Rule sign) = 0
 len_of (Command from to) = 0
 
@@ -54,7 +55,7 @@ entries_of k = entries_in k.elements + length k.row
 
 -- a column without an entry
 abbrev pub no_column : Column
-no_column = record { needs = needs_of []; measure = 0; width = 0; start = 0 }
+no_column = record { needs = needs_of []; measure = 0; bars = 0; width = 0; start = 0 }
 
 -- a further format is read, with which there are so many columns
 abbrev pub with_columns : ℕ → KeptRows → KeptRows
@@ -81,10 +82,10 @@ holding format column (e ∷ entries) [] = []
 holding format column (e ∷ entries) (c ∷ columns) =
     record c { needs = needing c.needs (stands_of (key_at format column) e) } ∷ holding format (suc column) entries columns
 
--- the row that is begun is whole, and this row of the formats serves it
-abbrev pub with_row : ℕ → FormatRow → KeptRows → KeptRows
-with_row keys format k = record k {
-  elements = k.elements ++ Row keys 1 k.row ∷ [];
+-- the row that is begun is whole, and this row of the formats serves it, in front of which so many rows of rule keys stand
+abbrev pub with_row : ℕ → ℕ → FormatRow → KeptRows → KeptRows
+with_row keys rules format k = record k {
+  elements = k.elements ++ Row keys rules 1 k.row ∷ [];
   row = [];
   columns = holding format 0 k.row k.columns;
 }
@@ -99,13 +100,22 @@ with_command from to k = record k { elements = k.elements ++ Command from to ∷
 
 -- what is lent
 abbrev pub lent : Lent → KeptElement
-lent (LentRow keys height entries) = Row keys height entries.now
+lent (LentRow keys rules height entries) = Row keys rules height entries.now
 lent (LentRule sign) = Rule sign
 lent (LentCommand from to) = Command from to
 
+-- so many rows of the formats in front of one
+abbrev pub rows_in_front : List FormatRow → ℕ → ℕ → List FormatRow
+rows_in_front formats keys rules = take rules (drop (keys - rules) formats)
+
+-- the fields of a row under its keys, by the table's bytes
+abbrev pub fields_of : List ℕ → FormatRow → List Entry → List Content
+fields_of bytes format entries = completed format (map (content_of bytes) entries)
+
 -- what stands in the table, by its bytes and the rows of all formats
 abbrev pub element_of : List ℕ → List FormatRow → KeptElement → Element
-element_of bytes formats (Row keys height entries) = OneRow (row_at formats keys) (map (content_of bytes) entries)
+element_of bytes formats (Row keys rules height entries) =
+    OneRow (rows_in_front formats keys rules) (row_at formats keys) (fields_of bytes (row_at formats keys) entries)
 element_of bytes formats (Rule sign) = OneRule sign
 element_of bytes formats (Command from to) = OneCommand (slice_range bytes from to)
 
@@ -117,9 +127,12 @@ abbrev pub AreKept : List ℕ → FormatRow → ℕ → List Entry → Type 0
 AreKept bytes format column [] = Unit {0}
 AreKept bytes format column (e ∷ entries) = IsKept bytes (key_at format column) e × AreKept bytes format (suc column) entries
 
--- a row of the formats serves a row, which has at most so many fields, all of which are kept
-pub record RowKept (bytes : List ℕ) (formats : List FormatRow) (columns keys height : ℕ) (entries : List Entry) : Type 0 where
+-- a row of the formats serves a row, which has no more keys than there are columns, and behind that many in front of it; the row has at
+-- most so many fields, all of which are kept
+pub record RowKept (bytes : List ℕ) (formats : List FormatRow) (columns keys rules height : ℕ) (entries : List Entry) : Type 0 where
   pub serves : keys < length formats
+  pub in_front : rules ≤ keys
+  pub few : length (row_at formats keys).keys ≤ columns
   pub short : length entries ≤ columns
   pub kept : AreKept bytes (row_at formats keys) 0 entries
   pub low : height ≡ 1
@@ -129,7 +142,7 @@ pub record CommandLies (bytes : List ℕ) (from to : ℕ) : Type 0 where
   pub within : to ≤ length bytes
 
 abbrev pub ElementKept : List ℕ → List FormatRow → ℕ → KeptElement → Type 0
-ElementKept bytes formats columns (Row keys height entries) = RowKept bytes formats columns keys height entries
+ElementKept bytes formats columns (Row keys rules height entries) = RowKept bytes formats columns keys rules height entries
 ElementKept bytes formats columns (Rule sign) = Unit {0}
 ElementKept bytes formats columns (Command from to) = CommandLies bytes from to
 
@@ -141,7 +154,7 @@ stands_at format at (suc column) (e ∷ entries) = stands_at format at column en
 
 abbrev pub stands_in : List FormatRow → ℕ → List KeptElement → List Stands
 stands_in formats column [] = []
-stands_in formats column (Row keys height entries ∷ elements) =
+stands_in formats column (Row keys rules height entries ∷ elements) =
     stands_at (row_at formats keys) column column entries ∷ stands_in formats column elements
 stands_in formats column (Rule sign ∷ elements) = stands_in formats column elements
 stands_in formats column (Command from to ∷ elements) = stands_in formats column elements
@@ -178,14 +191,16 @@ AreLaid bytes columns format column [] = Unit {0}
 AreLaid bytes columns format column (e ∷ entries) =
     IsLaid bytes (measures columns column) (key_at format column) e × AreLaid bytes columns format (suc column) entries
 
-pub record RowLaid (bytes : List ℕ) (formats : List FormatRow) (columns : List Column) (keys height : ℕ) (entries : List Entry) : Type 0 where
+pub record RowLaid (bytes : List ℕ) (formats : List FormatRow) (columns : List Column) (keys rules height : ℕ) (entries : List Entry) : Type 0 where
   pub serves : keys < length formats
+  pub in_front : rules ≤ keys
+  pub few : length (row_at formats keys).keys ≤ length columns
   pub short : length entries ≤ length columns
   pub laid : AreLaid bytes columns (row_at formats keys) 0 entries
   pub high : height ≡ height_of entries
 
 abbrev pub ElementLaid : List ℕ → List FormatRow → List Column → KeptElement → Type 0
-ElementLaid bytes formats columns (Row keys height entries) = RowLaid bytes formats columns keys height entries
+ElementLaid bytes formats columns (Row keys rules height entries) = RowLaid bytes formats columns keys rules height entries
 ElementLaid bytes formats columns (Rule sign) = Unit {0}
 ElementLaid bytes formats columns (Command from to) = CommandLies bytes from to
 

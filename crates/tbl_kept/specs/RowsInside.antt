@@ -9,7 +9,7 @@ use Rattle.tbl_layout.specs.declared.entry.Entry.{Entry}
 
 -- what an element is whose fields lie among these
 abbrev pub kept_in : List Entry → Element → KeptElement
-kept_in entries (OneRow row) = Row row.keys row.height (slice_range entries row.from row.to)
+kept_in entries (OneRow row) = Row row.keys row.rules row.height (slice_range entries row.from row.to)
 kept_in entries (OneRule sign) = Rule sign
 kept_in entries (OneCommand from to) = Command from to
 

@@ -33,8 +33,8 @@ laid_entries bytes (measure ∷ measures) [] = []
 laid_entries bytes (measure ∷ measures) (e ∷ entries) = laid_entry bytes measure e ∷ laid_entries bytes measures entries
 
 abbrev pub laid_element : List ℕ → List ℕ → KeptElement → KeptElement
-laid_element bytes measures (Row keys height entries) =
-    Row keys (height_of (laid_entries bytes measures entries)) (laid_entries bytes measures entries)
+laid_element bytes measures (Row keys rules height entries) =
+    Row keys rules (height_of (laid_entries bytes measures entries)) (laid_entries bytes measures entries)
 laid_element bytes measures (Rule sign) = Rule sign
 laid_element bytes measures (Command from to) = Command from to
 
@@ -56,7 +56,7 @@ holding_blocks bytes format column (e ∷ entries) (c ∷ columns) =
     holding_block bytes (key_at format column) e c ∷ holding_blocks bytes format (suc column) entries columns
 
 abbrev pub blocks_held : List ℕ → List FormatRow → KeptElement → List Column → List Column
-blocks_held bytes formats (Row keys height entries) columns = holding_blocks bytes (row_at formats keys) 0 entries columns
+blocks_held bytes formats (Row keys rules height entries) columns = holding_blocks bytes (row_at formats keys) 0 entries columns
 blocks_held bytes formats (Rule sign) columns = columns
 blocks_held bytes formats (Command from to) columns = columns
 
@@ -85,12 +85,12 @@ all_laid bytes formats k = record k {
   columns = all_held bytes formats k.elements k.columns;
 }
 
--- columns with the measures of their blocks, in a table of so many
+-- columns with the measures of their blocks, in a table of so many, and with the bars behind them
 abbrev pub with_measures : ℕ → ℕ → List Asked → List Column → List Column
 with_measures line_length count [] columns = columns
 with_measures line_length count (a ∷ asked) [] = []
 with_measures line_length count (a ∷ asked) (c ∷ columns) =
-    record c { measure = measure_of line_length count a } ∷ with_measures line_length count asked columns
+    record c { measure = measure_of line_length count a; bars = a.bars } ∷ with_measures line_length count asked columns
 
 -- a field lies within the table's bytes
 pub record FieldLies (bytes : List ℕ) (e : Entry) : Type 0 where

@@ -1,7 +1,7 @@
 -- The messages of a table, and those that are to tell.
 use Rattle.std.specs.Prelude.{ℕ, ◌≤◌, List, [], length, vec_capacity}
 use Rattle.std.specs.List.{slice_range}
-use Rattle.tbl_format.specs.declared.notes.KeptNote.{KeptNote}
+use Rattle.tbl_options.specs.declared.notes.KeptNote.{KeptNote}
 use Rattle.tbl_kept.specs.declared.table_notes.TableNotes.TheInside.{Inside}
 
 -- all messages, those of them that are to tell, and for how many there is room

@@ -31,7 +31,7 @@ pub fn add_columns(columns: &mut Vec<Column>, count: usize)
     }
 }
 
-/// Each column has the measure of its blocks.
+/// Each column has the measure of its blocks, and the most bars behind it.
 pub fn set_measures(columns: &mut [Column], asked: &[Asked], line_length: u32)
     requires { length columns.old ≡ length asked.now }
     ensures value { columns.new
@@ -41,7 +41,8 @@ pub fn set_measures(columns: &mut [Column], asked: &[Asked], line_length: u32)
     let count = columns.len();
     for at in 0..count.min(asked.len()) {
         let mut column = columns[at];
-        column.measure = measure(line_length, count, asked[at]);
+        column.measure = measure(line_length, count, asked[at]) as u32;
+        column.bars = asked[at].bars;
         columns[at] = column;
     }
 }
@@ -103,7 +104,7 @@ fn fill_field(
     ensures room { escapes.new.room ≡ escapes.old.room }
 {
     if let EntryKind::Block(_) = entry.kind {
-        *entry = filled(escapes, bytes, *entry, column.measure);
+        *entry = filled(escapes, bytes, *entry, u64::from(column.measure));
         column.needs = column.needs.with(entry.stands(key));
     }
     entry.lines()

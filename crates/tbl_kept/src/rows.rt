@@ -39,6 +39,8 @@ pub enum Element {
 pub struct KeptRow {
     /// The row of the formats that serves it, among all.
     pub keys: u32,
+    /// How many rows of rule keys stand directly in front of it.
+    pub rules: u32,
     /// How many lines it has.
     pub height: u32,
     /// Where its fields begin.
@@ -64,9 +66,9 @@ pub struct TableRows {
 /// A row, a rule or a command, lent. Places are places in the table's bytes.
 #[derive(Clone, Copy)]
 pub enum Lent<'a> {
-    /// A row: the row of the formats that serves it, among all, how many lines it has, and its
-    /// fields.
-    Row(usize, u32, &'a [Entry]),
+    /// A row: the row of the formats that serves it, among all, how many rows of rule keys stand
+    /// directly in front of it, how many lines it has, and its fields.
+    Row(usize, usize, u32, &'a [Entry]),
     /// A rule over the whole table.
     Rule(RuleSign),
     /// A command, by where it lies.
@@ -156,14 +158,16 @@ impl TableRows {
         }
     }
 
-    /// The row that is begun is whole, and this row of the formats serves it, among all.
-    pub fn end_row(&mut self, keys: usize, format: &[FormatKey])
+    /// The row that is begun is whole, and this row of the formats serves it, among all, in front
+    /// of which so many rows of rule keys stand.
+    pub fn end_row(&mut self, keys: usize, rules: usize, format: &[FormatKey])
         requires small { keys < 2 ^ 32 }
+        requires rules { rules ≤ keys }
         requires few { entries_of self.old < 2 ^ 32 }
         requires opened { AreOpened self.old.row }
         requires room { length self.old.elements < self.old.element_room }
         ensures { (bars : ℕ) → self.new
-            ≡ with_row keys (record { keys = format.now; bars = bars }) self.old }
+            ≡ with_row keys rules (record { keys = format.now; bars = bars }) self.old }
     {
         hold(
             self.columns.as_mut_slice(),
@@ -172,6 +176,7 @@ impl TableRows {
         );
         self.elements.push_reserved(Element::Row(KeptRow {
             keys: keys as u32,
+            rules: rules as u32,
             height: 1,
             from: self.row_start as u32,
             to: self.entries.len() as u32,
@@ -213,6 +218,7 @@ impl TableRows {
         match self.elements[at] {
             Element::Row(row) => Lent::Row(
                 row.keys as usize,
+                row.rules as usize,
                 row.height,
                 &self.entries.as_slice()[row.from as usize..row.to as usize],
             ),
@@ -327,6 +333,7 @@ impl TableRows {
             let height = fill_fields(escapes, bytes, keys, entries, self.columns.as_mut_slice());
             self.elements[at] = Element::Row(KeptRow {
                 keys: row.keys,
+                rules: row.rules,
                 height,
                 from: row.from,
                 to: row.to,

@@ -5,17 +5,17 @@ ghost use Rattle.std.specs.Prelude.{map, slice_range, IfOk};
 ghost use Rattle.std.specs.Option.{MatchOption};
 ghost use Rattle.tbl_format.specs.Format.{Format, letters_left_out};
 ghost use Rattle.tbl_format.specs.KeyCounts.{Counts, IsCount};
-ghost use Rattle.tbl_format.specs.Notes.{NotesWithin, ignored_message, left_out_note, told_at};
-ghost use Rattle.tbl_format.specs.Notes.{told_of_all};
-ghost use Rattle.tbl_format.specs.Options.{ignored_options};
+ghost use Rattle.tbl_options.specs.Notes.{NotesWithin, ignored_message, left_out_note, told_at};
+ghost use Rattle.tbl_options.specs.Notes.{told_of_all};
+ghost use Rattle.tbl_options.specs.Options.{ignored_options};
 ghost use Rattle.tbl_kept.specs.TableNotes.{no_notes};
 
 use std::alloc::{AllocError, Global};
 use std::marker::Model;
 use tbl_format::key_count::KeyCount;
 use tbl_format::left_out::push_left_out;
-use tbl_format::notes::KeptNote;
-use tbl_format::options::push_ignored;
+use tbl_options::notes::KeptNote;
+use tbl_options::options::push_ignored;
 
 /// The messages of a table, in order. All memory for them is reserved as they are made.
 #[derive(Drop)]

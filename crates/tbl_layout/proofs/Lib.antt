@@ -1,5 +1,4 @@
 pub mod Fields
-pub mod Elements
 pub mod LeastWidths
 pub mod ColumnsEnd
 pub mod Shares
@@ -7,4 +6,5 @@ pub mod Placing
 pub mod LastField
 pub mod LastBars
 pub mod TextStands
+pub mod UnderKeys
 pub mod LayoutLaws

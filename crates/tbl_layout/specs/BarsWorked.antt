@@ -2,7 +2,7 @@
 use Rattle.std.specs.Prelude.{ℕ, ◌+◌, ◌-◌, true, false, List, [], ◌∷◌, map}
 use Rattle.tbl_format.specs.Format.{Format, no_format}
 use Rattle.tbl_format.specs.FormatWorked.{all_done, does_in}
-use Rattle.tbl_format.specs.declared.options.Boxing.{Boxing}
+use Rattle.tbl_options.specs.declared.options.Boxing.{Boxing}
 use Rattle.tbl_layout.specs.Columns.{bar_place, needs_of}
 use Rattle.tbl_layout.specs.Widths.{left_edge, right_edge, separation, table_bars}
 use Rattle.tbl_layout.specs.declared.columns.Column.{Column}
@@ -34,7 +34,7 @@ edges boxing line = edges_by boxing (format_of line)
 
 -- a column that begins at a place, 5 columns wide
 abbrev pub column_from : ℕ → Column
-column_from start = record { needs = needs_of []; measure = 0; width = 5; start = start }
+column_from start = record { needs = needs_of []; measure = 0; bars = 0; width = 5; start = start }
 
 -- how far behind a column so many bars begin, where so many places are left behind it
 abbrev pub behind_column : ℕ → ℕ → ℕ

@@ -1,5 +1,5 @@
 -- The columns of a table: how wide they are, and where they begin (Lesk, "Tbl": Format, Formatting).
-use Rattle.std.specs.Prelude.{ℕ, suc, ◌+◌, ◌-◌, ◌*◌, ◌/◌, ◌≤◌, max, Bool, not, ◌&&◌, List, [], ◌∷◌, length, map, Contains, Option, None, Some, unwrap_or, if◌then◌else◌, ◌==◌}
+use Rattle.std.specs.Prelude.{ℕ, suc, ◌+◌, ◌-◌, ◌*◌, ◌/◌, ◌≤◌, max, min, Bool, not, ◌&&◌, List, [], ◌∷◌, length, map, Contains, Option, None, Some, unwrap_or, if◌then◌else◌, ◌==◌}
 use Rattle.tbl_format.specs.declared.format.Asked.{Asked}
 use Rattle.tbl_format.specs.declared.format.Key.{Key}
 use Rattle.tbl_format.specs.declared.format.Key.TheVariants.{Alphabetic, Center, Numeric, Right}
@@ -114,8 +114,8 @@ measure_of line_length count asked = unwrap_or asked.least (max 1 (line_length /
 -- the entries of a column, whose blocks have this measure
 abbrev pub entries_of : ℕ → ℕ → List Element → List Stands
 entries_of measure column [] = []
-entries_of measure column (Row keys fields ∷ elements) =
-    stands measure (key_at keys column) (field_at fields column) ∷ entries_of measure column elements
+entries_of measure column (Row rules format fields ∷ elements) =
+    stands measure (key_at format column) (field_at fields column) ∷ entries_of measure column elements
 entries_of measure column (Rule sign ∷ elements) = entries_of measure column elements
 entries_of measure column (Command bytes ∷ elements) = entries_of measure column elements
 
@@ -124,7 +124,7 @@ abbrev pub columns_from : ℕ → ℕ → List Element → ℕ → List Asked �
 columns_from line_length count elements column [] = []
 columns_from line_length count elements column (a ∷ asked) =
     let measure = measure_of line_length count a in
-    record { needs = needs_of (entries_of measure column elements); measure = measure; width = 0; start = 0 }
+    record { needs = needs_of (entries_of measure column elements); measure = measure; bars = a.bars; width = 0; start = 0 }
     ∷ columns_from line_length count elements (suc column) asked
 
 -- each gets the width that it needs
@@ -223,6 +223,11 @@ laid bars is_expanded line_length asked elements =
 -- where so many bars begin between two columns
 abbrev pub bar_place : ℕ → Column → Column → ℕ
 bar_place count c d = let end = c.start + c.width in end + (d.start - end - count) / 2
+
+-- where the places of bars end behind a column and in front of the next one: a rule that rules the first has them, and the second one's
+-- begins behind them. There is one place, or two where any row has two bars there; without a separation there is none
+abbrev pub bars_end : Column → Column → ℕ
+bars_end c d = let count = min (max 1 c.bars) (d.start - (c.start + c.width)) in bar_place count c d + count
 
 -- where an entry begins in its column
 abbrev pub shift : Key → ℕ → ℕ

@@ -1,8 +1,9 @@
 -- What stands in the columns of a table, and on which lines (Lesk, "Tbl": Data, Text Blocks).
-use Rattle.std.specs.Prelude.{ℕ, Bool, true, false, List, [], ◌∷◌, ◌++◌, map, take, drop, replicate, sum_by, get_or, Option, Some, None}
+use Rattle.std.specs.Prelude.{ℕ, Bool, true, false, List, [], ◌∷◌, ◌++◌, length, map, take, drop, replicate, sum_by, get_or, Option, Some, None}
 use Rattle.roff_source.specs.Bytes.{blank}
 use Rattle.tbl_format.specs.Format.{FormatRow}
-use Rattle.tbl_layout.specs.DataLines.{field_kind}
+use Rattle.tbl_layout.specs.DataLines.{field_kind, kind_under}
+use Rattle.tbl_layout.specs.RuleKeys.{under_keys}
 use Rattle.tbl_layout.specs.declared.data_lines.FieldKind.{FieldKind}
 use Rattle.tbl_layout.specs.declared.data_lines.FieldKind.TheVariants.{Repeated as RepeatedKind, Ruled as RuledKind, Short as ShortKind}
 use Rattle.tbl_layout.specs.declared.data_lines.RuleSign.{RuleSign}
@@ -23,9 +24,10 @@ pub data Content : Type 0 where
   Short : Content
   Repeated : (byte : ℕ) → Content
 
--- what stands in a table: a row of fields, with the row of the format that serves it, a rule over the whole table, or a command
+-- what stands in a table: a row of fields, with the row of the format that serves it, and the rows of rule keys that stand directly in
+-- front of it; a rule over the whole table; or a command
 pub data Element : Type 0 where
-  Row : (format : FormatRow) (fields : List Content) → Element
+  Row : (rules : List FormatRow) (format : FormatRow) (fields : List Content) → Element
   Rule : (sign : RuleSign) → Element
   Command : (bytes : List ℕ) → Element
 
@@ -38,6 +40,14 @@ content_by_kind kind field = Text field
 
 abbrev pub content_read : List ℕ → Content
 content_read field = content_by_kind (field_kind field) field
+
+-- and under its key
+abbrev pub content_under : Key → List ℕ → Content
+content_under key field = content_by_kind (kind_under key field) field
+
+-- the fields of a row under its keys: a rule key for which it has none rules its column still
+abbrev pub completed : FormatRow → List Content → List Content
+completed format fields = fields ++ under_keys Ruled (Text []) (drop (length fields) format.keys)
 
 -- the key and the field of a column: short rows of the format go on with `l`, and those of the data with empty fields
 abbrev pub key_at : FormatRow → ℕ → Key

@@ -1,8 +1,11 @@
 -- The fields of rows, as they are kept by their places in the table's bytes (Lesk, "Tbl": Data, Text Blocks).
-use Rattle.std.specs.Prelude.{◌≡◌, ℕ, ◌+◌, ◌-◌, ◌≤◌, Bool, false, List, [], length, Option, None, Some, if◌then◌else◌, ◌==◌}
+use Rattle.std.specs.Prelude.{◌≡◌, ℕ, ◌+◌, ◌-◌, ◌≤◌, Bool, false, List, [], ◌++◌, drop, length, Option, None, Some, if◌then◌else◌, ◌==◌}
 use Rattle.std.specs.List.{slice_range}
 use Rattle.tbl_format.specs.declared.format.Key.{Key}
+use Rattle.tbl_format.specs.Format.{FormatRow}
 use Rattle.tbl_layout.specs.Columns.{unsplit}
+use Rattle.tbl_layout.specs.RuleKeys.{under_keys}
+use Rattle.tbl_layout.specs.declared.data_lines.RuleSign.{RuleSign}
 use Rattle.tbl_layout.specs.Entries.{Block, Content, Repeated, Ruled, Short, Text, is_number}
 use Rattle.tbl_layout.specs.declared.columns.Stands.{Stands}
 use Rattle.tbl_layout.specs.declared.columns.Stands.TheVariants.{Apart, Nowhere}
@@ -44,6 +47,20 @@ not_filled = record { lines = 0; width = 0; has_word = false }
 -- the field of a rule that begins at a place and has so many bytes
 abbrev pub rule_entry : ℕ → ℕ → EntryKind → Entry
 rule_entry from len kind = record { from = from; to = from + len; kind = kind }
+
+-- what stands under a key for which a row has no field: the rule of a rule key, or an empty text; and all that stands in a row
+abbrev pub rule_of : RuleSign → Entry
+rule_of sign = rule_entry 0 0 (RuledKind sign)
+
+abbrev pub no_entry : Entry
+no_entry = record { from = 0; to = 0; kind = TextKind 0 0 }
+
+abbrev pub entry_under : Option RuleSign → Entry
+entry_under (Some sign) = rule_of sign
+entry_under None = no_entry
+
+abbrev pub all_entries : FormatRow → List Entry → List Entry
+all_entries format entries = entries ++ under_keys rule_of no_entry (drop (length entries) format.keys)
 
 -- one of which no line is read, behind the line that opens it, which ends there
 abbrev pub opened_at : ℕ → Entry

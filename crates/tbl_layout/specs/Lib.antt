@@ -1,8 +1,10 @@
 pub mod Data
 pub mod DataLines
+pub mod RuleKeys
 pub mod Entries
 pub mod Columns
 pub mod Widths
 pub mod BarsWorked
+pub mod RulesWorked
 pub mod LayoutLaws
 pub mod KeptEntries

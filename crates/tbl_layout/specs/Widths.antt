@@ -2,7 +2,7 @@
 use Rattle.std.specs.Prelude.{ℕ, zero, suc, ◌+◌, max, Bool, false, not, ◌||◌, List, [], ◌∷◌, Option, None, Some, if◌then◌else◌, ◌==◌}
 use Rattle.roff_escape.specs.Measures.{byte_columns}
 use Rattle.roff_source.specs.Bytes.{is_dropped}
-use Rattle.tbl_format.specs.declared.options.Boxing.{Boxing}
+use Rattle.tbl_options.specs.declared.options.Boxing.{Boxing}
 use Rattle.tbl_format.specs.Format.{Format}
 use Rattle.tbl_format.specs.declared.format.Asked.{Asked}
 use Rattle.tbl_layout.specs.declared.bars.Bars.{Bars}

@@ -6,7 +6,7 @@ ghost use Rattle.tbl_layout.specs.Widths.{least_separation, table_bars};
 
 use tbl_format::format::Asked;
 use tbl_format::format_rows::FormatRows;
-use tbl_format::options::Boxing;
+use tbl_options::options::Boxing;
 
 /// What of a picture's bars isn't said by the rows of its formats alone.
 #[derive(Clone, Copy)]

@@ -2,7 +2,8 @@
 //! Formatting).
 
 ghost use Rattle.std.specs.Prelude.{◌≡◌, ◌+◌, ◌-◌, ◌<◌, ◌^◌, min};
-ghost use Rattle.tbl_layout.specs.Columns.{bar_place, equal_width, equal_widths, equalled, gaps};
+ghost use Rattle.tbl_layout.specs.Columns.{bar_place, bars_end};
+ghost use Rattle.tbl_layout.specs.Columns.{equal_width, equal_widths, equalled, gaps};
 ghost use Rattle.tbl_layout.specs.Columns.{greatest};
 ghost use Rattle.tbl_layout.specs.Columns.{in_strip};
 ghost use Rattle.tbl_layout.specs.Columns.{lacking, made_equal, measure_of, needing, place_in};
@@ -48,7 +49,9 @@ pub struct Column {
     /// What its entries need.
     pub needs: Needs,
     /// The measure of its blocks.
-    pub measure: u64,
+    pub measure: u32,
+    /// The most bars that any row has behind it.
+    pub bars: u8,
     /// How wide it is.
     pub width: usize,
     /// Where it begins.
@@ -252,6 +255,7 @@ impl Column {
     pub const EMPTY: Column = Column {
         needs: Needs::NOTHING,
         measure: 0,
+        bars: 0,
         width: 0,
         start: 0,
     };
@@ -271,6 +275,7 @@ impl Column {
             return Column {
                 needs: self.needs,
                 measure: self.measure,
+                bars: self.bars,
                 width,
                 start: self.start,
             };
@@ -313,6 +318,17 @@ pub fn bar_place(bars: u8, column: Column, next: Column) -> usize
 {
     let end = column.start + column.width;
     end + next.start.saturating_sub(end).saturating_sub(bars as usize) / 2
+}
+
+/// Where the places of bars end behind a column and in front of the next one.
+pub fn bars_end(column: Column, next: Column) -> usize
+    requires { column.start + column.width < 2 ^ 63 }
+    ensures { result ≡ bars_end column next }
+{
+    let end = column.start + column.width;
+    let gap = next.start.saturating_sub(end);
+    let count = (column.bars.max(1) as usize).min(gap);
+    end + (gap - count) / 2 + count
 }
 
 /// How far a rule is moved that is as wide as its column's widest entry, by the key and the columns

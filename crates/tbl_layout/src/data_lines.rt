@@ -6,13 +6,16 @@ ghost use Rattle.tbl_layout.specs.Data.{fields, is_command};
 ghost use Rattle.tbl_layout.specs.DataLines.{begins_format, behind_blanks, behind_first};
 ghost use Rattle.tbl_layout.specs.DataLines.{block_kind_ends_row, block_line_kind, ends_in_block};
 ghost use Rattle.tbl_layout.specs.DataLines.{ends_row, field_kind, is_repeated, kind_ends_row};
+ghost use Rattle.tbl_layout.specs.DataLines.{kind_under};
 ghost use Rattle.tbl_layout.specs.DataLines.{line_kind, opens_block, other_line_kind, sign_byte};
 ghost use Rattle.tbl_layout.specs.declared.data_lines.FieldKind.TheVariants.{Repeated, Text};
 ghost use Rattle.tbl_layout.specs.Widths.{width_in_text};
 
 use crate::data::{field_len, is_opening};
+use crate::rule_keys::rule_sign;
 use crate::widths::width_in_text;
 use memchr::memrchr;
+use tbl_format::format::Key;
 
 /// What a rule is drawn with.
 #[derive(Clone, Copy)]
@@ -131,6 +134,16 @@ pub fn field_kind(field: &[u8]) -> FieldKind
         [b'\\', b'^'] => FieldKind::Above,
         [b'\\', b'R', byte] => repeated_kind(*byte),
         _ => FieldKind::Text,
+    }
+}
+
+/// What a field is under a key: a rule key takes it and rules the column.
+pub fn kind_under(key: Key, field: &[u8]) -> FieldKind
+    ensures { result ≡ kind_under key field.now }
+{
+    match rule_sign(key) {
+        Some(sign) => FieldKind::Ruled(sign),
+        None => field_kind(field),
     }
 }
 

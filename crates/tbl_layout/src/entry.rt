@@ -2,13 +2,16 @@
 //! (Lesk, "Tbl": Data, Text Blocks).
 
 ghost use Rattle.std.specs.Prelude.{◌≡◌, ◌+◌, ◌<◌, ◌≤◌, ◌^◌, IfSome};
-ghost use Rattle.tbl_layout.specs.KeptEntries.{entry_by, filled_with, opened_at, rule_entry};
+ghost use Rattle.tbl_layout.specs.KeptEntries.{entry_by, entry_under, filled_with, opened_at};
+ghost use Rattle.tbl_layout.specs.KeptEntries.{rule_entry};
+ghost use Rattle.tbl_layout.specs.RuleKeys.{rule_sign};
 ghost use Rattle.tbl_layout.specs.KeptEntries.{stands_of};
 ghost use Rattle.tbl_text.specs.Measuring.{SplitLies};
 ghost use Rattle.tbl_layout.specs.KeptEntries.{kind_by, lines_by, split_by, with_end};
 
 use crate::columns::{Stands, unsplit};
 use crate::data_lines::RuleSign;
+use crate::rule_keys::rule_sign;
 use tbl_format::format::Key;
 use tbl_text::block_lines::Filled;
 use tbl_text::measure::{Measured, Split};
@@ -69,6 +72,27 @@ pub struct BlockEntry {
 }
 
 impl Entry {
+    /// A field without a byte.
+    pub const NOTHING: Entry = Entry {
+        from: 0,
+        to: 0,
+        kind: EntryKind::Text(0, 0),
+    };
+
+    /// What stands under a key for which a row has no field.
+    pub fn under(key: Key) -> Entry
+        ensures { result ≡ entry_under (rule_sign key) }
+    {
+        match rule_sign(key) {
+            Some(sign) => Entry {
+                from: 0,
+                to: 0,
+                kind: EntryKind::Ruled(sign),
+            },
+            None => Entry::NOTHING,
+        }
+    }
+
     /// The field of a text that begins at a place, has so many bytes and measures so much.
     pub fn of_text(from: usize, len: usize, measured: Measured) -> Entry
         requires within { from + len < 2 ^ 32 }

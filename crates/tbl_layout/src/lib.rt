@@ -8,5 +8,6 @@ pub mod data;
 pub mod data_lines;
 pub mod entry;
 pub mod laws;
+pub mod rule_keys;
 pub mod widths;
 pub mod worked_rows;

@@ -3,13 +3,17 @@
 ghost use Rattle.std.specs.Prelude.{◌≡◌, [], ◌∷◌, Some, None, true, false, codes, map};
 ghost use Rattle.tbl_format.specs.Format.{nothing_asked, plain_key};
 ghost use Rattle.tbl_format.specs.declared.format.Key.TheVariants.{Alphabetic, Center, Left};
+ghost use Rattle.tbl_format.specs.declared.format.Key.TheVariants.{DoubleRule, Rule as RuleKey};
 ghost use Rattle.tbl_format.specs.declared.format.Key.TheVariants.{Numeric, Right};
 ghost use Rattle.tbl_layout.specs.BarsWorked.{all_boxed, behind_column, boxed, edges, separations};
-ghost use Rattle.tbl_layout.specs.Columns.{needs_of, stands, widest_entry, width_of};
+ghost use Rattle.tbl_layout.specs.Columns.{bars_end, needs_of, stands, widest_entry, width_of};
 ghost use Rattle.tbl_layout.specs.DataLines.{block_line_kind, ends_in_block, ends_row};
 ghost use Rattle.tbl_layout.specs.DataLines.{field_kind, is_laid_out, line_kind, without_opening};
+ghost use Rattle.tbl_layout.specs.DataLines.{kind_under};
 ghost use Rattle.tbl_layout.specs.Entries.{Block, Command as OneCommand, Row as OneRow};
-ghost use Rattle.tbl_layout.specs.Entries.{Ruled as OneRule, Text as OneText};
+ghost use Rattle.tbl_layout.specs.Entries.{Ruled as OneRule, Text as OneText, completed};
+ghost use Rattle.tbl_layout.specs.RuleKeys.{rule_rows};
+ghost use Rattle.tbl_layout.specs.RulesWorked.{column_at, row_of};
 ghost use Rattle.tbl_layout.specs.declared.columns.Stands.TheVariants.{Alone, Apart, InStrip};
 ghost use Rattle.tbl_layout.specs.declared.columns.Stands.TheVariants.{Nowhere};
 ghost use Rattle.tbl_layout.specs.declared.data_lines.BlockLineKind.TheVariants.{End, Request};
@@ -39,7 +43,7 @@ pub fn lines()
         ≡ Ruled Single ∷ Ruled Double ∷ Short ∷ Above ∷ [] }
     ensures repeated { map field_kind (codes "\\R " ∷ codes "\\R-" ∷ [])
         ≡ Repeated 32 ∷ Repeated 45 ∷ [] }
-    ensures unbuilt { is_laid_out (codes "\\^") ≡ false }
+    ensures unbuilt { is_laid_out (field_kind (codes "\\^")) ≡ false }
     ensures opening { ends_in_block (codes "a" ∷ codes "  T{ " ∷ []) ≡ true }
     ensures in_front { without_opening (codes "T{" ∷ codes "T{" ∷ []) ≡ codes "T{" ∷ [] }
     ensures row_ends { ends_row false 58 (codes "T{:x") ≡ true }
@@ -60,6 +64,25 @@ pub fn entries()
     ensures widest { widest_entry (needs_of (Apart 1 3 ∷ InStrip 5 ∷ Alone 2 ∷ [])) ≡ 5 }
     ensures widest_split { widest_entry (needs_of (Apart 1 3 ∷ Apart 2 0 ∷ [])) ≡ 4 }
     ensures sides { width_of nothing_asked (Apart 1 3 ∷ Apart 2 0 ∷ Alone 4 ∷ []) ≡ 5 }
+{}
+
+/// What rule keys do: they rule their columns, whatever stands there; a row of them alone takes no
+/// row of the data, if it isn't the last; a rule goes on up to the bars behind its column.
+pub fn rule_keys()
+    ensures rows { rule_rows (row_of (RuleKey ∷ DoubleRule ∷ []) ∷ row_of (RuleKey ∷ [])
+        ∷ row_of (RuleKey ∷ Left ∷ []) ∷ row_of (RuleKey ∷ []) ∷ []) ≡ 2 }
+    ensures last_row { rule_rows (row_of (RuleKey ∷ []) ∷ []) ≡ 0 }
+    ensures further { completed (row_of (Left ∷ RuleKey ∷ Left ∷ DoubleRule ∷ Left ∷ []))
+        (OneText (codes "a") ∷ []) ≡ OneText (codes "a") ∷ OneRule Single ∷ OneText []
+        ∷ OneRule Double ∷ [] }
+    ensures none_further { completed (row_of (RuleKey ∷ Left ∷ [])) (OneText (codes "a") ∷ [])
+        ≡ OneText (codes "a") ∷ [] }
+    ensures taken { kind_under DoubleRule (codes "a") ≡ Ruled Double }
+    ensures not_taken { kind_under Left (codes "_") ≡ Ruled Single }
+    ensures ends { map (λ bars. bars_end (column_at 0 3 bars) (column_at 7 1 0)) (0 ∷ 1 ∷ 2 ∷ [])
+        ≡ 5 ∷ 5 ∷ 6 ∷ [] }
+    ensures one_place { bars_end (column_at 0 3 2) (column_at 4 1 0) ≡ 4 }
+    ensures none { bars_end (column_at 0 3 2) (column_at 3 1 0) ≡ 3 }
 {}
 
 /// The room that bars have, and where they stand.

@@ -2,16 +2,16 @@
 use Rattle.std.proofs.Common.{◌≡◌, ℕ, zero, suc, ◌+◌, ◌-◌, ◌≤◌, List, [], ◌∷◌, ◌++◌, replicate, sym, ap, subst, ◌∙◌, arith}
 use Rattle.roff_source.specs.Bytes.{blank}
 use Rattle.tbl_layout.specs.Entries.{Run}
-use Rattle.tbl_picture.specs.PieceQueue.{Adds, KeptPieces}
-use Rattle.tbl_picture.specs.RowsLeft.{begins_at, behind_first, block_text, cell_left, end_given, first_of, given, if_given, one_less}
-use Rattle.tbl_picture.specs.RowsWalked.{LastHasGlyph}
+use Rattle.tbl_pieces.specs.PieceQueue.{Adds, KeptPieces}
+use Rattle.tbl_lines.specs.RowsLeft.{begins_at, behind_first, block_text, cell_left, end_given, first_of, given, if_given, one_less}
+use Rattle.tbl_lines.specs.RowsWalked.{LastHasGlyph}
 use Rattle.tbl_picture.specs.Walks.{AtColumn, KeptWalk, RowSteps, WalkedRow, passed}
-use Rattle.tbl_picture.specs.declared.row_columns.RowColumn.{RowColumn}
+use Rattle.tbl_lines.specs.declared.row_columns.RowColumn.{RowColumn}
 use Rattle.tbl_picture.specs.declared.walk.Next.TheVariants.{AtCell}
-use Rattle.tbl_picture.proofs.Adding.{adds-fewer, adds-none}
-use Rattle.tbl_picture.proofs.CellsGiven.{none-given, run-given}
+use Rattle.tbl_pieces.proofs.Adding.{adds-fewer, adds-none}
+use Rattle.tbl_lines.proofs.CellsGiven.{none-given, run-given}
 use Rattle.tbl_picture.proofs.ColumnSteps.{cell-passed, cells-first, cells_behind}
-use Rattle.tbl_picture.proofs.RunsGiven.{glyph-first, last_given}
+use Rattle.tbl_lines.proofs.RunsGiven.{glyph-first, last_given}
 use Rattle.tbl_text.specs.BlockPlaces.{IsWithin}
 use Rattle.tbl_text.specs.declared.block_parts.BlockPlace.{BlockPlace}
 

@@ -5,18 +5,18 @@ use Rattle.std.proofs.lemmas.List.{drop-map, map-append}
 use Rattle.tbl_layout.specs.declared.columns.Column.{Column}
 use Rattle.tbl_layout.specs.declared.entry.Entry.{Entry}
 use Rattle.tbl_layout.specs.declared.entry.EntryKind.TheVariants.{Text}
-use Rattle.tbl_picture.specs.PictureLines.{Cell, with_fronts}
-use Rattle.tbl_picture.specs.PieceQueue.{Adds, KeptPieces}
-use Rattle.tbl_picture.specs.RowsLeft.{behind_first, block_text, cell_left, fronts_by, given, one_less, row_columns, then_fronts}
-use Rattle.tbl_picture.specs.RowsWalked.{LastHasGlyph, PlacesLie, StandsInFirst, StandsNext, front_count, most_steps, steps_of_cells, steps_of_columns}
+use Rattle.tbl_lines.specs.PictureLines.{Cell, with_fronts}
+use Rattle.tbl_pieces.specs.PieceQueue.{Adds, KeptPieces}
+use Rattle.tbl_lines.specs.RowsLeft.{behind_first, block_text, cell_left, fronts_by, given, one_less, row_columns, then_fronts}
+use Rattle.tbl_lines.specs.RowsWalked.{LastHasGlyph, PlacesLie, StandsInFirst, StandsNext, front_count, most_steps, steps_of_cells, steps_of_columns}
 use Rattle.tbl_picture.specs.Walks.{AtColumn, InLine, IsOn, IsUnderWay, KeptWalk, OnLine, RowSteps, WalkedRow, at_word, cells_in_front, cells_left, columns_left, columns_walked, fields_left, fields_now, fronts_of, further_lines, next_column, passed, row_left, row_steps, steps_of_rest}
-use Rattle.tbl_picture.specs.declared.row_columns.RowColumn.{RowColumn}
+use Rattle.tbl_lines.specs.declared.row_columns.RowColumn.{RowColumn}
 use Rattle.tbl_picture.specs.declared.walk.Next.{Next}
 use Rattle.tbl_picture.specs.declared.walk.Next.TheVariants.{AtCell, AtFront, AtWord}
-use Rattle.tbl_picture.proofs.Adding.{adds-fitting}
-use Rattle.tbl_picture.proofs.FrontCells.{many-fronts, no-fronts}
-use Rattle.tbl_picture.proofs.RowColumns.{column-lies, length-places, places-push, row-column, row_columns-push, take-next}
-use Rattle.tbl_picture.proofs.RunsGiven.{last-behind}
+use Rattle.tbl_pieces.proofs.Adding.{adds-fitting}
+use Rattle.tbl_lines.proofs.FrontCells.{many-fronts, no-fronts}
+use Rattle.tbl_lines.proofs.RowColumns.{column-lies, length-places, places-push, row-column, row_columns-push, take-next}
+use Rattle.tbl_lines.proofs.RunsGiven.{last-behind}
 use Rattle.tbl_text.specs.BlockPlaces.{IsWithin}
 use Rattle.tbl_text.specs.declared.block_parts.BlockPlace.{BlockPlace}
 use Rattle.tbl_text.specs.declared.block_parts.BlockPlace.TheVariants.{AtLine as AtPlace}
@@ -52,7 +52,7 @@ pub record ColumnThere (row : WalkedRow) (w : KeptWalk) : Type 0 where
 pub column-there : (row : WalkedRow) (w : KeptWalk) → InLine row w → length w.behind < length row.entries → ColumnThere row w
 column-there row w line few =
     let before = line.on.before in
-    let no_column : Column = record { needs = record { alone = 0; strip = 0; left = 0; right = 0; split = 0 }; measure = 0; width = 0; start = 0 } in
+    let no_column : Column = record { needs = record { alone = 0; strip = 0; left = 0; right = 0; split = 0 }; measure = 0; bars = 0; width = 0; start = 0 } in
     let no_entry : Entry = record { from = 0; to = 0; kind = Text 0 0 } in
     let less : length w.behind < length w.places = omega (arith, few, length-places row.bytes row.entries w.places before.places) in
     let first = row-column row.bars.boxing row.format 0 (length w.behind) row.columns row.entries w.places no_column no_entry (AtPlace 0 None)

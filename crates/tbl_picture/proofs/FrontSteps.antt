@@ -1,5 +1,5 @@
 -- What a step does that gives what stands in front of a column.
-use Rattle.std.proofs.Common.{◌≡◌, ◌≢◌, ℕ, zero, suc, ◌+◌, ◌-◌, ◌<◌, max, Bool, true, false, List, [], ◌∷◌, ◌++◌, length, drop, replicate, get_or, refl, sym, ap, subst, ◌∙◌, arith, append_assoc, length-drop}
+use Rattle.std.proofs.Common.{◌≡◌, ◌≢◌, ℕ, zero, suc, ◌+◌, ◌-◌, ◌<◌, ◌≤◌, max, Bool, true, false, List, [], ◌∷◌, ◌++◌, length, drop, replicate, get_or, refl, sym, ap, subst, ◌∙◌, arith, append_assoc, length-drop}
 use Rattle.std.specs.Prelude.{nat_lt}
 use Rattle.std.proofs.lemmas.Bool.{ltb-true, ltb-false}
 use Rattle.std.proofs.lemmas.List.{append-nil, drop_all, length-map}
@@ -8,19 +8,19 @@ use Rattle.tbl_layout.specs.DataLines.{sign_byte}
 use Rattle.tbl_layout.specs.Entries.{Run, blanks, columns_of}
 use Rattle.tbl_layout.specs.declared.data_lines.RuleSign.{RuleSign}
 use Rattle.tbl_layout.specs.declared.data_lines.RuleSign.TheVariants.{Double, Single}
-use Rattle.tbl_picture.specs.PictureLines.{Cell, at_column, bar, bars_at, crossed_at, crossing, end_of, nothing_there, repeated, with_fronts}
-use Rattle.tbl_picture.specs.PieceQueue.{Adds, KeptPieces}
-use Rattle.tbl_picture.specs.RowsLeft.{cell_left, first_of, from_line, fronts_by, given, given_of, if_given, one_less, then_fronts}
-use Rattle.tbl_picture.specs.RowsWalked.{HasGlyph, LastHasGlyph, front_count, most_steps, steps_of_cells, steps_of_columns}
+use Rattle.tbl_lines.specs.PictureLines.{Cell, at_column, bar, bars_at, crossed_at, crossing, end_of, nothing_there, repeated, with_fronts}
+use Rattle.tbl_pieces.specs.PieceQueue.{Adds, KeptPieces}
+use Rattle.tbl_lines.specs.RowsLeft.{cell_left, first_of, from_line, fronts_by, given, given_of, if_given, one_less, then_fronts}
+use Rattle.tbl_lines.specs.RowsWalked.{HasGlyph, LastHasGlyph, front_count, most_steps, steps_of_cells, steps_of_columns}
 use Rattle.tbl_picture.specs.Walks.{FrontStands, InFront, IsOn, IsUnderWay, KeptWalk, OnLine, RowSteps, WalkedRow, cells_in_front, cells_left, columns_left, columns_walked, fields_left, fronts_of, front_passed, further_lines, next_behind, row_left, row_steps, steps_of_rest}
 use Rattle.tbl_picture.specs.declared.walk.Next.{Next}
 use Rattle.tbl_picture.specs.declared.walk.Next.TheVariants.{AtCell, AtFront}
-use Rattle.tbl_picture.proofs.Adding.{adds-fewer, adds-fitting, adds-none}
-use Rattle.tbl_picture.proofs.CellsGiven.{none-given, repeated-last, run-given}
+use Rattle.tbl_pieces.proofs.Adding.{adds-fewer, adds-fitting, adds-none}
+use Rattle.tbl_lines.proofs.CellsGiven.{none-given, repeated-last, run-given}
 use Rattle.tbl_picture.proofs.ColumnSteps.{steps-cells}
-use Rattle.tbl_picture.proofs.FrontCells.{any-some, front-count}
-use Rattle.tbl_picture.proofs.RowColumns.{drop-none, length-row_columns, map-at}
-use Rattle.tbl_picture.proofs.RunsGiven.{given-before, given-last, glyph-before, last-behind}
+use Rattle.tbl_lines.proofs.FrontCells.{any-some, front-count}
+use Rattle.tbl_lines.proofs.RowColumns.{drop-none, length-places, length-row_columns, map-at}
+use Rattle.tbl_lines.proofs.RunsGiven.{given-before, given-last, glyph-before, last-behind}
 
 -- cells behind what stands in front of the first of them
 abbrev pub behind_front : List Cell → List Cell → List Cell
@@ -116,10 +116,14 @@ module _ (row : WalkedRow) (w : KeptWalk) (at : ℕ) (f : Cell) (stands : FrontS
     less = omega (arith, less);
   }
 
-  next-by : (t u : Bool) → nat_lt (length w.behind) (length row.entries) ≡ t → nat_lt at (max 1 (length row.columns)) ≡ u
+  -- a place for each field
+  many-places : length w.places ≡ length row.entries
+  many-places = length-places row.bytes row.entries w.places stands.front.on.before.places
+
+  next-by : (t u : Bool) → nat_lt (length w.behind) (length w.places) ≡ t → nat_lt at (max 1 (length row.columns)) ≡ u
       → Behind (next_behind t u at)
   next-by true u is_field is =
-      let few = ltb-true (length w.behind) (length row.entries) is_field in
+      let few : length w.behind < length row.entries = omega (arith, many-places, ltb-true (length w.behind) (length w.places) is_field) in
       let same : suc at ≡ suc (length w.behind) = ap suc (stands.front.first few) in
       cell-behind
       (then-some (drop (suc (length w.behind)) (fronts_of row w.line)) (fields_left row w) (omega (arith, many-left, few))
@@ -132,7 +136,7 @@ module _ (row : WalkedRow) (w : KeptWalk) (at : ℕ) (f : Cell) (stands : FrontS
         steps-cells (most_steps row.bytes) (front_count row.columns - suc (length w.behind)) (drop (length w.behind) row.entries),
       ))
   next-by false true is_field is =
-      let past = ltb-false (length w.behind) (length row.entries) is_field in
+      let past : length row.entries ≤ length w.behind = omega (arith, many-places, ltb-false (length w.behind) (length w.places) is_field) in
       let inner = ltb-true at (max 1 (length row.columns)) is in
       let none : fields_left row w ≡ [] = none-long (fields_left row w) (omega (arith, many-left, past)) in
       let next : at + 1 ≡ suc at = omega arith in
@@ -153,7 +157,7 @@ module _ (row : WalkedRow) (w : KeptWalk) (at : ℕ) (f : Cell) (stands : FrontS
         less = omega (arith, inner);
       }
   next-by false false is_field is =
-      let past = ltb-false (length w.behind) (length row.entries) is_field in
+      let past : length row.entries ≤ length w.behind = omega (arith, many-places, ltb-false (length w.behind) (length w.places) is_field) in
       let edge = ltb-false at (max 1 (length row.columns)) is in
       let all = fronts_by row.bars row.width row.format row.columns row.entries in
       let none : fields_left row w ≡ [] = none-long (fields_left row w) (omega (arith, many-left, past)) in
@@ -178,7 +182,7 @@ module _ (row : WalkedRow) (w : KeptWalk) (at : ℕ) (f : Cell) (stands : FrontS
       → given w.count w.place (front_now ∷ behind_now) ≡ added ++ given (one_less w.count) reached behind_now
       → RowSteps frame row w new_walk before after
   front-passed frame before after added next adds split =
-      let behind = next-by (nat_lt (length w.behind) (length row.entries)) (nat_lt at (max 1 (length row.columns))) refl refl in
+      let behind = next-by (nat_lt (length w.behind) (length w.places)) (nat_lt at (max 1 (length row.columns))) refl refl in
       record {
         added = added;
         adds = adds-fitting row.bytes frame before after added adds;

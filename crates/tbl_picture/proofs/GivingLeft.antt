@@ -12,16 +12,16 @@ use Rattle.tbl_kept.specs.TableText.{KeptText, block_of}
 use Rattle.tbl_kept.specs.declared.table_text.Joint.{Joint as JointAt}
 use Rattle.tbl_layout.specs.declared.bars.Bars.{Bars}
 use Rattle.tbl_picture.specs.Giving.{CanGive, IsLast, KeptGiving, coming, following, last_piece, lines_laid, lines_left, with_newline}
-use Rattle.tbl_picture.specs.PieceQueue.{bytes_left}
+use Rattle.tbl_pieces.specs.PieceQueue.{bytes_left}
 use Rattle.tbl_picture.specs.Frame.{before_lines, behind_lines, picture}
-use Rattle.tbl_picture.specs.Pieces.{AreWithin, bytes_of, bytes_of_all, piece_len, some_piece}
+use Rattle.tbl_pieces.specs.Pieces.{AreWithin, bytes_of, bytes_of_all, piece_len, some_piece}
 use Rattle.tbl_picture.specs.declared.giving.Rest.{Rest}
 use Rattle.tbl_picture.specs.declared.giving.Rest.TheVariants.{Lines, Nothing, Read}
-use Rattle.tbl_picture.specs.declared.picture.Piece.{Piece}
-use Rattle.tbl_picture.specs.declared.picture.Piece.TheVariants.{Block, Frame, Joint}
-use Rattle.tbl_picture.proofs.PieceBytes.{part-none, some_by}
+use Rattle.tbl_pieces.specs.declared.pieces.Piece.{Piece}
+use Rattle.tbl_pieces.specs.declared.pieces.Piece.TheVariants.{Block, Frame, Joint}
+use Rattle.tbl_pieces.proofs.PieceBytes.{part-none, some_by}
 use Rattle.tbl_format.proofs.Parts.{length-slice_range, slice_range-rest}
-use Rattle.tbl_picture.proofs.PiecesWithin.{AreWithin-append, AreWithin-some}
+use Rattle.tbl_pieces.proofs.PiecesWithin.{AreWithin-append, AreWithin-some}
 
 -- bytes in front of others, behind which a newline stands or none
 pub newline-append : (is : Bool) (xs ys : List ℕ) → xs ++ with_newline is ys ≡ with_newline is (xs ++ ys)

@@ -6,19 +6,19 @@ use Rattle.std.proofs.lemmas.List.{drop_all, length-map, take_all}
 use Rattle.roff_source.specs.Bytes.{newline}
 use Rattle.tbl_layout.specs.Entries.{up_to_last_glyph}
 use Rattle.tbl_layout.specs.declared.entry.Entry.{Entry}
-use Rattle.tbl_picture.specs.PictureLines.{Cell, lines_from, with_fronts, written}
-use Rattle.tbl_picture.specs.PieceQueue.{Adds, KeptPieces}
-use Rattle.tbl_picture.specs.RowsLeft.{behind_first, cell_left, fronts_by, given, row_columns, then_fronts}
-use Rattle.tbl_picture.specs.RowsWalked.{AreGlyphless, LastHasGlyph, PlacesLie, front_count, most_steps, steps_of_cells, steps_of_columns}
+use Rattle.tbl_lines.specs.PictureLines.{Cell, lines_from, with_fronts, written}
+use Rattle.tbl_pieces.specs.PieceQueue.{Adds, KeptPieces}
+use Rattle.tbl_lines.specs.RowsLeft.{behind_first, cell_left, fronts_by, given, row_columns, then_fronts}
+use Rattle.tbl_lines.specs.RowsWalked.{AreGlyphless, LastHasGlyph, PlacesLie, front_count, most_steps, steps_of_cells, steps_of_columns}
 use Rattle.tbl_picture.specs.Walks.{BeforeLine, InLine, IsOn, IsUnderWay, KeptWalk, OnLine, RowEndsOrGoesOn, RowSteps, WalkedRow, cells_left, cells_now, columns_left, columns_walked, fields_now, fronts_of, further_lines, line_cells, next_column, row_left, row_steps, steps_of_rest}
-use Rattle.tbl_picture.specs.declared.row_columns.RowColumn.{RowColumn}
+use Rattle.tbl_lines.specs.declared.row_columns.RowColumn.{RowColumn}
 use Rattle.tbl_picture.specs.declared.walk.Next.{Next}
 use Rattle.tbl_picture.specs.declared.walk.Next.TheVariants.{AtCell, AtFront, AtLine}
-use Rattle.tbl_picture.proofs.Adding.{adds-fitting}
+use Rattle.tbl_pieces.proofs.Adding.{adds-fitting}
 use Rattle.tbl_picture.proofs.ColumnSteps.{steps-cells, then-none}
-use Rattle.tbl_picture.proofs.FrontCells.{front-count, fronts-next, map-fronts, no-fronts}
-use Rattle.tbl_picture.proofs.RowColumns.{length-row_columns, none-left}
-use Rattle.tbl_picture.proofs.RunsGiven.{line-given, lines-behind}
+use Rattle.tbl_lines.proofs.FrontCells.{front-count, fronts-next, map-fronts, no-fronts}
+use Rattle.tbl_lines.proofs.RowColumns.{length-row_columns, none-left}
+use Rattle.tbl_lines.proofs.RunsGiven.{line-given, lines-behind}
 
 -- a line begins, of which so many cells are given
 abbrev pub line_begun : Bool → ℕ → KeptWalk → KeptWalk

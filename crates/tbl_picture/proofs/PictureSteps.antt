@@ -1,32 +1,30 @@
 -- What a step of a walk does with the elements of a picture.
-use Rattle.std.proofs.Common.{◌≡◌, ℕ, suc, ◌+◌, ◌-◌, ◌≤◌, Bool, true, false, ◌&&◌, List, [], ◌∷◌, ◌++◌, length, drop, map, refl, sym, ap, subst, ◌∙◌, arith, append_assoc, length-append, if◌then◌else◌, ◌==◌}
+use Rattle.std.proofs.Common.{◌≡◌, ℕ, suc, ◌+◌, ◌-◌, ◌≤◌, Bool, true, false, ◌&&◌, List, [], ◌∷◌, ◌++◌, length, drop, take, refl, sym, ap, subst, ◌∙◌, arith, append_assoc, length-append, if◌then◌else◌, ◌==◌}
 use Rattle.std.specs.List.{slice_range}
 use Rattle.roff_source.specs.Bytes.{newline}
 use Rattle.tbl_format.specs.Format.{FormatRow}
 use Rattle.tbl_format.specs.RowsServed.{row_at}
-use Rattle.tbl_kept.specs.Rows.{Command, CommandLies, ElementLaid, KeptElement, KeptRows, Row, Rule, elements_of}
-use Rattle.tbl_layout.specs.Entries.{Rule as OneRule}
-use Rattle.tbl_layout.specs.KeptEntries.{content_of}
+use Rattle.tbl_kept.specs.Rows.{Command, CommandLies, ElementLaid, KeptElement, KeptRows, Row, Rule, elements_of, fields_of}
+use Rattle.tbl_layout.specs.Entries.{Row as OneRow, Rule as OneRule}
+use Rattle.tbl_layout.specs.KeptEntries.{all_entries}
 use Rattle.tbl_layout.specs.declared.bars.Bars.{Bars}
 use Rattle.tbl_layout.specs.declared.data_lines.RuleSign.{RuleSign}
 use Rattle.tbl_layout.specs.declared.data_lines.RuleSign.TheVariants.{Single}
 use Rattle.tbl_layout.specs.declared.entry.Entry.{Entry}
-use Rattle.tbl_picture.specs.ElementsWalked.{BehindRow, CanWalk, HasEnded, IsInRow, RowAtElement, RowBegin, RuleAtElement, StandsAt, Steps, boxed_from, first_next, lines_on, row_to_come, started, steps_behind, steps_by, steps_in_row, steps_left, steps_on, still_to_come, to_come_by}
-use Rattle.tbl_picture.specs.PictureLines.{Neighbour, NoRow, OfRow, Sheet, crossings, frame_sign, height as row_height, line_below, lines_behind, lines_from, picture_lines, row_cells, rule_line}
-use Rattle.tbl_picture.specs.PieceQueue.{Adds, KeptPieces}
-use Rattle.tbl_picture.specs.Pieces.{AreWithin}
+use Rattle.tbl_picture.specs.ElementsWalked.{BehindRow, CanWalk, HasEnded, RowAtElement, RowBegin, RuleAtElement, RuleRowsCome, StandsAt, Steps, boxed_from, first_next, lines_on, started, steps_behind, steps_by, steps_left, steps_on, still_to_come, to_come_by}
+use Rattle.tbl_lines.specs.PictureLines.{Neighbour, NoRow, Sheet, Whole, frame_sign, line_below, lines_behind, picture_lines, rule_line}
+use Rattle.tbl_pieces.specs.PieceQueue.{Adds, KeptPieces}
+use Rattle.tbl_pieces.specs.Pieces.{AreWithin}
 use Rattle.tbl_picture.specs.RulesWalked.{is_row, line_beside, sheet_of}
-use Rattle.tbl_picture.specs.Walks.{BeforeLine, KeptWalk, row_begun, row_left, steps_of_rest, walked}
+use Rattle.tbl_picture.specs.Walks.{KeptWalk, row_begun}
 use Rattle.tbl_picture.specs.declared.walk.Next.{Next}
-use Rattle.tbl_picture.specs.declared.walk.Next.TheVariants.{AtElement, AtLine, AtTop}
-use Rattle.tbl_picture.proofs.Adding.{adds-fewer, adds-fitting, adds-none}
+use Rattle.tbl_picture.specs.declared.walk.Next.TheVariants.{AtElement, AtTop}
+use Rattle.tbl_pieces.proofs.Adding.{adds-fewer, adds-fitting, adds-none}
 use Rattle.tbl_picture.proofs.BoxedElements.{boxed-between, boxed-command, boxed-none, boxed-row, boxed-rule, rule-lines}
-use Rattle.tbl_picture.proofs.RowColumns.{drop-next}
-use Rattle.tbl_picture.proofs.RowLines.{lines-begun, row-high}
-use Rattle.tbl_picture.proofs.RowsBegun.{entries-lie, first-places}
-use Rattle.tbl_picture.proofs.RowsOn.{some-on}
-use Rattle.tbl_picture.proofs.RowSteps.{all-at, row-laid, within-drop}
-use Rattle.tbl_picture.proofs.RuleSteps.{gives, rule-comes}
+use Rattle.tbl_picture.proofs.ElementSteps.{row-starts, rule-comes, rules-come}
+use Rattle.tbl_lines.proofs.RowColumns.{drop-next}
+use Rattle.tbl_picture.proofs.RowSteps.{all-at, within-drop}
+use Rattle.tbl_picture.proofs.StepsGiven.{gives}
 
 second-true : (s t : Bool) → (s && t) ≡ true → t ≡ true
 second-true true t is = is
@@ -69,10 +67,10 @@ module _ (bytes frame : List ℕ) (formats : List FormatRow) (rows : KeptRows) (
         ∙ ap (λ (es : List KeptElement). lines_on sheet (is_row w.above) above (elements_of bytes formats es)) at
 
     steps-at : (elements : List KeptElement) → drop w.element rows.elements ≡ elements
-        → steps_left bytes formats rows w ≡ steps_behind (is_row w.above) rows.columns + steps_on bytes rows elements
+        → steps_left bytes formats rows w ≡ steps_behind (is_row w.above) rows.columns + steps_on bytes formats rows elements
     steps-at elements at =
         ap (λ (n : Next). steps_by n bytes formats rows w (drop w.element rows.elements)) next
-        ∙ ap (λ (es : List KeptElement). steps_behind (is_row w.above) rows.columns + steps_on bytes rows es) at
+        ∙ ap (λ (es : List KeptElement). steps_behind (is_row w.above) rows.columns + steps_on bytes formats rows es) at
 
     -- behind all elements
     pub bottom-comes : (new : KeptWalk) → drop w.element rows.elements ≡ [] → (w.bars.boxing.bars == 0) ≡ false
@@ -80,7 +78,7 @@ module _ (bytes frame : List ℕ) (formats : List FormatRow) (rows : KeptRows) (
     bottom-comes new none framed r =
         let sign = frame_sign w.bars.boxing.bars in
         let line : List KeptElement → List ℕ = λ es.
-        rule_line w.picture_width sign (crossings sheet above (line_below (elements_of bytes formats es))) ++ [] in
+        rule_line sheet (Whole sign) above (line_below (elements_of bytes formats es)) ++ [] in
         rule-comes bytes frame formats rows w can before after within sign true w.element can.element
         (lines-at [] none ∙ ap (lines_behind sheet above) (boxed-none w.bars.boxing (is_row w.above) false framed) ∙ ap line (sym none))
         (omega (arith, steps-at [] none)) new r
@@ -121,10 +119,10 @@ module _ (bytes frame : List ℕ) (formats : List FormatRow) (rows : KeptRows) (
         let new_lines : still_to_come bytes formats rows new ≡ rest =
         ap (λ (n : Next). to_come_by n bytes formats rows new (drop (w.element + 1) rows.elements)) next
         ∙ ap (λ (es : List KeptElement). lines_on sheet (is_row w.above) above (elements_of bytes formats es)) behind in
-        let new_steps : steps_left bytes formats rows new ≡ steps_behind (is_row w.above) rows.columns + steps_on bytes rows elements =
+        let new_steps : steps_left bytes formats rows new ≡ steps_behind (is_row w.above) rows.columns + steps_on bytes formats rows elements =
         ap (λ (n : Next). steps_by n bytes formats rows new (drop (w.element + 1) rows.elements)) next
-        ∙ ap (λ (es : List KeptElement). steps_behind (is_row w.above) rows.columns + steps_on bytes rows es) behind in
-        gives bytes frame formats rows w can before after within new (text ++ newline ∷ []) (adds-fitting bytes frame before after (text ++ newline ∷ []) adds)
+        ∙ ap (λ (es : List KeptElement). steps_behind (is_row w.above) rows.columns + steps_on bytes formats rows es) behind in
+        gives bytes frame formats rows w before after within new (text ++ newline ∷ []) (adds-fitting bytes frame before after (text ++ newline ∷ []) adds)
         (lines ∙ ap (λ (xs : List ℕ). text ++ newline ∷ xs) (sym new_lines) ∙ sym (append_assoc text (newline ∷ []) (still_to_come bytes formats rows new)))
         (omega (arith, ap length lines, length-append text (newline ∷ rest)))
         (record {
@@ -144,94 +142,73 @@ module _ (bytes frame : List ℕ) (formats : List FormatRow) (rows : KeptRows) (
     rule-element sign elements new at r =
         let behind : drop (w.element + 1) rows.elements ≡ elements = there (Rule sign) elements at in
         let lines : List KeptElement → List ℕ = λ es.
-        rule_line w.picture_width sign (crossings sheet above (line_below (elements_of bytes formats es)))
+        rule_line sheet (Whole sign) above (line_below (elements_of bytes formats es))
         ++ lines_on sheet false NoRow (elements_of bytes formats es) in
         rule-comes bytes frame formats rows w can before after within sign false (w.element + 1) (one-more (Rule sign) elements at)
         (lines-at (Rule sign ∷ elements) at
         ∙ ap (lines_behind sheet above) (boxed-rule w.bars.boxing (is_row w.above) sign (elements_of bytes formats elements))
         ∙ rule-lines sheet above sign (elements_of bytes formats elements)
         ∙ ap lines (sym behind))
-        (omega (arith, steps-at (Rule sign ∷ elements) at, ap (steps_on bytes rows) behind)) new r
+        (omega (arith, steps-at (Rule sign ∷ elements) at, ap (steps_on bytes formats rows) behind)) new r
 
     -- a row
-    module _ (keys height : ℕ) (entries : List Entry) (elements : List KeptElement) (at : drop w.element rows.elements ≡ Row keys height entries ∷ elements) where
+    module _ (keys rules height : ℕ) (entries : List Entry) (elements : List KeptElement)
+        (at : drop w.element rows.elements ≡ Row keys rules height entries ∷ elements) where
+      abbrev pub row-first : List KeptElement
+      row-first = Row keys rules height entries ∷ elements
+
+      abbrev pub lines-with : List FormatRow → List ℕ
+      lines-with rs =
+          lines_on sheet (is_row w.above) above
+          (OneRow rs (row_at formats keys) (fields_of bytes (row_at formats keys) entries) ∷ elements_of bytes formats elements)
+
+      -- no row of rule keys stands in front of it
+      lines-alone : rules ≡ 0 → still_to_come bytes formats rows w ≡ lines-with []
+      lines-alone none = lines-at row-first at ∙ ap (λ (n : ℕ). lines-with (take n (drop (keys - n) formats))) none
+
       -- a rule in front of it
-      between-comes : (new : KeptWalk) → (w.bars.boxing.is_inside && is_row w.above) ≡ true
+      between-comes : (new : KeptWalk) → rules ≡ 0 → (w.bars.boxing.is_inside && is_row w.above) ≡ true
           → RuleAtElement bytes frame formats rows Single false w new before after → Steps bytes frame formats rows w new before after
-      between-comes new both r =
-          let all = Row keys height entries ∷ elements in
+      between-comes new none both r =
+          let format = row_at formats keys in
+          let fields = fields_of bytes format entries in
+          let behind = elements_of bytes formats elements in
+          let with_rules : ℕ → List ℕ = λ n.
+          let all = OneRow (take n (drop (keys - n) formats)) format fields ∷ behind in
+          rule_line sheet (Whole Single) above (line_below all) ++ lines_on sheet false NoRow all in
           let lines : List KeptElement → List ℕ = λ es.
-          rule_line w.picture_width Single (crossings sheet above (line_below (elements_of bytes formats es)))
-          ++ lines_on sheet false NoRow (elements_of bytes formats es) in
+          rule_line sheet (Whole Single) above (line_below (elements_of bytes formats es)) ++ lines_on sheet false NoRow (elements_of bytes formats es) in
           let row_above = second-true w.bars.boxing.is_inside (is_row w.above) both in
           rule-comes bytes frame formats rows w can before after within Single false w.element can.element
-          (lines-at all at
-          ∙ ap (lines_behind sheet above)
-          (boxed-between w.bars.boxing (is_row w.above) (row_at formats keys) (map (content_of bytes) entries) (elements_of bytes formats elements) both)
-          ∙ rule-lines sheet above Single (elements_of bytes formats all)
+          (lines-alone none
+          ∙ ap (lines_behind sheet above) (boxed-between w.bars.boxing (is_row w.above) format fields behind both)
+          ∙ rule-lines sheet above Single (OneRow [] format fields ∷ behind)
+          ∙ ap with_rules (sym none)
           ∙ ap lines (sym at))
-          (omega (arith, steps-at all at, ap (λ (t : Bool). steps_behind t rows.columns) row_above, ap (steps_on bytes rows) at)) new r
+          (omega (arith, steps-at row-first at, ap (λ (t : Bool). steps_behind t rows.columns) row_above, ap (steps_on bytes formats rows) at)) new r
 
       -- it begins
-      pub row-begins : (w.bars.boxing.is_inside && is_row w.above) ≡ false → Steps bytes frame formats rows w (row_begun entries w) before before
-      row-begins both =
-          let new = row_begun entries w in
-          let row = walked bytes formats w.bars w.picture_width rows.columns keys height entries in
-          let fields = map (content_of bytes) entries in
-          let behind = elements_of bytes formats elements in
-          let cells = row_cells sheet (row_at formats keys) fields in
-          let laid = row-laid bytes frame formats rows w can before after within keys height entries elements at in
-          let high : row_height cells ≡ height = row-high bytes formats w.bars w.picture_width rows.columns keys height entries laid in
-          let front = lines_from 0 (row_height cells) cells in
-          let left = row_left AtLine row new in
-          let lines_row : front ≡ left = lines-begun bytes formats w.bars w.picture_width rows.columns keys height entries laid in
-          let rest : Bool → List ℕ = λ is_first. lines_on sheet true (OfRow is_first (row_at formats keys) fields) behind in
-          let old_lines : still_to_come bytes formats rows w ≡ front ++ rest (row_height cells == 1) =
-          lines-at (Row keys height entries ∷ elements) at
-          ∙ ap (lines_behind sheet above) (boxed-row w.bars.boxing (is_row w.above) (row_at formats keys) fields behind both) in
-          let before_line : BeforeLine row new = record {
-            line = omega (arith, laid.high);
-            short = laid.short;
-            room = omega (arith, laid.short, can.room);
-            narrow = can.narrow;
-            lie = entries-lie bytes rows.columns (row_at formats keys) 0 entries laid.laid;
-            places = first-places bytes entries;
-          } in
-          let same_height : height - 0 ≡ height = omega arith in
-          gives bytes frame formats rows w can before before within new []
+      row-begins : rules ≡ 0 → (w.bars.boxing.is_inside && is_row w.above) ≡ false
+          → Steps bytes frame formats rows w (row_begun (all_entries (row_at formats keys) entries) w) before before
+      row-begins none both =
+          let format = row_at formats keys in
+          let fields = fields_of bytes format entries in
+          row-starts bytes frame formats rows w can before before within keys rules height entries elements at w.place [] above
           (adds-fitting bytes frame before before [] (adds-fewer bytes frame 0 4 before before [] (omega arith) (adds-none bytes frame before)))
-          (old_lines
-          ∙ ap (λ (n : ℕ). front ++ rest (n == 1)) high
-          ∙ ap (λ (xs : List ℕ). xs ++ rest (height == 1)) lines_row
-          ∙ sym (ap (row_to_come bytes formats rows new) at))
-          (omega (
-            arith,
-            ap length old_lines,
-            length-append front (rest (row_height cells == 1)),
-            ap length lines_row,
-            some-on AtLine row new tt before_line,
-          ))
-          (record {
-            laid = can.laid;
-            narrow = can.narrow;
-            room = can.room;
-            element = can.element;
-            above = can.above;
-            next = subst (IsInRow bytes formats rows new) (sym at) before_line;
-          })
-          (omega (
-            arith,
-            steps-at (Row keys height entries ∷ elements) at,
-            ap (steps_in_row bytes formats rows new) at,
-            ap (steps_of_rest row) same_height,
-          ))
-          refl
+          (lines-alone none
+          ∙ ap (lines_behind sheet above) (boxed-row w.bars.boxing (is_row w.above) [] format fields (elements_of bytes formats elements) both))
+          (omega (arith, steps-at row-first at))
 
-      pub row-at : (new : KeptWalk) → RowAtElement bytes frame formats rows entries w new before after → Steps bytes frame formats rows w new before after
-      row-at new (BehindRow both r) = between-comes new both r
-      row-at new (RowBegin both walk pieces) =
+      pub row-at-element : (new : KeptWalk) → RowAtElement bytes frame formats rows keys rules entries w new before after
+          → Steps bytes frame formats rows w new before after
+      row-at-element new (RuleRowsCome some come pieces) =
+          subst (λ (k : KeptPieces). Steps bytes frame formats rows w new before k) (sym pieces)
+          (rules-come bytes frame formats rows w can before after within keys rules height entries elements at new next some come)
+      row-at-element new (BehindRow none both r) = between-comes new none both r
+      row-at-element new (RowBegin none both walk pieces) =
           subst (λ (k : KeptWalk). Steps bytes frame formats rows w k before after) (sym walk)
-          (subst (λ (k : KeptPieces). Steps bytes frame formats rows w (row_begun entries w) before k) (sym pieces) (row-begins both))
+          (subst (λ (k : KeptPieces). Steps bytes frame formats rows w (row_begun (all_entries (row_at formats keys) entries) w) before k) (sym pieces)
+          (row-begins none both))
 
   -- the rule above all elements
   pub top-comes : (new : KeptWalk) → w.next ≡ AtTop → RuleAtElement bytes frame formats rows (frame_sign w.bars.boxing.bars) false w new before after

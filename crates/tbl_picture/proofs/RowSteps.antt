@@ -1,25 +1,26 @@
 -- What a step of a walk does within a row of a picture.
-use Rattle.std.proofs.Common.{◌≡◌, ℕ, zero, suc, ◌+◌, ◌≤◌, ◌<◌, Bool, true, false, List, [], ◌∷◌, ◌++◌, length, drop, map, refl, sym, ap, subst, ◌∙◌, arith, append_assoc, length-append, ◌==◌}
+use Rattle.std.proofs.Common.{◌≡◌, ℕ, zero, suc, ◌+◌, ◌≤◌, ◌<◌, Bool, true, false, List, [], ◌∷◌, ◌++◌, length, drop, refl, sym, ap, subst, ◌∙◌, arith, append_assoc, length-append, ◌==◌}
 use Rattle.std.proofs.lemmas.List.{length-drop}
 use Rattle.std.specs.List.{AllByRecursion}
 use Rattle.tbl_format.specs.Format.{FormatRow}
 use Rattle.tbl_format.specs.RowsServed.{row_at}
 use Rattle.tbl_layout.specs.declared.bars.Bars.{Bars}
-use Rattle.tbl_kept.specs.Rows.{ElementLaid, KeptElement, KeptRows, Row, RowLaid, elements_of}
+use Rattle.tbl_kept.specs.Rows.{Command, ElementLaid, KeptElement, KeptRows, Row, RowLaid, Rule, elements_of, fields_of}
+use Rattle.tbl_layout.specs.declared.columns.Column.{Column}
 use Rattle.tbl_layout.specs.Entries.{Content}
-use Rattle.tbl_layout.specs.KeptEntries.{content_of}
 use Rattle.tbl_layout.specs.declared.entry.Entry.{Entry}
-use Rattle.tbl_picture.specs.ElementsWalked.{CanWalk, IsInRow, StandsAt, Steps, gone_on, lines_on, row_to_come, rule_steps, steps_by, steps_in_row, steps_left, steps_on, still_to_come, to_come_by}
-use Rattle.tbl_picture.specs.PictureLines.{OfRow}
-use Rattle.tbl_picture.specs.PieceQueue.{KeptPieces}
-use Rattle.tbl_picture.specs.Pieces.{AreWithin}
-use Rattle.tbl_picture.specs.RulesWalked.{IsRowFirst, IsRowThere, line_of_first, sheet_of}
+use Rattle.tbl_picture.specs.ElementsWalked.{CanWalk, FirstFits, IsInRow, StandsAt, Steps, gone_on, lines_on, row_to_come, rule_steps, steps_by, steps_in_row, steps_left, steps_on, still_to_come, to_come_by}
+use Rattle.tbl_lines.specs.PictureLines.{OfRow}
+use Rattle.tbl_pieces.specs.PieceQueue.{KeptPieces}
+use Rattle.tbl_pieces.specs.Pieces.{AreWithin}
+use Rattle.tbl_picture.specs.RulesWalked.{AreServed, IsRowFirst, IsRowThere, line_of_first, sheet_of}
 use Rattle.tbl_picture.specs.Walks.{IsOn, IsUnderWay, KeptWalk, RowEnds, RowEndsOrGoesOn, RowSteps, Stays, WalkedRow, row_left, row_steps, walked}
 use Rattle.tbl_picture.specs.declared.walk.Next.{Next}
-use Rattle.tbl_picture.specs.declared.walk.Next.TheVariants.{AtCell, AtElement, AtEnd, AtFront, AtLine, AtRule, AtTop, AtWord}
-use Rattle.tbl_picture.proofs.RowColumns.{drop-next, drop-none}
+use Rattle.tbl_picture.specs.declared.walk.Next.TheVariants.{AtCell, AtElement, AtEnd, AtFront, AtLine, AtRule, AtRuleRow, AtTop, AtWord}
+use Rattle.tbl_lines.proofs.AllLaid.{all-short}
+use Rattle.tbl_lines.proofs.RowColumns.{drop-next, drop-none}
 use Rattle.tbl_picture.proofs.RowsOn.{some-on, steps-on}
-use Rattle.tbl_picture.proofs.RuleSteps.{gives}
+use Rattle.tbl_picture.proofs.StepsGiven.{gives}
 
 -- an element of which it is known
 pub all-at : {A : Type 0} (P : A → Type 0) (n : ℕ) (xs : List A) (x : A) (rest : List A) → AllByRecursion P xs → drop n xs ≡ x ∷ rest → P x
@@ -31,11 +32,41 @@ all-at P (suc n) (y ∷ xs) x rest all is = all-at P n xs x rest all.1 is
 pub within-drop : (n : ℕ) (xs : List KeptElement) (x : KeptElement) (rest : List KeptElement) → drop n xs ≡ x ∷ rest → suc n ≤ length xs
 within-drop n xs x rest is = omega (arith, length-drop n xs, ap length is)
 
+-- the rows of elements that are laid out have rows of the formats
+pub rows-served : (bytes : List ℕ) (formats : List FormatRow) (columns : List Column) (elements : List KeptElement)
+    → AllByRecursion (ElementLaid bytes formats columns) elements → AreServed formats elements
+rows-served bytes formats columns [] all = tt
+rows-served bytes formats columns (Row keys rules height entries ∷ elements) all =
+    (record { serves = all.0.serves; in_front = all.0.in_front }, rows-served bytes formats columns elements all.1)
+rows-served bytes formats columns (Rule sign ∷ elements) all = (tt, rows-served bytes formats columns elements all.1)
+rows-served bytes formats columns (Command from to ∷ elements) all = (tt, rows-served bytes formats columns elements all.1)
+
+-- and the first of those that are left has no more in it than there are columns
+all-drop : {A : Type 0} (P : A → Type 0) (n : ℕ) (xs : List A) → AllByRecursion P xs → AllByRecursion P (drop n xs)
+all-drop P n [] all = subst (AllByRecursion P) (sym (drop-none n)) tt
+all-drop P zero (x ∷ xs) all = all
+all-drop P (suc n) (x ∷ xs) all = all-drop P n xs all.1
+
+fits-first : (bytes : List ℕ) (formats : List FormatRow) (columns : List Column) (room : ℕ) (elements : List KeptElement)
+    → AllByRecursion (ElementLaid bytes formats columns) elements → length columns ≤ room → FirstFits room formats elements
+fits-first bytes formats columns room [] all fits = tt
+fits-first bytes formats columns room (Row keys rules height entries ∷ elements) all fits =
+    omega (arith, all-short (row_at formats keys) entries, all.0.short, all.0.few, fits)
+fits-first bytes formats columns room (Rule sign ∷ elements) all fits = tt
+fits-first bytes formats columns room (Command from to ∷ elements) all fits = tt
+
+pub first-fits : (bytes : List ℕ) (formats : List FormatRow) (rows : KeptRows) (w : KeptWalk) → CanWalk bytes formats rows w
+    → FirstFits w.room formats (drop w.element rows.elements)
+first-fits bytes formats rows w can =
+    fits-first bytes formats rows.columns w.room (drop w.element rows.elements)
+    (all-drop (ElementLaid bytes formats rows.columns) w.element rows.elements can.laid) can.room
+
 -- in a row, what is to come of it, and its steps
 module _ (bytes : List ℕ) (formats : List FormatRow) (rows : KeptRows) (w : KeptWalk) (elements : List KeptElement) where
   lines-on : (n : Next) → IsOn n → to_come_by n bytes formats rows w elements ≡ row_to_come bytes formats rows w elements
   lines-on AtTop on = absurd on
   lines-on AtElement on = absurd on
+  lines-on (AtRuleRow rule) on = absurd on
   lines-on (AtRule rule) on = absurd on
   lines-on AtEnd on = absurd on
   lines-on AtLine on = refl
@@ -46,6 +77,7 @@ module _ (bytes : List ℕ) (formats : List FormatRow) (rows : KeptRows) (w : Ke
   all-steps-on : (n : Next) → IsOn n → steps_by n bytes formats rows w elements ≡ steps_in_row bytes formats rows w elements
   all-steps-on AtTop on = absurd on
   all-steps-on AtElement on = absurd on
+  all-steps-on (AtRuleRow rule) on = absurd on
   all-steps-on (AtRule rule) on = absurd on
   all-steps-on AtEnd on = absurd on
   all-steps-on AtLine on = refl
@@ -56,6 +88,7 @@ module _ (bytes : List ℕ) (formats : List FormatRow) (rows : KeptRows) (w : Ke
   stands-on : (n : Next) → IsOn n → IsInRow bytes formats rows w elements → StandsAt n bytes formats rows w elements
   stands-on AtTop on there = absurd on
   stands-on AtElement on there = absurd on
+  stands-on (AtRuleRow rule) on there = absurd on
   stands-on (AtRule rule) on there = absurd on
   stands-on AtEnd on there = absurd on
   stands-on AtLine on there = there
@@ -73,6 +106,7 @@ does-stay false frame row old new before after s = s.stays
 pub under-on : (n : Next) (row : WalkedRow) (w : KeptWalk) → IsUnderWay n row w → IsOn n
 under-on AtTop row w under = under
 under-on AtElement row w under = under
+under-on (AtRuleRow rule) row w under = under
 under-on (AtRule rule) row w under = under
 under-on AtEnd row w under = under
 under-on AtLine row w under = tt
@@ -83,12 +117,12 @@ under-on (AtWord word width place) row w under = tt
 module _ (bytes frame : List ℕ) (formats : List FormatRow) (rows : KeptRows) (w : KeptWalk) (can : CanWalk bytes formats rows w)
     (before after : KeptPieces) (within : AreWithin bytes frame before.pieces) where
   -- a row that is walked
-  module _ (keys height : ℕ) (entries : List Entry) (elements : List KeptElement) (at : drop w.element rows.elements ≡ Row keys height entries ∷ elements) where
+  module _ (keys rules height : ℕ) (entries : List Entry) (elements : List KeptElement) (at : drop w.element rows.elements ≡ Row keys rules height entries ∷ elements) where
     abbrev pub row : WalkedRow
     row = walked bytes formats w.bars w.picture_width rows.columns keys height entries
 
     abbrev pub fields : List Content
-    fields = map (content_of bytes) entries
+    fields = fields_of bytes (row_at formats keys) entries
 
     abbrev pub behind-row : List ℕ
     behind-row = lines_on (sheet_of rows w) true (OfRow (height == 1) (row_at formats keys) fields) (elements_of bytes formats elements)
@@ -107,10 +141,10 @@ module _ (bytes frame : List ℕ) (formats : List FormatRow) (rows : KeptRows) (
         ∙ ap (left w.bars) width
 
     steps-within : (k : KeptWalk) → k.element ≡ w.element → k.bars ≡ w.bars → k.picture_width ≡ w.picture_width → IsOn k.next
-        → steps_left bytes formats rows k ≡ row_steps k.next row k + (rule_steps rows.columns + steps_on bytes rows elements)
+        → steps_left bytes formats rows k ≡ row_steps k.next row k + (rule_steps rows.columns + steps_on bytes formats rows elements)
     steps-within k same bars width on =
         let left : Bars → ℕ → ℕ = λ b n.
-        row_steps k.next (walked bytes formats b n rows.columns keys height entries) k + (rule_steps rows.columns + steps_on bytes rows elements) in
+        row_steps k.next (walked bytes formats b n rows.columns keys height entries) k + (rule_steps rows.columns + steps_on bytes formats rows elements) in
         all-steps-on bytes formats rows k (drop k.element rows.elements) k.next on
         ∙ ap (λ (n : ℕ). steps_in_row bytes formats rows k (drop n rows.elements)) same
         ∙ ap (steps_in_row bytes formats rows k) at
@@ -122,7 +156,7 @@ module _ (bytes frame : List ℕ) (formats : List FormatRow) (rows : KeptRows) (
     stands-within k same bars width on under =
         let left : Bars → ℕ → Type 0 = λ b n. IsUnderWay k.next (walked bytes formats b n rows.columns keys height entries) k in
         let there : left k.bars k.picture_width = subst (λ (b : Bars). left b k.picture_width) (sym bars) (subst (λ (n : ℕ). left w.bars n) (sym width) under) in
-        let first : drop k.element rows.elements ≡ Row keys height entries ∷ elements = ap (λ (n : ℕ). drop n rows.elements) same ∙ at in
+        let first : drop k.element rows.elements ≡ Row keys rules height entries ∷ elements = ap (λ (n : ℕ). drop n rows.elements) same ∙ at in
         stands-on bytes formats rows k (drop k.element rows.elements) k.next on (subst (IsInRow bytes formats rows k) (sym first) there)
 
     some-now : IsOn w.next → IsUnderWay w.next row w → 0 < length (still_to_come bytes formats rows w)
@@ -135,14 +169,14 @@ module _ (bytes frame : List ℕ) (formats : List FormatRow) (rows : KeptRows) (
         )
 
     -- what is known of an element
-    pub row-laid : RowLaid bytes formats rows.columns keys height entries
-    row-laid = all-at (ElementLaid bytes formats rows.columns) w.element rows.elements (Row keys height entries) elements can.laid at
+    pub row-laid : RowLaid bytes formats rows.columns keys rules height entries
+    row-laid = all-at (ElementLaid bytes formats rows.columns) w.element rows.elements (Row keys rules height entries) elements can.laid at
 
     -- a step within the row
     row-goes-on : (new : KeptWalk) → IsUnderWay w.next row w → RowSteps frame row w new before after → Steps bytes frame formats rows w new before after
     row-goes-on new under s =
         let on = under-on w.next row w under in
-        gives bytes frame formats rows w can before after within new s.added s.adds
+        gives bytes frame formats rows w before after within new s.added s.adds
         (to-come-on w refl refl refl on
         ∙ ap (λ (xs : List ℕ). xs ++ behind-row) s.joins
         ∙ append_assoc s.added (row_left new.next row new) behind-row
@@ -165,10 +199,10 @@ module _ (bytes frame : List ℕ) (formats : List FormatRow) (rows : KeptRows) (
     row-ends mid under s =
         let on = under-on w.next row w under in
         let new = gone_on true mid in
-        let first : drop mid.element rows.elements ≡ Row keys height entries ∷ elements = ap (λ (n : ℕ). drop n rows.elements) s.stays.element ∙ at in
+        let first : drop mid.element rows.elements ≡ Row keys rules height entries ∷ elements = ap (λ (n : ℕ). drop n rows.elements) s.stays.element ∙ at in
         let next_is : mid.element + 1 ≡ suc mid.element = omega arith in
         let there : drop (mid.element + 1) rows.elements ≡ elements =
-        ap (λ (n : ℕ). drop n rows.elements) next_is ∙ drop-next mid.element rows.elements (Row keys height entries) elements first in
+        ap (λ (n : ℕ). drop n rows.elements) next_is ∙ drop-next mid.element rows.elements (Row keys rules height entries) elements first in
         let left : Bars → ℕ → List ℕ = λ b n.
         lines_on (record { bars = b; width = n; columns = rows.columns }) true (OfRow (height == 1) (row_at formats keys) fields) (elements_of bytes formats elements) in
         let new_lines : still_to_come bytes formats rows new ≡ behind-row =
@@ -176,7 +210,7 @@ module _ (bytes frame : List ℕ) (formats : List FormatRow) (rows : KeptRows) (
         ∙ ap (λ (es : List KeptElement). lines_on (sheet_of rows mid) true (OfRow (height == 1) (row_at formats keys) fields) (elements_of bytes formats es)) there
         ∙ ap (λ (b : Bars). left b mid.picture_width) s.stays.bars
         ∙ ap (left w.bars) s.stays.width in
-        gives bytes frame formats rows w can before after within new s.added s.adds
+        gives bytes frame formats rows w before after within new s.added s.adds
         (to-come-on w refl refl refl on
         ∙ ap (λ (xs : List ℕ). xs ++ behind-row) s.all
         ∙ ap (λ (xs : List ℕ). s.added ++ xs) (sym new_lines))
@@ -185,14 +219,14 @@ module _ (bytes frame : List ℕ) (formats : List FormatRow) (rows : KeptRows) (
           laid = can.laid;
           narrow = can.narrow;
           room = omega (arith, can.room, s.stays.room);
-          element = omega (arith, within-drop mid.element rows.elements (Row keys height entries) elements first);
+          element = omega (arith, within-drop mid.element rows.elements (Row keys rules height entries) elements first);
           above = subst IsRowFirst (sym first) tt;
           next = tt;
         })
         (omega (
           arith,
           steps-within w refl refl refl on,
-          ap (steps_on bytes rows) there,
+          ap (steps_on bytes formats rows) there,
           steps-on w.next row w on under,
         ))
         s.stays.room

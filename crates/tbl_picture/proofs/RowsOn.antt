@@ -1,18 +1,19 @@
 -- A row that is under way: some of it is left, and some steps.
 use Rattle.std.proofs.Common.{◌≡◌, ℕ, suc, ◌-◌, ◌<◌, List, [], ◌∷◌, length, drop, sym, subst, arith, length-append}
 use Rattle.tbl_layout.specs.declared.entry.Entry.{Entry}
-use Rattle.tbl_picture.specs.PictureLines.{lines_from}
-use Rattle.tbl_picture.specs.RowsLeft.{given, word_given}
-use Rattle.tbl_picture.specs.RowsWalked.{front_count, most_steps, steps_of_cells, steps_of_columns, steps_of_word}
+use Rattle.tbl_lines.specs.PictureLines.{lines_from}
+use Rattle.tbl_lines.specs.RowsLeft.{given, word_given}
+use Rattle.tbl_lines.specs.RowsWalked.{front_count, most_steps, steps_of_cells, steps_of_columns, steps_of_word}
 use Rattle.tbl_picture.specs.Walks.{IsOn, IsUnderWay, KeptWalk, WalkedRow, cells_in_front, cells_left, cells_now, columns_left, fronts_of, further_lines, row_left, row_steps, steps_of_rest}
 use Rattle.tbl_picture.specs.declared.walk.Next.{Next}
-use Rattle.tbl_picture.specs.declared.walk.Next.TheVariants.{AtCell, AtElement, AtEnd, AtFront, AtLine, AtRule, AtTop, AtWord}
+use Rattle.tbl_picture.specs.declared.walk.Next.TheVariants.{AtCell, AtElement, AtEnd, AtFront, AtLine, AtRule, AtRuleRow, AtTop, AtWord}
 use Rattle.tbl_text.specs.declared.block_parts.BlockPlace.{BlockPlace}
 
 -- some of it is left
 pub some-on : (n : Next) (row : WalkedRow) (w : KeptWalk) → IsOn n → IsUnderWay n row w → 0 < length (row_left n row w)
 some-on AtTop row w on can = absurd on
 some-on AtElement row w on can = absurd on
+some-on (AtRuleRow rule) row w on can = absurd on
 some-on (AtRule rule) row w on can = absurd on
 some-on AtEnd row w on can = absurd on
 some-on AtLine row w on can =
@@ -42,6 +43,7 @@ some-word bytes place (e ∷ entries) = omega arith
 pub steps-on : (n : Next) (row : WalkedRow) (w : KeptWalk) → IsOn n → IsUnderWay n row w → 0 < row_steps n row w
 steps-on AtTop row w on can = absurd on
 steps-on AtElement row w on can = absurd on
+steps-on (AtRuleRow rule) row w on can = absurd on
 steps-on (AtRule rule) row w on can = absurd on
 steps-on AtEnd row w on can = absurd on
 steps-on AtLine row w on can =

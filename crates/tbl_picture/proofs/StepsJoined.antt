@@ -1,9 +1,9 @@
 -- Steps of a row, one behind the other.
 use Rattle.std.proofs.Common.{◌≡◌, ℕ, ◌+◌, ◌≤◌, ◌<◌, Bool, true, false, List, ◌++◌, sym, ap, subst, ◌∙◌, arith, append_assoc, if◌then◌else◌}
-use Rattle.tbl_picture.specs.PieceQueue.{KeptPieces}
+use Rattle.tbl_pieces.specs.PieceQueue.{KeptPieces}
 use Rattle.tbl_picture.specs.Walks.{IsUnderWay, KeptWalk, RowEndsOrGoesOn, RowGoesOn, RowSoFar, RowSteps, Stays, WalkedRow, row_left, row_steps}
 use Rattle.tbl_picture.specs.Walks.RowGoesOn.{Gone, NotYet}
-use Rattle.tbl_picture.proofs.Adding.{fitting-more}
+use Rattle.tbl_pieces.proofs.Adding.{fitting-more}
 use Rattle.tbl_picture.proofs.RowSteps.{under-on}
 use Rattle.tbl_picture.proofs.RowsOn.{steps-on}
 

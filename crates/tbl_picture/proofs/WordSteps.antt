@@ -4,19 +4,19 @@ use Rattle.std.proofs.lemmas.List.Sums.{sum_by-cons}
 use Rattle.roff_source.specs.Bytes.{blank}
 use Rattle.tbl_layout.specs.Entries.{Run, blanks, block_line, columns_of, further_words, run_of_word}
 use Rattle.tbl_layout.specs.declared.entry.Entry.{Entry}
-use Rattle.tbl_picture.specs.PictureLines.{Cell, at_column, end_of}
-use Rattle.tbl_picture.specs.PieceQueue.{Adds, KeptPieces}
-use Rattle.tbl_picture.specs.RowsLeft.{begins_at, block_text, cell_left, first_of, given, given_of, if_given, one_less, word_given}
-use Rattle.tbl_picture.specs.RowsWalked.{IsBlock, steps_of_word}
+use Rattle.tbl_lines.specs.PictureLines.{Cell, at_column, end_of}
+use Rattle.tbl_pieces.specs.PieceQueue.{Adds, KeptPieces}
+use Rattle.tbl_lines.specs.RowsLeft.{begins_at, block_text, cell_left, first_of, given, given_of, if_given, one_less, word_given}
+use Rattle.tbl_lines.specs.RowsWalked.{IsBlock, steps_of_word}
 use Rattle.tbl_picture.specs.Walks.{AtColumn, KeptWalk, RowSteps, WalkedRow, at_word, further_lines, passed, row_left, row_steps}
-use Rattle.tbl_picture.specs.declared.row_columns.RowColumn.{RowColumn}
+use Rattle.tbl_lines.specs.declared.row_columns.RowColumn.{RowColumn}
 use Rattle.tbl_picture.specs.declared.walk.Next.{Next}
 use Rattle.tbl_picture.specs.declared.walk.Next.TheVariants.{AtCell, AtWord}
-use Rattle.tbl_picture.proofs.BlockColumns.{lines-empty, lines-word, word-glyph}
+use Rattle.tbl_lines.proofs.BlockColumns.{lines-empty, lines-word, word-glyph}
 use Rattle.tbl_picture.proofs.CellSteps.{none-steps}
 use Rattle.tbl_picture.proofs.ColumnSteps.{cells-first, cells_behind, columns_behind, fronts_behind, steps-cell, steps-word, steps_behind}
-use Rattle.tbl_picture.proofs.RunsGiven.{given-two}
-use Rattle.tbl_picture.proofs.WordRuns.{block-first, block-moved, columns-further, few-bytes, few-left}
+use Rattle.tbl_lines.proofs.RunsGiven.{given-two}
+use Rattle.tbl_lines.proofs.WordRuns.{block-first, block-moved, columns-further, few-bytes, few-left}
 use Rattle.tbl_text.specs.BlockLines.{behind_rest, lines_of, rest_of_line, width_behind}
 use Rattle.tbl_text.specs.BlockPlaces.{IsWithin, LiesBehind, left_at, parts_at, word_at}
 use Rattle.tbl_text.specs.BlockWords.{EmptyLine, OneWord, Part}

@@ -5,17 +5,17 @@ use Rattle.roff_source.specs.Bytes.{blank}
 use Rattle.tbl_layout.specs.Entries.{blanks, block_line, further_words, run_of_word}
 use Rattle.tbl_layout.specs.declared.entry.Entry.{Entry}
 use Rattle.tbl_layout.specs.KeptEntries.{Lies}
-use Rattle.tbl_picture.specs.PieceQueue.{Adds, KeptPieces}
-use Rattle.tbl_picture.specs.RowsLeft.{begins_at, block_text, end_given, given, given_of, if_given, one_less, word_given}
-use Rattle.tbl_picture.specs.RowsWalked.{StandsInFirst, StandsNext, steps_of_word}
+use Rattle.tbl_pieces.specs.PieceQueue.{Adds, KeptPieces}
+use Rattle.tbl_lines.specs.RowsLeft.{begins_at, block_text, end_given, given, given_of, if_given, one_less, word_given}
+use Rattle.tbl_lines.specs.RowsWalked.{StandsInFirst, StandsNext, steps_of_word}
 use Rattle.tbl_picture.specs.Walks.{AtColumn, InWord, KeptWalk, RowSteps, WalkedRow, at_word, further_lines, passed, row_left, row_steps}
-use Rattle.tbl_picture.specs.declared.row_columns.RowColumn.{RowColumn}
+use Rattle.tbl_lines.specs.declared.row_columns.RowColumn.{RowColumn}
 use Rattle.tbl_picture.specs.declared.walk.Next.{Next}
 use Rattle.tbl_picture.specs.declared.walk.Next.TheVariants.{AtWord}
-use Rattle.tbl_picture.proofs.BlockColumns.{word-glyph}
+use Rattle.tbl_lines.proofs.BlockColumns.{word-glyph}
 use Rattle.tbl_picture.proofs.ColumnSteps.{cells_behind, fronts_behind, steps-passed, steps-word, steps_behind}
-use Rattle.tbl_picture.proofs.RunsGiven.{given-last, given-two, last_given}
-use Rattle.tbl_picture.proofs.WordRuns.{block-moved, drop-of-none, slice-in}
+use Rattle.tbl_lines.proofs.RunsGiven.{given-last, given-two, last_given}
+use Rattle.tbl_lines.proofs.WordRuns.{block-moved, drop-of-none, slice-in}
 use Rattle.tbl_text.proofs.BlockSlices.{length-slice_range}
 use Rattle.tbl_text.specs.BlockLines.{behind_rest, joined_count, lines_of, rest_of_line, width_behind}
 use Rattle.tbl_text.specs.BlockPlaces.{IsWithin, LiesBehind, left_at, parts_at, word_at}

@@ -7,17 +7,17 @@ use Rattle.tbl_kept.specs.Joined.{RiseWithin, unjoined}
 use Rattle.tbl_kept.specs.Rows.{KeptRows, RowsLaid, elements_of}
 use Rattle.tbl_kept.specs.TableText.{KeptText, block_of}
 use Rattle.tbl_layout.specs.declared.bars.Bars.{Bars}
-use Rattle.tbl_picture.specs.PictureLines.{picture_lines}
-use Rattle.tbl_picture.specs.PieceQueue.{KeptPieces, bytes_left}
-use Rattle.tbl_picture.specs.Pieces.{AreWithin}
-use Rattle.tbl_picture.specs.RowsWalked.{AreNarrow}
+use Rattle.tbl_lines.specs.PictureLines.{picture_lines}
+use Rattle.tbl_pieces.specs.PieceQueue.{KeptPieces, bytes_left}
+use Rattle.tbl_pieces.specs.Pieces.{AreWithin}
+use Rattle.tbl_lines.specs.RowsWalked.{AreNarrow}
 use Rattle.tbl_picture.specs.ElementsWalked.{CanWalk, still_to_come}
 use Rattle.tbl_picture.specs.Walks.{KeptWalk}
 use Rattle.tbl_picture.specs.declared.giving.Giving.TheInside.{Inside}
 use Rattle.tbl_picture.specs.declared.giving.Rest.{Rest}
 use Rattle.tbl_picture.specs.declared.giving.Rest.TheVariants.{Lines, Nothing, Read}
-use Rattle.tbl_picture.specs.declared.picture.Piece.{Piece}
-use Rattle.tbl_picture.specs.declared.picture.Piece.TheVariants.{Blanks, LineEnd}
+use Rattle.tbl_pieces.specs.declared.pieces.Piece.{Piece}
+use Rattle.tbl_pieces.specs.declared.pieces.Piece.TheVariants.{Blanks, LineEnd}
 
 -- the pieces that are left, what follows them, whether a newline is given at last, how far the picture is walked, the requests around
 -- the picture, with where those behind it begin, and for how many columns there is room

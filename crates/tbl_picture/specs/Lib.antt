@@ -1,11 +1,5 @@
 pub mod Frame
-pub mod PictureLines
-pub mod WorkedPictures
-pub mod RowsLeft
-pub mod RowsWalked
 pub mod Walks
 pub mod RulesWalked
 pub mod ElementsWalked
-pub mod Pieces
-pub mod PieceQueue
 pub mod Giving

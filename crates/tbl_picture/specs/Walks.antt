@@ -1,26 +1,22 @@
 -- A walk over the lines of a table's picture: how far it has come, and what is to come.
-use Rattle.std.specs.Prelude.{◌≡◌, ℕ, suc, ◌+◌, ◌-◌, ◌≤◌, ◌<◌, max, Bool, true, false, List, [], ◌∷◌, ◌++◌, drop, length, map, take, nat_lt, vec_capacity, None, if◌then◌else◌}
+use Rattle.std.specs.Prelude.{◌≡◌, ℕ, suc, ◌+◌, ◌-◌, ◌≤◌, ◌<◌, max, Bool, true, false, List, [], ◌∷◌, ◌++◌, drop, length, map, take, nat_lt, vec_capacity}
 use Rattle.std.specs.List.{AllByRecursion}
 use Rattle.roff_source.specs.Bytes.{newline}
-use Rattle.tbl_format.specs.Format.{FormatRow}
-use Rattle.tbl_format.specs.RowsServed.{row_at}
 use Rattle.tbl_layout.specs.declared.bars.Bars.{Bars}
-use Rattle.tbl_layout.specs.declared.columns.Column.{Column}
 use Rattle.tbl_layout.specs.declared.entry.Entry.{Entry}
 use Rattle.tbl_layout.specs.KeptEntries.{Lies}
-use Rattle.tbl_picture.specs.PictureLines.{Cell, lines_from, with_fronts}
-use Rattle.tbl_picture.specs.PieceQueue.{AddsFitting, KeptPieces}
-use Rattle.tbl_picture.specs.RowsLeft.{behind_first, block_text, cell_left, from_line, fronts_by, given, one_less, row_columns, then_fronts, word_given}
-use Rattle.tbl_picture.specs.RowsWalked.{AreNarrow, IsNarrow, LastHasGlyph, PlacesLie, StandsInFirst, front_count, most_steps, steps_of_cells, steps_of_columns, steps_of_lines, steps_of_word}
-use Rattle.tbl_picture.specs.declared.row_columns.RowColumn.{RowColumn}
-use Rattle.tbl_picture.specs.declared.row_columns.RowLent.{RowLent}
+use Rattle.tbl_lines.specs.PictureLines.{Cell, lines_from, with_fronts}
+use Rattle.tbl_pieces.specs.PieceQueue.{AddsFitting, KeptPieces}
+use Rattle.tbl_lines.specs.RowsLeft.{behind_first, block_text, cell_left, from_line, fronts_by, given, one_less, row_columns, then_fronts, word_given}
+pub use Rattle.tbl_lines.specs.RowsLent.{CellsLie, WalkedRow, first_place, fronts_of, lent_entries, lent_format, lent_row, line_cells, walked}
+use Rattle.tbl_lines.specs.RowsWalked.{AreNarrow, IsNarrow, LastHasGlyph, PlacesLie, StandsInFirst, front_count, most_steps, steps_of_cells, steps_of_columns, steps_of_lines, steps_of_word}
+use Rattle.tbl_lines.specs.declared.row_columns.RowColumn.{RowColumn}
 use Rattle.tbl_picture.specs.declared.walk.Next.{Next}
-use Rattle.tbl_picture.specs.declared.walk.Next.TheVariants.{AtCell, AtElement, AtEnd, AtFront, AtLine, AtRule, AtTop, AtWord}
+use Rattle.tbl_picture.specs.declared.walk.Next.TheVariants.{AtCell, AtElement, AtEnd, AtFront, AtLine, AtRule, AtRuleRow, AtTop, AtWord}
 use Rattle.tbl_picture.specs.declared.walk.Walk.TheInside.{Inside}
-use Rattle.tbl_picture.specs.declared.walk.rules.Beside.{Beside}
+use Rattle.tbl_picture.specs.declared.walk.beside.Beside.{Beside}
 use Rattle.tbl_text.specs.BlockPlaces.{IsWithin}
 use Rattle.tbl_text.specs.declared.block_parts.BlockPlace.{BlockPlace}
-use Rattle.tbl_text.specs.declared.block_parts.BlockPlace.TheVariants.{AtEnd, AtLine as AtPlace}
 use Rattle.tbl_text.specs.declared.block_words.BlockWord.{BlockWord}
 
 -- the element and the line of it, how many columns are left up to the line's last glyph, the column of the page that is reached,
@@ -59,47 +55,12 @@ pub record IsSound (a : Inside) : Type 0 where
   pub places_reserved : a.room ≤ vec_capacity a.places
   pub behind_reserved : a.room ≤ vec_capacity a.behind
 
--- a row that is walked: its picture's bars, and how wide that is, the table's bytes, the row of the formats, the columns, its lines
--- and its fields
-pub record WalkedRow : Type 0 where
-  pub bars : Bars
-  pub width : ℕ
-  pub bytes : List ℕ
-  pub format : FormatRow
-  pub columns : List Column
-  pub height : ℕ
-  pub entries : List Entry
-
--- one that is lent, and its row of the formats
-abbrev pub lent_format : RowLent → FormatRow
-lent_format row = record { keys = row.keys.now; bars = row.last_bars }
-
-abbrev pub lent_row : RowLent → WalkedRow
-lent_row row = record {
-  bars = row.bars;
-  width = row.width;
-  bytes = row.bytes.now;
-  format = lent_format row;
-  columns = row.columns.now;
-  height = row.height;
-  entries = row.entries.now;
-}
-
 -- its columns, and what is left of them
 abbrev pub columns_walked : WalkedRow → KeptWalk → List RowColumn
 columns_walked row w = row_columns row.bars.boxing row.format 0 row.columns row.entries w.places
 
 abbrev pub columns_left : WalkedRow → KeptWalk → List RowColumn
 columns_left row w = drop (length w.behind) (columns_walked row w)
-
--- what stands in front of them, from a line on
-abbrev pub fronts_of : WalkedRow → ℕ → List Cell
-fronts_of row line = map (from_line line) (fronts_by row.bars row.width row.format row.columns row.entries)
-
--- all that is left of it from a line on, where its blocks go on at these places
-abbrev pub line_cells : WalkedRow → ℕ → List BlockPlace → List Cell
-line_cells row line places =
-    with_fronts (fronts_of row line) (map (cell_left row.bytes line) (row_columns row.bars.boxing row.format 0 row.columns row.entries places))
 
 -- what is left of its fields, all and those that are behind the walk
 abbrev pub fields_now : WalkedRow → KeptWalk → List Cell
@@ -126,6 +87,7 @@ further_lines row w = newline ∷ lines_from 0 (row.height - suc w.line) (map be
 abbrev pub row_left : Next → WalkedRow → KeptWalk → List ℕ
 row_left AtTop row w = []
 row_left AtElement row w = []
+row_left (AtRuleRow rule) row w = []
 row_left (AtRule rule) row w = []
 row_left AtEnd row w = []
 row_left AtLine row w = lines_from 0 (row.height - w.line) (cells_now row w)
@@ -134,11 +96,6 @@ row_left AtCell row w = given w.count w.place (cells_left row w) ++ further_line
 row_left (AtWord word width place) row w =
     word_given row.bytes w.line (drop (suc (length w.behind)) (fronts_of row w.line)) w.count word width place (columns_left row w)
     ++ further_lines row w
-
--- a row of a table that is walked
-abbrev pub walked : List ℕ → List FormatRow → Bars → ℕ → List Column → ℕ → ℕ → List Entry → WalkedRow
-walked bytes formats bars width columns keys height entries =
-    record { bars = bars; width = width; bytes = bytes; format = row_at formats keys; columns = columns; height = height; entries = entries }
 
 -- a row is before one of its lines
 pub record BeforeLine (row : WalkedRow) (w : KeptWalk) : Type 0 where
@@ -177,6 +134,7 @@ pub record InWord (row : WalkedRow) (word : BlockWord) (width : ℕ) (place : Bl
 abbrev pub IsUnderWay : Next → WalkedRow → KeptWalk → Type 0
 IsUnderWay AtTop row w = ⊥
 IsUnderWay AtElement row w = ⊥
+IsUnderWay (AtRuleRow rule) row w = ⊥
 IsUnderWay (AtRule rule) row w = ⊥
 IsUnderWay AtEnd row w = ⊥
 IsUnderWay AtLine row w = BeforeLine row w
@@ -191,6 +149,7 @@ steps_of_rest row lines = steps_of_lines (front_count row.columns + steps_of_col
 abbrev pub row_steps : Next → WalkedRow → KeptWalk → ℕ
 row_steps AtTop row w = 0
 row_steps AtElement row w = 0
+row_steps (AtRuleRow rule) row w = 0
 row_steps (AtRule rule) row w = 0
 row_steps AtEnd row w = 0
 row_steps AtLine row w = steps_of_rest row (row.height - w.line)
@@ -209,6 +168,7 @@ row_steps (AtWord word width place) row w =
 abbrev pub IsOn : Next → Type 0
 IsOn AtTop = ⊥
 IsOn AtElement = ⊥
+IsOn (AtRuleRow rule) = ⊥
 IsOn (AtRule rule) = ⊥
 IsOn AtEnd = ⊥
 IsOn AtLine = Unit {0}
@@ -255,10 +215,6 @@ abbrev pub RowSoFar : Bool → List ℕ → WalkedRow → KeptWalk → KeptWalk 
 RowSoFar true frame row old new before after = RowEnds frame row old new before after
 RowSoFar false frame row old new before after = RowGoesOn frame row old new before after
 
--- where the block of a field begins, if it is one
-abbrev pub first_place : Entry → BlockPlace
-first_place e = if nat_lt e.from e.to then AtPlace 0 None else AtEnd
-
 -- a row begins
 abbrev pub row_begun : List Entry → KeptWalk → KeptWalk
 row_begun entries w = record w { line = 0; next = AtLine; places = map first_place entries }
@@ -303,7 +259,7 @@ abbrev pub front_passed : WalkedRow → ℕ → ℕ → KeptWalk → KeptWalk
 front_passed row at reached w = record w {
   count = one_less w.count;
   place = reached;
-  next = next_behind (nat_lt (length w.behind) (length row.entries)) (nat_lt at (max 1 (length row.columns))) at;
+  next = next_behind (nat_lt (length w.behind) (length w.places)) (nat_lt at (max 1 (length row.columns))) at;
 }
 
 -- before a word

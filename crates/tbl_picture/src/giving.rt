@@ -7,14 +7,13 @@ ghost use Rattle.tbl_format.specs.FormatRows.{KeptFormat};
 ghost use Rattle.tbl_kept.specs.Joined.{RiseWithin, unjoined};
 ghost use Rattle.tbl_format.specs.Parts.{IsFront};
 ghost use Rattle.tbl_picture.specs.Frame.{picture};
-ghost use Rattle.tbl_picture.specs.PieceQueue.{bytes_left};
-ghost use Rattle.tbl_picture.specs.Pieces.{AreWithin};
+ghost use Rattle.tbl_pieces.specs.PieceQueue.{bytes_left};
+ghost use Rattle.tbl_pieces.specs.Pieces.{AreWithin};
 ghost use Rattle.tbl_picture.specs.declared.giving.Rest.TheVariants.{Lines};
 ghost use Rattle.tbl_kept.specs.Rows.{KeptRows};
 ghost use Rattle.tbl_kept.specs.TableText.{KeptText, block_of};
 
-use crate::picture::{FRAME, Piece, write_frame};
-use crate::piece_queue::PieceQueue;
+use crate::frame::{FRAME, write_frame};
 use crate::walk::{STEP_PIECES, Walk};
 use roff_escape::OpenEscapes;
 use std::alloc::{AllocError, Global};
@@ -23,6 +22,8 @@ use tbl_format::format_rows::FormatRows;
 use tbl_kept::rows::TableRows;
 use tbl_kept::table_text::TableText;
 use tbl_layout::bars::Bars;
+use tbl_pieces::piece_queue::PieceQueue;
+use tbl_pieces::pieces::Piece;
 
 /// What is to give behind pieces.
 #[derive(Clone, Copy)]

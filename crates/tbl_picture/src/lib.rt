@@ -2,12 +2,6 @@
 //! Tables").
 #![tactic(auto)]
 
-pub mod fronts;
+pub mod frame;
 pub mod giving;
-pub mod picture;
-pub mod piece_queue;
-pub mod row_columns;
 pub mod walk;
-pub mod worked_bars;
-pub mod worked_boxes;
-pub mod worked_rules;

@@ -6,30 +6,37 @@ ghost use Rattle.tbl_format.specs.Format.{FormatRow};
 ghost use Rattle.tbl_format.specs.RowsServed.{all_rows};
 ghost use Rattle.tbl_kept.specs.Rows.{KeptRows, RowsLaid, elements_of};
 ghost use Rattle.tbl_picture.specs.ElementsWalked.{first_next};
-ghost use Rattle.tbl_picture.specs.PictureLines.{picture_lines};
+ghost use Rattle.tbl_lines.specs.PictureLines.{picture_lines};
 ghost use Rattle.std.specs.Prelude.{◌++◌, map, vec_capacity, vec_len};
-ghost use Rattle.tbl_picture.specs.Pieces.{AreWithin};
+ghost use Rattle.tbl_pieces.specs.Pieces.{AreWithin};
+ghost use Rattle.tbl_layout.specs.KeptEntries.{all_entries};
 ghost use Rattle.tbl_picture.specs.Walks.{first_place};
 
-use crate::picture::Piece;
-use crate::piece_queue::PieceQueue;
-use crate::row_columns::RowLent;
+use beside::Beside;
 use roff_escape::OpenEscapes;
-use rules::{Beside, RuleBegun, frame_sign};
+use rules::{RuleBegun, frame_sign};
 use std::alloc::{AllocError, Global};
 use std::marker::Model;
+use tbl_format::format::FormatKey;
 use tbl_format::format_rows::FormatRows;
-use tbl_format::options::Boxing;
 use tbl_kept::rows::TableRows;
 use tbl_layout::bars::Bars;
 use tbl_layout::entry::Entry;
+use tbl_layout::rule_keys::{entry_at, filled_columns};
+use tbl_lines::row_columns::RowLent;
+use tbl_options::options::Boxing;
+use tbl_pieces::piece_queue::PieceQueue;
+use tbl_pieces::pieces::Piece;
 use tbl_text::block_parts::BlockPlace;
 use tbl_text::block_words::BlockWord;
 
+pub mod beside;
 mod cells;
 mod elements;
 mod fronts;
 mod lines;
+mod rule_marks;
+mod rule_rows;
 pub mod rules;
 
 /// The most pieces of one step.
@@ -42,7 +49,9 @@ pub enum Next {
     AtTop,
     /// An element, or a rule that the box adds in front of it, or the rule behind all.
     AtElement,
-    /// A boundary between columns on a rule line of a picture that is boxed, or the line's end.
+    /// A line of a row of rule keys, which stands in front of the row that comes next.
+    AtRuleRow(RuleBegun),
+    /// A column on a line of rules, and the boundary behind it, or the line's end.
     AtRule(RuleBegun),
     /// A line of a row.
     AtLine,
@@ -94,8 +103,9 @@ impl Model for Walk {
 
 impl Walk {
     ghost use Rattle.tbl_picture.specs.ElementsWalked.{CanWalk, StepsIf, started, still_to_come};
-    ghost use Rattle.tbl_picture.specs.RowsWalked.{AreNarrow};
-    ghost use Rattle.tbl_picture.specs.Walks.{IsUnderWay, RowEndsOrGoesOn, lent_row, row_begun};
+    ghost use Rattle.tbl_lines.specs.RowsWalked.{AreNarrow};
+    ghost use Rattle.tbl_picture.specs.Walks.{IsUnderWay, RowEndsOrGoesOn, lent_entries, lent_row};
+    ghost use Rattle.tbl_picture.specs.Walks.{row_begun};
 
     /// A walk over tables of so many columns at the most.
     pub fn new(alloc: Global, columns: usize) -> Result<Self, AllocError>
@@ -159,6 +169,10 @@ impl Walk {
                 true
             }
             Next::AtElement => self.step_at_element(pieces, rows, format),
+            Next::AtRuleRow(rule) => {
+                self.begin_rule_row(pieces, rule);
+                true
+            }
             Next::AtRule(rule) => {
                 self.step_in_rule(pieces, rows, format, rule);
                 true
@@ -176,7 +190,7 @@ impl Walk {
         row: &RowLent<'_>,
     ) -> bool
         requires can { IsUnderWay self.old.next (lent_row row.now) self.old }
-        requires fits { length row.now.entries.now ≤ self.old.room }
+        requires fits { length (lent_entries row.now) ≤ self.old.room }
         requires small { row.now.height < 2 ^ 32 }
         requires room { pieces.old.taken + 4 ≤ pieces.old.room }
         ensures steps { (frame : List ℕ) → RowEndsOrGoesOn result frame (lent_row row.now)
@@ -198,7 +212,7 @@ impl Walk {
         row: &RowLent<'_>,
     ) -> bool
         requires can { IsUnderWay self.old.next (lent_row row.now) self.old }
-        requires fits { length row.now.entries.now ≤ self.old.room }
+        requires fits { length (lent_entries row.now) ≤ self.old.room }
         requires small { row.now.height < 2 ^ 32 }
         requires room { pieces.old.taken + 4 ≤ pieces.old.room }
         ensures steps { (frame : List ℕ) → RowEndsOrGoesOn result frame (lent_row row.now)
@@ -215,7 +229,7 @@ impl Walk {
                 false
             }
             Next::AtCell => {
-                if self.behind.len() == row.entries.len() {
+                if self.behind.len() == self.places.len() {
                     return self.end_line(pieces, row);
                 }
                 self.give_cell(pieces, escapes, row);
@@ -229,13 +243,16 @@ impl Walk {
         }
     }
 
-    /// A row begins: each of its blocks is at its beginning.
-    fn begin_row(&mut self, entries: &[Entry])
-        requires { length entries.now ≤ self.old.room }
-        ensures { self.new ≡ row_begun entries.now self.old }
+    /// A row begins, which has these keys and these fields: each of its blocks is at its
+    /// beginning.
+    fn begin_row(&mut self, keys: &[FormatKey], entries: &[Entry])
+        requires { length (all_entries (record { keys = keys.now; bars = 0 }) entries.now)
+            ≤ self.old.room }
+        ensures { self.new ≡ row_begun
+            (all_entries (record { keys = keys.now; bars = 0 }) entries.now) self.old }
     {
         self.places.clear();
-        push_places(&mut self.places, entries);
+        push_places(&mut self.places, keys, entries);
         self.line = 0;
         self.next = Next::AtLine;
     }
@@ -252,14 +269,17 @@ fn first_next(boxing: Boxing) -> Next
     }
 }
 
-/// Adds for each field where its block begins.
-fn push_places(places: &mut Vec<BlockPlace>, entries: &[Entry])
-    requires { vec_len places.old + length entries.now ≤ vec_capacity places.old }
-    ensures items { places.new.items ≡ places.old.items ++ map first_place entries.now }
+/// Adds for each column that a row fills where its block begins.
+fn push_places(places: &mut Vec<BlockPlace>, keys: &[FormatKey], entries: &[Entry])
+    requires { vec_len places.old
+        + length (all_entries (record { keys = keys.now; bars = 0 }) entries.now)
+        ≤ vec_capacity places.old }
+    ensures items { places.new.items ≡ places.old.items
+        ++ map first_place (all_entries (record { keys = keys.now; bars = 0 }) entries.now) }
     ensures capacity { vec_capacity places.new ≡ vec_capacity places.old }
 {
-    for at in 0..entries.len() {
-        places.push_reserved(first_place(entries[at]));
+    for at in 0..filled_columns(keys, entries.len()) {
+        places.push_reserved(first_place(entry_at(keys, entries, at)));
     }
 }
 

@@ -10,10 +10,10 @@ use Rattle.roff_sinks.specs.Sinks.{CountsFault, Sunk}
 use Rattle.roff_run.specs.declared.status.Status.{Status}
 use Rattle.roff_run.specs.declared.status.Status.TheVariants.{Device, Limit as Limited}
 use Rattle.roff_source.specs.Tape.{Item, OneByte, Tape, items_then}
-use Rattle.tbl_format.specs.Messages.{tbl_message_line}
+use Rattle.tbl_options.specs.Messages.{tbl_message_line}
 use Rattle.tbl_format.specs.Parts.{IsFront}
 use Rattle.tbl_format.specs.declared.limits.TblLimits.{TblLimits}
-use Rattle.tbl_format.specs.declared.message.Message.TheVariants.{LimitReached, WriteFailed}
+use Rattle.tbl_options.specs.declared.message.Message.TheVariants.{LimitReached, WriteFailed}
 use Rattle.tbl_core.specs.Machine.{Standing}
 use Rattle.tbl_core.specs.Source.{MayGiveSome}
 use Rattle.tbl_core.specs.Tables.{line_of}

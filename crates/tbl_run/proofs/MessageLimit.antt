@@ -5,10 +5,10 @@ use Rattle.roff_num.specs.Lists.{IsBeginning}
 use Rattle.roff_num.specs.declared.limit.Limit.TheVariants.{Messages}
 use Rattle.roff_run.specs.declared.status.Status.TheVariants.{Limit as Limited}
 use Rattle.roff_source.specs.Tape.{Answer, Ended, Ends, Failed, Gives, OneByte, OneNote, Stopped, Tape}
-use Rattle.tbl_format.specs.Messages.{tbl_message_line}
+use Rattle.tbl_options.specs.Messages.{tbl_message_line}
 use Rattle.tbl_format.specs.TblLimits.{tbl_limits_with}
 use Rattle.tbl_format.specs.declared.limits.TblLimits.{TblLimits}
-use Rattle.tbl_format.specs.declared.message.Message.TheVariants.{LimitReached}
+use Rattle.tbl_options.specs.declared.message.Message.TheVariants.{LimitReached}
 use Rattle.tbl_core.proofs.AnyMessages.{answered_same}
 use Rattle.tbl_core.specs.Stages.{Answered, Stage, answered}
 use Rattle.tbl_core.specs.Tables.{line_of}

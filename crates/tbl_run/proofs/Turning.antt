@@ -7,12 +7,12 @@ use Rattle.roff_sinks.specs.Devices.{AppendsBetween, Seen}
 use Rattle.roff_sinks.specs.Sinks.{CountsFault, Sunk}
 use Rattle.roff_run.specs.declared.status.Status.{Status}
 use Rattle.roff_source.specs.Tape.{Answer, Ended, Ends, Failed, Gives, Item, OneByte, OneNote, Stopped, Tape, items_then}
-use Rattle.tbl_format.specs.Messages.{tbl_message_line}
+use Rattle.tbl_options.specs.Messages.{tbl_message_line}
 use Rattle.tbl_core.specs.Stages.{Takes}
 use Rattle.tbl_core.specs.Tables.{line_of}
 use Rattle.tbl_core.specs.Yields.{At, at_start}
 use Rattle.tbl_format.specs.declared.limits.TblLimits.{TblLimits}
-use Rattle.tbl_format.specs.declared.message.Message.TheVariants.{WriteFailed}
+use Rattle.tbl_options.specs.declared.message.Message.TheVariants.{WriteFailed}
 use Rattle.tbl_run.specs.Coming.{HasCome}
 use Rattle.tbl_run.specs.Outcome.{Completes, MessagesFail, Outcome, OutputFails, PutsTables}
 use Rattle.tbl_run.specs.Run.{State, Written, done_with, initial, step, steps}

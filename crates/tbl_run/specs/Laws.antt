@@ -6,7 +6,7 @@ use Rattle.roff_run.specs.declared.status.Status.TheVariants.{Limit as Limited}
 use Rattle.roff_source.specs.Tape.{Tape}
 use Rattle.tbl_format.specs.TblLimits.{tbl_limits_with}
 use Rattle.tbl_format.specs.declared.limits.TblLimits.{TblLimits}
-use Rattle.tbl_format.specs.declared.message.Message.TheVariants.{LimitReached}
+use Rattle.tbl_options.specs.declared.message.Message.TheVariants.{LimitReached}
 use Rattle.tbl_run.specs.Outcome.{Comes}
 use Rattle.tbl_run.specs.Run.{State, ends_telling, initial, step, steps}
 

@@ -8,8 +8,8 @@ use Rattle.roff_run.specs.declared.status.Status.{Status}
 use Rattle.roff_run.specs.declared.status.Status.TheVariants.{Device}
 use Rattle.roff_source.specs.Tape.{Item, Tape, Took, items_then}
 use Rattle.tbl_format.specs.declared.limits.TblLimits.{TblLimits}
-use Rattle.tbl_format.specs.declared.message.Message.TheVariants.{WriteFailed}
-use Rattle.tbl_format.specs.Messages.{tbl_message_line}
+use Rattle.tbl_options.specs.declared.message.Message.TheVariants.{WriteFailed}
+use Rattle.tbl_options.specs.Messages.{tbl_message_line}
 use Rattle.tbl_core.specs.Tables.{line_of}
 use Rattle.tbl_run.specs.Run.{State, initial, step, steps}
 

@@ -5,9 +5,9 @@ use Rattle.roff_run.specs.declared.status.Status.{Status}
 use Rattle.roff_run.specs.declared.status.Status.TheVariants.{Done, Device, Limit as Limited}
 use Rattle.roff_source.specs.Tape.{Answer, Ended, Ends, Failed, Gives, OneByte, OneNote, Stopped, Tape}
 use Rattle.tbl_format.specs.declared.limits.TblLimits.{TblLimits}
-use Rattle.tbl_format.specs.declared.message.Message.{Message}
-use Rattle.tbl_format.specs.declared.message.Message.TheVariants.{LimitReached, ReadFailed}
-use Rattle.tbl_format.specs.Messages.{tbl_message_line}
+use Rattle.tbl_options.specs.declared.message.Message.{Message}
+use Rattle.tbl_options.specs.declared.message.Message.TheVariants.{LimitReached, ReadFailed}
+use Rattle.tbl_options.specs.Messages.{tbl_message_line}
 use Rattle.tbl_core.specs.Stages.{Stage, answered}
 use Rattle.tbl_core.specs.Tables.{line_of}
 use Rattle.tbl_core.specs.Yields.{at_start}

@@ -4,10 +4,10 @@ use Rattle.roff_sinks.specs.Sinks.{Fails, Sunk, Writes}
 use Rattle.roff_run.specs.declared.status.Status.{Status}
 use Rattle.roff_run.specs.declared.status.Status.TheVariants.{Device}
 use Rattle.roff_source.specs.Tape.{Answer, Ends, Failed}
-use Rattle.tbl_format.specs.Messages.{tbl_message_line}
+use Rattle.tbl_options.specs.Messages.{tbl_message_line}
 use Rattle.tbl_format.specs.declared.limits.TblLimits.{TblLimits}
-use Rattle.tbl_format.specs.declared.message.Message.{Message}
-use Rattle.tbl_format.specs.declared.message.Message.TheVariants.{WriteFailed}
+use Rattle.tbl_options.specs.declared.message.Message.{Message}
+use Rattle.tbl_options.specs.declared.message.Message.TheVariants.{WriteFailed}
 use Rattle.tbl_run.specs.Run.{Written, done_with}
 use Rattle.tbl_run.specs.declared.run.Counts.{Counts}
 

@@ -9,7 +9,7 @@ use Rattle.roff_source.specs.Bytes.{newline}
 use Rattle.tbl_table.specs.Begun.{begun_in, count_of, head_begun}
 use Rattle.tbl_format.specs.Format.{Format, format_byte, format_read, has_some, no_format}
 use Rattle.tbl_format.specs.KeyCounts.{Counts}
-use Rattle.tbl_format.specs.Options.{bracketed, options_end, options_end_from, semicolon}
+use Rattle.tbl_options.specs.Options.{bracketed, options_end, options_end_from, semicolon}
 use Rattle.tbl_table.specs.Table.{columns_of, has_newline, head_columns, head_place}
 use Rattle.tbl_table.specs.declared.begun.Begun.TheVariants.{Front, Keys, Nothing}
 use Rattle.tbl_format.specs.declared.format.FormatPlace.{FormatPlace}

@@ -15,11 +15,11 @@ use Rattle.tbl_data.specs.declared.table_data.OpenBlock.TheVariants.{Dropped, Ke
 use Rattle.tbl_data.specs.declared.table_data.TableData.{TableData}
 use Rattle.tbl_format.specs.Format.{Format}
 use Rattle.tbl_format.specs.FormatRows.{KeptFormat}
-use Rattle.tbl_format.specs.Notes.{NotesWithin, told_of_all}
+use Rattle.tbl_options.specs.Notes.{NotesWithin, told_of_all}
 use Rattle.tbl_format.specs.RowsServed.{all_rows, row_at}
 use Rattle.tbl_format.specs.declared.limits.TblLimits.{TblLimits}
-use Rattle.tbl_format.specs.declared.notes.KeptNote.{KeptNote}
-use Rattle.tbl_format.specs.declared.options.Options.{Options}
+use Rattle.tbl_options.specs.declared.notes.KeptNote.{KeptNote}
+use Rattle.tbl_options.specs.declared.options.Options.{Options}
 use Rattle.tbl_kept.specs.Joined.{Joined, behind_joined, ends_joined}
 use Rattle.tbl_kept.specs.Rows.{entries_of}
 use Rattle.tbl_kept.specs.RowsLaying.{AreOpened}
@@ -45,17 +45,17 @@ use Rattle.tbl_table.proofs.TableFits.{FewKeys-more, behind-append, kept-most}
 pub none-open : (block : OpenBlock) → is_open block ≡ false → block ≡ NoBlock
 none-open NoBlock is = refl
 none-open Kept is = absurd (cc)
-none-open Dropped is = absurd (cc)
+none-open (Dropped had_surplus) is = absurd (cc)
 
 pub no-open : (block : OpenBlock) → block ≡ NoBlock → is_open block ≡ true → ⊥
 no-open NoBlock is some = absurd (cc)
 no-open Kept is some = absurd (cc)
-no-open Dropped is some = absurd (cc)
+no-open (Dropped had_surplus) is some = absurd (cc)
 
 pub one-open : (block : OpenBlock) → is_open block ≡ true → block_open block ≡ 1
 one-open NoBlock is = absurd (cc)
 one-open Kept is = refl
-one-open Dropped is = refl
+one-open (Dropped had_surplus) is = refl
 
 -- one that is open is open in the data
 pub open-behind : (p : Phase) (bytes : List ℕ) (d : TableData) → FitsBehind p bytes d → is_open d.open ≡ true → p ≡ InData
@@ -224,7 +224,12 @@ module _ (l : TblLimits) (phase : Phase) (begun : Begun) (text : KeptText) (d : 
   pub mid-serves : is_open mid.open ≡ true → mid.keys < length (all_rows mid.format.format)
   mid-serves opened =
       let in_data = open-behind p front mid mid-fits opened in
-      (subst (λ (q : Phase). FitsBehind q front mid) in_data mid-fits).serves
+      (subst (λ (q : Phase). FitsBehind q front mid) in_data mid-fits).served.serves
+
+  pub mid-rules : is_open mid.open ≡ true → mid.rules ≤ mid.keys
+  mid-rules opened =
+      let in_data = open-behind p front mid mid-fits opened in
+      omega (arith, (subst (λ (q : Phase). FitsBehind q front mid) in_data mid-fits).served.first)
 
   pub mid-few : entries_of mid.rows < 4294967296
   mid-few =
@@ -340,7 +345,10 @@ module _ (l : TblLimits) (phase : Phase) (begun : Begun) (text : KeptText) (d : 
       omega (arith, fits.rows.elements, fits.rooms.elements, fits.bytes.few, one-read l phase begun text d fits is, all-kept l phase begun text d fits is (length d.rows.elements))
 
   pub rest-serves : is_open d.open ≡ true → d.keys < length (all_rows d.format.format)
-  rest-serves some = (data-reads l phase begun text d fits (rest-data some)).fits.serves
+  rest-serves some = (data-reads l phase begun text d fits (rest-data some)).fits.served.serves
+
+  pub rest-rules : is_open d.open ≡ true → d.rules ≤ d.keys
+  rest-rules some = omega (arith, (data-reads l phase begun text d fits (rest-data some)).fits.served.first)
 
   pub rest-few : is_open d.open ≡ true → entries_of d.rows < 4294967296
   rest-few some =

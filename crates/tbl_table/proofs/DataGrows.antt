@@ -11,10 +11,10 @@ use Rattle.tbl_data.specs.declared.table_data.OpenBlock.TheVariants.{Nothing}
 use Rattle.tbl_data.specs.declared.table_data.TableData.{TableData}
 use Rattle.tbl_format.specs.Format.{FormatRow}
 use Rattle.tbl_format.specs.declared.format.Key.{Key}
-use Rattle.tbl_format.specs.Notes.{NotesWithin}
+use Rattle.tbl_options.specs.Notes.{NotesWithin}
 use Rattle.tbl_format.specs.RowsServed.{all_rows, row_at}
-use Rattle.tbl_format.specs.declared.message.Told.{Told}
-use Rattle.tbl_format.specs.declared.options.Options.{Options}
+use Rattle.tbl_options.specs.declared.message.Told.{Told}
+use Rattle.tbl_options.specs.declared.options.Options.{Options}
 use Rattle.tbl_kept.specs.Rows.{AreKept, Command, ElementKept, KeptElement, Row, RowBegunKept, Rule}
 use Rattle.tbl_layout.specs.Entries.{Content, Element, is_number, key_at}
 use Rattle.tbl_layout.specs.KeptEntries.{IsKeptBy, IsText, content_of, text_entry}
@@ -90,8 +90,7 @@ module _ (bytes more : List ℕ) (d : TableData) where
     kept = RowBegunKept-more bytes more (all_rows d.format.format) d.keys d.rows fits.kept;
     block = fits.block;
     columns = fits.columns;
-    first = fits.first;
-    serves = fits.serves;
+    served = fits.served;
     whole = fits.whole;
     notes = NotesWithin-more (length bytes) (length (bytes ++ more)) d.notes.notes longer fits.notes;
   }
@@ -103,6 +102,7 @@ module _ (bytes more : List ℕ) (d : TableData) where
     none = fits.none;
     columns = fits.columns;
     first = fits.first;
+    rules = fits.rules;
     notes = NotesWithin-more (length bytes) (length (bytes ++ more)) d.notes.notes longer fits.notes;
   }
 
@@ -146,8 +146,8 @@ module _ (bytes more : List ℕ) (d : TableData) (ends : EndsBy (length bytes) d
 
   element-less : (formats : List FormatRow) (columns : ℕ) (e : KeptElement) → ElementEnds (length bytes) e → ElementKept (bytes ++ more) formats columns e
       → ElementKept bytes formats columns e
-  element-less formats columns (Row keys height entries) within kept =
-      record { serves = kept.serves; short = kept.short; kept = fields-less (row_at formats keys) 0 entries within kept.kept; low = kept.low }
+  element-less formats columns (Row keys rules height entries) within kept =
+      record { serves = kept.serves; in_front = kept.in_front; few = kept.few; short = kept.short; kept = fields-less (row_at formats keys) 0 entries within kept.kept; low = kept.low }
   element-less formats columns (Rule sign) within kept = tt
   element-less formats columns (Command from to) within kept = record { order = kept.order; within = within }
 
@@ -175,14 +175,14 @@ module _ (bytes more : List ℕ) (d : TableData) (ends : EndsBy (length bytes) d
     none = fits.none;
     columns = fits.columns;
     first = fits.first;
+    rules = fits.rules;
     notes = ends.notes;
   }
   behind-less InData fits = record {
     kept = rows-less fits.kept;
     block = fits.block;
     columns = fits.columns;
-    first = fits.first;
-    serves = fits.serves;
+    served = fits.served;
     whole = fits.whole;
     notes = ends.notes;
   }

@@ -3,12 +3,12 @@ use Rattle.std.proofs.Common.{◌≡◌, ℕ, suc, ◌+◌, ◌-◌, ◌≤◌, 
 use Rattle.std.proofs.lemmas.List.{length-take}
 use Rattle.roff_source.specs.Bytes.{newline}
 use Rattle.tbl_format.specs.Format.{Format, format_byte, format_read, if_letter, left_out_at, left_out_behind, letters_left_out}
-use Rattle.tbl_format.specs.Notes.{ignored_message, told_at}
-use Rattle.tbl_format.specs.Options.{ignored_options, options_end}
+use Rattle.tbl_options.specs.Notes.{ignored_message, told_at}
+use Rattle.tbl_options.specs.Options.{ignored_options, options_end}
 use Rattle.tbl_format.specs.declared.format.FormatPlace.{FormatPlace}
 use Rattle.tbl_format.specs.declared.format.FormatPlace.TheVariants.{AtEnd, AtFault, InRows}
-use Rattle.tbl_format.specs.declared.message.Message.TheVariants.{BadFormat, LeftOut}
-use Rattle.tbl_format.specs.declared.message.Told.{Told}
+use Rattle.tbl_options.specs.declared.message.Message.TheVariants.{BadFormat, LeftOut}
+use Rattle.tbl_options.specs.declared.message.Told.{Told}
 use Rattle.tbl_kept.specs.Joined.{Joined, behind_joined, ends_joined, goes_on}
 use Rattle.tbl_data.specs.DataRead.{closed_block, whole_line, with_pending}
 use Rattle.tbl_table.specs.MayTell.{fault_may_come, line_may_tell, may_tell}

@@ -1,43 +1,47 @@
 -- A whole line of the data has one message for each of its bytes at the most, where there is a column.
 use Rattle.std.proofs.Common.{◌≡◌, ℕ, suc, ◌+◌, ◌-◌, ◌≤◌, Bool, true, false, not, ◌&&◌, ◌||◌, List, [], ◌∷◌, ◌++◌, length, map, take, drop, Option, Some, None, refl, arith, length-append, length-drop, nat_lt, if◌then◌else◌}
-use Rattle.std.specs.Prelude.{take_while, is_none, is_some}
-use Rattle.tbl_data.specs.DataRead.{behind_block, field_notes, fields_with_block, item_notes, surplus_notes, whole_line, with_block_line, with_fields, with_line, with_whole}
+use Rattle.std.specs.Prelude.{is_some}
+use Rattle.tbl_data.specs.DataRead.{behind_block, field_notes, fields_with_block, item_notes, keyed, serving, surplus_notes, whole_line, with_block_line, with_fields, with_line, with_whole}
+use Rattle.tbl_data.proofs.FieldSteps.{content-of}
 use Rattle.tbl_data.specs.TableRead.{RowBegun, TableRead, columns, with_notes}
-use Rattle.tbl_format.specs.Notes.{told_at}
-use Rattle.tbl_format.specs.declared.message.Message.TheVariants.{RequestInTextBlock}
-use Rattle.tbl_format.specs.declared.message.Told.{Told}
+use Rattle.tbl_options.specs.Notes.{told_at}
+use Rattle.tbl_options.specs.declared.message.Message.TheVariants.{RequestInTextBlock}
+use Rattle.tbl_options.specs.declared.message.Told.{Told}
 use Rattle.tbl_kept.specs.Joined.{line_at}
 use Rattle.tbl_layout.specs.Data.{fields}
-use Rattle.tbl_layout.specs.DataLines.{block_line_kind, ends_in_block, is_laid_out, len_of_fields, line_kind, without_opening}
-use Rattle.tbl_layout.specs.Entries.{Content, content_read}
+use Rattle.tbl_layout.specs.DataLines.{block_line_kind, ends_in_block, len_of_fields, line_kind, without_opening}
+use Rattle.tbl_layout.specs.Entries.{Content}
 use Rattle.tbl_layout.specs.declared.data_lines.BlockLineKind.{BlockLineKind}
 use Rattle.tbl_layout.specs.declared.data_lines.BlockLineKind.TheVariants.{End, Request, Text}
 use Rattle.tbl_layout.specs.declared.data_lines.LineKind.{LineKind}
 use Rattle.tbl_layout.specs.declared.data_lines.LineKind.TheVariants.{Command, Formats, Row, Rule}
 use Rattle.tbl_text.specs.Items.{items}
-use Rattle.tbl_table.proofs.FewFields.{field_notes-most, fields_most, kept-few, len-fields, less, part-behind, part-opening, part-take, part-while, surplus-few, take-few, told-few}
+use Rattle.tbl_table.proofs.FewFields.{built_of, field_notes-most, fields_most, kept-few, len-fields, less, part-behind, part-opening, part-take, part-while, surplus-few, take-few, texts-len, texts_of, told-few}
 use Rattle.tbl_table.proofs.LastPlaces.{request-some, unlaid-within}
 
 fields-fewer : (ends : List (ℕ × ℕ)) (n place : ℕ) (all : List (List ℕ)) (in_front : List Content) (had : Bool) (t : TableRead) → 1 ≤ length all → 1 ≤ columns t - length in_front
     → 1 ≤ len_of_fields all → length (with_fields ends n place all in_front had t).notes + 1 ≤ length t.notes + len_of_fields all
 fields-fewer ends n place all in_front had t one some least =
-    let room = columns t - length in_front in
+    let format = serving t in
+    let column = length in_front in
+    let room = columns t - column in
     let texts = take room (without_opening all) in
-    let built = take_while is_laid_out texts in
+    let built = built_of format column texts in
     let has = nat_lt room (length all) in
     let told = field_notes ends n place built in
     let unbuilt = nat_lt (length built) (length texts) in
     let notes = field_notes-most ends n place built in
-    let laid = part-while texts in
+    let laid = part-while format column texts in
+    let count = texts-len built in
     let kept = part-behind texts (without_opening all) all (part-take room (without_opening all)) (part-opening all) in
-    let part = part-behind built texts all laid kept in
+    let part = part-behind (texts_of built) texts all laid kept in
     let few = length-append t.notes told in
     let room_few : length texts ≤ room = take-few room (without_opening all) in
     let most = length t.notes + (len_of_fields all - 1) in
-    let within = told-few unbuilt (ends_in_block all) (line_at ends (place + len_of_fields built) n)
-    (record { fields = in_front ++ map content_read texts; block = if has || had then None else Some [] })
+    let within = told-few unbuilt (ends_in_block all) (line_at ends (place + len_of_fields (take (length built) texts)) n)
+    (has || had) (in_front ++ map content-of (keyed format column texts))
     (surplus_notes (has && not had) (line_at ends (place + len_of_fields texts - 1) n)) (with_notes told t) most
-    (λ is. omega (arith, few, notes, unlaid-within texts (less (length built) (length texts) is), kept.shorter, kept.fewer))
+    (λ is. omega (arith, few, notes, count, unlaid-within format column texts (less (length built) (length texts) is), kept.shorter, kept.fewer))
     (surplus-few has had (line_at ends (place + len_of_fields texts - 1) n) most (length (t.notes ++ told))
     (λ is. omega (arith, few, notes, part.shorter, laid.fewer, room_few, less room (length all) is, some))
     (omega (arith, few, notes, part.shorter, part.fewer, one))) in
@@ -62,7 +66,7 @@ behind-fewer : (ends : List (ℕ × ℕ)) (n : ℕ) (line : List ℕ) (all : Lis
 behind-fewer ends n line [] row t is = omega arith
 behind-fewer ends n line (first ∷ []) row t is = omega arith
 behind-fewer ends n line (first ∷ field ∷ more) row t is =
-    omega (arith, fields_most ends n (length first + 3) (field ∷ more) (fields_with_block row) (is_none row.block) t, is, length-drop 2 line)
+    omega (arith, fields_most ends n (length first + 3) (field ∷ more) (fields_with_block row) row.had_surplus t, is, length-drop 2 line)
 
 block-fewer : (kind : BlockLineKind) (ends : List (ℕ × ℕ)) (n : ℕ) (line : List ℕ) (row : RowBegun) (t : TableRead) → block_line_kind line ≡ kind
     → length (with_block_line kind ends n line row t).notes ≤ length t.notes + length line

@@ -13,14 +13,14 @@ use Rattle.tbl_data.specs.declared.table_data.TableData.{TableData}
 use Rattle.tbl_format.specs.Format.{Format}
 use Rattle.tbl_format.specs.FormatRows.{key_count}
 use Rattle.tbl_format.specs.KeyCounts.{StandsOnLine}
-use Rattle.tbl_format.specs.Notes.{NotesWithin, told_of_all}
+use Rattle.tbl_options.specs.Notes.{NotesWithin, told_of_all}
 use Rattle.tbl_format.specs.RowsServed.{all_rows}
 use Rattle.tbl_format.specs.declared.format.FormatPlace.{FormatPlace}
 use Rattle.tbl_format.specs.declared.format.FormatPlace.TheVariants.{AtEnd, AtFault, InRows}
 use Rattle.tbl_format.specs.declared.limits.TblLimits.{TblLimits}
-use Rattle.tbl_format.specs.declared.message.Told.{Told}
-use Rattle.tbl_format.specs.declared.notes.Cause.TheVariants.{BadFormat}
-use Rattle.tbl_format.specs.declared.options.Options.{Options}
+use Rattle.tbl_options.specs.declared.message.Told.{Told}
+use Rattle.tbl_options.specs.declared.notes.Cause.TheVariants.{BadFormat}
+use Rattle.tbl_options.specs.declared.options.Options.{Options}
 use Rattle.tbl_kept.specs.Joined.{Joined, behind_joined}
 use Rattle.tbl_kept.specs.Rows.{elements_of, entries_of}
 use Rattle.tbl_kept.specs.TableNotes.{KeptNotes}
@@ -225,7 +225,7 @@ module _ (l : TblLimits) (phase : Phase) (begun : Begun) (text : KeptText) (d : 
     module _ (options before : Options) (said : List Told) (says : told_of_all (text_ended text).settled notes.notes ≡ said) where
       abbrev pub front_read : TableRead
       front_read =
-          made phase options g (d.keys - length d.format.format.earlier) text.pending (begun_by d.open (map (content_of text.settled) d.rows.row))
+          made phase options g (d.keys - d.rules - length d.format.format.earlier) text.pending (begun_by d.open (map (content_of text.settled) d.rows.row))
           (elements_of text.settled (all_rows d.format.format) d.rows.elements) said
 
       pub keys-read : (place : FormatPlace)

@@ -1,6 +1,6 @@
 -- What is kept of the data fits behind keys of the format, and gives the table behind them.
-use Rattle.std.proofs.Common.{◌≡◌, ℕ, ◌-◌, ◌≤◌, List, ◌++◌, length, map, Option, None, refl, sym, ap, subst, ◌∙◌, arith, append_assoc, length-append}
-use Rattle.std.proofs.lemmas.List.{length-replicate}
+use Rattle.std.proofs.Common.{◌≡◌, ℕ, ◌+◌, ◌-◌, ◌<◌, ◌≤◌, List, ◌++◌, length, map, drop, Option, None, refl, sym, ap, subst, ◌∙◌, arith, append_assoc, length-append}
+use Rattle.std.proofs.lemmas.List.{length-drop, length-replicate}
 use Rattle.std.specs.Prelude.{replicate}
 use Rattle.tbl_data.specs.TableData.{BadFits, DataFits, FitsBehind, FormatFits, OpenFits, begun_by, table_by}
 use Rattle.tbl_data.specs.TableRead.{RowBegun, TableRead}
@@ -10,18 +10,20 @@ use Rattle.tbl_data.specs.declared.table_data.OpenBlock.{OpenBlock}
 use Rattle.tbl_data.specs.declared.table_data.TableData.{TableData}
 use Rattle.tbl_format.specs.Format.{Format, FormatRow}
 use Rattle.tbl_format.specs.FormatRows.{keeping}
-use Rattle.tbl_format.specs.Notes.{NotesWithin, told_of_all}
+use Rattle.tbl_options.specs.Notes.{NotesWithin, told_of_all}
 use Rattle.tbl_format.specs.RowsServed.{all_rows}
 use Rattle.tbl_format.specs.declared.format.FormatPlace.{FormatPlace}
 use Rattle.tbl_format.specs.declared.format.FormatPlace.TheVariants.{AtEnd, AtFault, InRows}
-use Rattle.tbl_format.specs.declared.message.Told.{Told}
-use Rattle.tbl_format.specs.declared.notes.Cause.TheVariants.{BadFormat}
-use Rattle.tbl_format.specs.declared.options.Options.{Options}
+use Rattle.tbl_options.specs.declared.message.Told.{Told}
+use Rattle.tbl_options.specs.declared.notes.Cause.TheVariants.{BadFormat}
+use Rattle.tbl_options.specs.declared.options.Options.{Options}
 use Rattle.tbl_kept.specs.Joined.{Joined}
 use Rattle.tbl_kept.specs.Rows.{KeptRows, RowsKept, elements_of, no_column, with_columns}
 use Rattle.tbl_kept.specs.TableNotes.{KeptNotes}
 use Rattle.tbl_layout.specs.Entries.{Element}
 use Rattle.tbl_layout.specs.KeptEntries.{content_of}
+use Rattle.tbl_layout.specs.RuleKeys.{rule_rows}
+use Rattle.tbl_data.proofs.RuleRows.{rule_rows-fewer}
 use Rattle.tbl_kept.proofs.RowsKeeping.{RowBegunKept-first, RowsKept-columns, RowsKept-formats, elements_of-formats}
 use Rattle.tbl_table.specs.Kept.{EndFits, IsWhole}
 use Rattle.tbl_table.specs.Steps.{data_behind, phase_behind}
@@ -72,19 +74,29 @@ module _ (bytes : List ℕ) (d : TableData) (g : Format) (notes : KeptNotes) (fi
     none = fits.none;
     columns = omega (arith, fits.columns, wider);
     first = first-on;
+    rules = fits.rules;
     notes = within;
   }
 
   pub Fits-end : (line : ℕ) → IsWhole g → DataFits bytes (data_behind AtEnd line (read_on g notes d))
   Fits-end line whole =
       let rows : KeptRows = with_columns (length g.asked) d.rows in
+      let left = drop (length g.earlier) (all_rows g) in
+      let rules = rule_rows left in
+      let some : length left ≡ length (all_rows g) - length g.earlier = length-drop (length g.earlier) (all_rows g) in
+      let count : length (all_rows g) ≡ length g.earlier + length g.rows = length-append g.earlier g.rows in
+      let fewer : rules < length left = rule_rows-fewer left (omega (arith, some, count, whole.some)) in
+      let back : length g.earlier + rules - rules ≡ length g.earlier = omega arith in
       let kept : RowsKept bytes (all_rows g) rows = RowsKept-columns bytes (all_rows g) d.rows (length g.asked) formats-kept in
       record {
-        kept = RowBegunKept-first bytes (all_rows g) rows (length g.earlier) fits.none kept;
+        kept = RowBegunKept-first bytes (all_rows g) rows (length g.earlier + rules) fits.none kept;
         block = subst (λ (o : OpenBlock). OpenFits o d.rows.row) (sym fits.closed) fits.none;
         columns = count-columns;
-        first = omega arith;
-        serves = omega (arith, whole.some, length-append g.earlier g.rows);
+        served = record {
+          first = omega arith;
+          serves = omega (arith, fewer, some, count, whole.some);
+          skipped = ap (λ (n : ℕ). rule_rows (drop n (all_rows g))) back;
+        };
         whole = whole.none;
         notes = within;
       }
@@ -129,14 +141,14 @@ module _ (bytes : List ℕ) (d : TableData) (g : Format) (notes : KeptNotes) (fi
   -- before them, with this format and these messages
   abbrev pub front_made : TableRead
   front_made =
-      made phase options g (d.keys - length d.format.format.earlier) pending (begun_by d.open (map (content_of bytes) d.rows.row))
+      made phase options g (d.keys - d.rules - length d.format.format.earlier) pending (begun_by d.open (map (content_of bytes) d.rows.row))
       (elements_of bytes (all_rows d.format.format) d.rows.elements) said
 
   body-is : elements_of bytes (all_rows g) d.rows.elements ≡ elements_of bytes (all_rows d.format.format) d.rows.elements
   body-is = body-on bytes d g notes fits is wider within
 
-  next-same : d.keys - length g.earlier ≡ d.keys - length d.format.format.earlier
-  next-same = ap (λ (rows : List FormatRow). d.keys - length rows) is.earlier
+  next-same : d.keys - d.rules - length g.earlier ≡ d.keys - d.rules - length d.format.format.earlier
+  next-same = ap (λ (rows : List FormatRow). d.keys - d.rules - length rows) is.earlier
 
   pub table-behind : (place : FormatPlace) (line : ℕ)
       → table_by (phase_behind place) options bytes (data_behind place line (read_on g notes d)) ≡ behind_format place line front_made

@@ -1,6 +1,6 @@
 -- Of a text no more options are ignored than it has bytes.
 use Rattle.std.proofs.Common.{ℕ, suc, ◌+◌, ◌≤◌, Bool, true, false, not, ◌&&◌, List, [], ◌∷◌, ◌++◌, length, arith, length-append, if◌then◌else◌}
-use Rattle.tbl_format.specs.Options.{Said, bracketed, if_word, ignored_of, ignored_options, is_unknown, option_of, option_of_two, option_words, options_of, separates_options, words_behind}
+use Rattle.tbl_options.specs.Options.{Said, bracketed, if_word, ignored_of, ignored_options, is_unknown, option_of, option_of_two, option_words, options_of, separates_options, words_behind}
 
 -- words that are options
 word-few : (word : List ℕ) → length (if_word word) ≤ length word

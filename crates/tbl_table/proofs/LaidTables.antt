@@ -12,7 +12,7 @@ use Rattle.roff_escape.specs.EscapeTexts.{KeptEscapes}
 use Rattle.tbl_format.specs.RowsServed.{all_rows}
 use Rattle.tbl_format.specs.declared.format.Asked.{Asked}
 use Rattle.tbl_format.specs.declared.limits.TblLimits.{TblLimits}
-use Rattle.tbl_format.specs.declared.options.Options.{Options}
+use Rattle.tbl_options.specs.declared.options.Options.{Options}
 use Rattle.tbl_kept.specs.Joined.{Joined, behind_joined}
 use Rattle.tbl_kept.specs.Rows.{KeptRows, RowsLaid, SameRoom}
 use Rattle.tbl_kept.specs.TableText.{KeptText, block_of}
@@ -23,8 +23,8 @@ use Rattle.tbl_layout.specs.Widths.{left_edge, separation, table_bars}
 use Rattle.tbl_layout.specs.declared.bars.Bars.{Bars}
 use Rattle.tbl_layout.specs.declared.columns.Column.{Column}
 use Rattle.tbl_layout.proofs.Shares.{share-grows, share-most}
-use Rattle.tbl_picture.specs.RowsWalked.{AreNarrow}
-use Rattle.tbl_picture.specs.PictureLines.{Sheet, picture_lines}
+use Rattle.tbl_lines.specs.RowsWalked.{AreNarrow}
+use Rattle.tbl_lines.specs.PictureLines.{Sheet, picture_lines}
 use Rattle.tbl_table.specs.Kept.{PartsFit, row_open, table_of}
 use Rattle.tbl_table.specs.Laying.{IsLaid, body_of, columns_by, lacking_by}
 use Rattle.tbl_table.specs.MayTell.{line_may_tell}
@@ -110,7 +110,7 @@ placed-narrow bars most more asked columns short few =
 pub none-open-by : (pending : Option Joined) (block : OpenBlock) → pending ≡ None → block ≡ NoBlock → row_open pending block ≡ 0
 none-open-by None NoBlock none closed = refl
 none-open-by None Kept none closed = absurd (cc)
-none-open-by None Dropped none closed = absurd (cc)
+none-open-by None (Dropped had_surplus) none closed = absurd (cc)
 none-open-by (Some j) block none closed = absurd (cc)
 
 module _ (l : TblLimits) (phase : Phase) (begun : Begun) (text : KeptText) (d : TableData) (fits : PartsFit l phase begun text d) (is : phase ≡ InData) (none : text.pending ≡ None) (closed : d.open ≡ NoBlock) where

@@ -9,15 +9,15 @@ use Rattle.tbl_data.specs.declared.phase.Phase.{Phase}
 use Rattle.tbl_data.specs.declared.phase.Phase.TheVariants.{Bad, InFormat}
 use Rattle.tbl_data.specs.declared.table_data.TableData.{TableData}
 use Rattle.tbl_format.specs.Format.{Format, format_read, letters_left_out, no_format}
-use Rattle.tbl_format.specs.Notes.{NotesWithin, told_of_all}
-use Rattle.tbl_format.specs.Options.{options_end}
+use Rattle.tbl_options.specs.Notes.{NotesWithin, told_of_all}
+use Rattle.tbl_options.specs.Options.{options_end}
 use Rattle.tbl_format.specs.RowsServed.{all_rows}
 use Rattle.tbl_format.specs.declared.format.FormatPlace.{FormatPlace}
 use Rattle.tbl_format.specs.declared.format.FormatPlace.TheVariants.{AtEnd, AtFault, InRows}
 use Rattle.tbl_format.specs.declared.limits.TblLimits.{TblLimits}
-use Rattle.tbl_format.specs.declared.message.Told.{Told}
-use Rattle.tbl_format.specs.declared.notes.Cause.TheVariants.{BadFormat}
-use Rattle.tbl_format.specs.declared.notes.KeptNote.{KeptNote}
+use Rattle.tbl_options.specs.declared.message.Told.{Told}
+use Rattle.tbl_options.specs.declared.notes.Cause.TheVariants.{BadFormat}
+use Rattle.tbl_options.specs.declared.notes.KeptNote.{KeptNote}
 use Rattle.tbl_format.proofs.LeftOut.{letters-newline}
 use Rattle.tbl_kept.specs.Joined.{Joined, behind_joined}
 use Rattle.tbl_kept.specs.Rows.{entries_of}
@@ -106,7 +106,7 @@ module _ (l : TblLimits) (phase : Phase) (begun : Begun) (text : KeptText) (d : 
 
     format-fits : FormatFits (block_of text) (record d { notes = kept })
     format-fits =
-        record { kept = grown.kept; closed = grown.closed; none = grown.none; columns = grown.columns; first = grown.first; notes = within }
+        record { kept = grown.kept; closed = grown.closed; none = grown.none; columns = grown.columns; first = grown.first; rules = grown.rules; notes = within }
 
     whole-format : PartsFit l InFormat (begun_in InFormat d.format.format []) (text_whole text) (record d { notes = kept })
     whole-format = noted-fits InFormat kept refl same (omega (arith, few)) to_tell (record { alone = refl; fits = format-fits })

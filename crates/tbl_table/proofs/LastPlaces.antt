@@ -1,17 +1,22 @@
 -- The messages of a joined line name the same lines, whether the end of its last one is known or its number alone.
 use Rattle.std.proofs.Common.{◌≡◌, ℕ, zero, suc, ◌+◌, ◌-◌, ◌≤◌, ◌<◌, Bool, true, false, not, ◌&&◌, ◌||◌, List, [], ◌∷◌, ◌++◌, length, map, take, drop, Option, Some, None, refl, sym, ap, subst, ◌∙◌, cond, arith, length-drop, nat_lt, if◌then◌else◌}
-use Rattle.std.specs.Prelude.{take_while, is_none, is_some, option_map, option_to_list}
+use Rattle.std.specs.Prelude.{is_some, option_map, option_to_list}
 use Rattle.std.proofs.lemmas.Bool.Decides.{nat_tests}
 use Rattle.std.proofs.lemmas.List.Sums.{take_while-cons}
-use Rattle.tbl_data.specs.DataRead.{behind_block, field_notes, fields_with_block, item_notes, notes_by_kind, notes_of_field, surplus_notes, whole_line, with_block_line, with_fields, with_line, with_open_row, with_text, with_whole}
+use Rattle.tbl_data.specs.DataRead.{behind_block, field_notes, fields_with_block, item_notes, keyed, notes_by_kind, notes_of_field, serving, surplus_notes, whole_line, with_block_line, with_fields, with_line, with_open_row, with_text, with_whole}
+use Rattle.tbl_data.proofs.FieldSteps.{content-of, is-laid}
+use Rattle.tbl_format.specs.Format.{FormatRow}
+use Rattle.tbl_format.specs.declared.format.Key.{Key}
 use Rattle.tbl_data.specs.TableRead.{RowBegun, TableRead, bad, columns, with_note, with_notes}
-use Rattle.tbl_format.specs.Notes.{told_at}
-use Rattle.tbl_format.specs.declared.message.Message.TheVariants.{NotMeasured, RequestInTextBlock}
-use Rattle.tbl_format.specs.declared.message.Told.{Told}
+use Rattle.tbl_options.specs.Notes.{told_at}
+use Rattle.tbl_options.specs.declared.message.Message.TheVariants.{NotMeasured, RequestInTextBlock}
+use Rattle.tbl_options.specs.declared.message.Told.{Told}
 use Rattle.tbl_kept.specs.Joined.{line_at}
 use Rattle.tbl_layout.specs.Data.{fields}
-use Rattle.tbl_layout.specs.DataLines.{block_line_kind, ends_in_block, field_kind, is_laid_out, len_of_fields, line_kind, without_opening}
-use Rattle.tbl_layout.specs.Entries.{Content, content_read}
+use Rattle.tbl_layout.specs.DataLines.{block_line_kind, ends_in_block, is_laid_out, kind_if, kind_under, len_of_fields, line_kind, without_opening}
+use Rattle.tbl_layout.specs.Entries.{Content, key_at}
+use Rattle.tbl_layout.specs.RuleKeys.{rule_sign}
+use Rattle.tbl_layout.specs.declared.data_lines.RuleSign.{RuleSign}
 use Rattle.tbl_layout.specs.declared.data_lines.BlockLineKind.{BlockLineKind}
 use Rattle.tbl_layout.specs.declared.data_lines.BlockLineKind.TheVariants.{End, Request, Text}
 use Rattle.tbl_layout.specs.declared.data_lines.FieldKind.{FieldKind}
@@ -19,7 +24,7 @@ use Rattle.tbl_layout.specs.declared.data_lines.FieldKind.TheVariants.{Above, Re
 use Rattle.tbl_layout.specs.declared.data_lines.LineKind.{LineKind}
 use Rattle.tbl_layout.specs.declared.data_lines.LineKind.TheVariants.{Command, Formats, Row, Rule}
 use Rattle.tbl_text.specs.Items.{first_item, first_items, items, note}
-use Rattle.tbl_table.proofs.FewFields.{len-fields, part-behind, part-opening, part-take, part-while, take-few, less}
+use Rattle.tbl_table.proofs.FewFields.{built-front, built_of, len-fields, part-behind, part-opening, part-take, part-while, take-few, texts_of, less}
 
 -- a place in front of the last line's end isn't one of a further line
 pub line_at-last : (ends : List (ℕ × ℕ)) (len place n : ℕ) → place < len → line_at (ends ++ (len, n) ∷ []) place 0 ≡ line_at ends place n
@@ -30,25 +35,32 @@ line_at-last (end ∷ ends) len place n before =
     ap (λ (line : ℕ). if nat_lt place end.0 then end.1 else line) (line_at-last ends len place n before)
 
 -- a field that isn't laid out has a byte
-unlaid-some : (field : List ℕ) → is_laid_out field ≡ false → 1 ≤ length field
-unlaid-some [] is = absurd (cc)
-unlaid-some (b ∷ field) is = omega arith
+unlaid-sign : (sign : Option RuleSign) (field : List ℕ) → is_laid_out (kind_if sign field) ≡ false → 1 ≤ length field
+unlaid-sign (Some sign) field is = absurd (cc)
+unlaid-sign None [] is = absurd (cc)
+unlaid-sign None (b ∷ field) is = omega arith
 
-unlaid-by : (laid : Bool) (field : List ℕ) (rest texts : List (List ℕ)) → is_laid_out field ≡ laid
-    → (length rest < length texts → len_of_fields rest + 2 ≤ len_of_fields texts)
-    → length (cond laid (field ∷ rest) []) < length (field ∷ texts) → len_of_fields (cond laid (field ∷ rest) []) + 2 ≤ len_of_fields (field ∷ texts)
-unlaid-by true field rest texts is further fewer = omega (arith, further (omega (arith, fewer)))
-unlaid-by false field rest texts is further fewer = omega (arith, unlaid-some field is)
+unlaid-some : (field : Key × List ℕ) → is-laid field ≡ false → 1 ≤ length field.1
+unlaid-some field is = unlaid-sign (rule_sign field.0) field.1 is
+
+unlaid-by : (laid : Bool) (key : Key) (field : List ℕ) (rest : List (Key × List ℕ)) (texts : List (List ℕ)) → is-laid (key, field) ≡ laid
+    → (length rest < length texts → len_of_fields (texts_of rest) + 2 ≤ len_of_fields texts)
+    → length (cond laid ((key, field) ∷ rest) []) < length (field ∷ texts)
+    → len_of_fields (texts_of (cond laid ((key, field) ∷ rest) [])) + 2 ≤ len_of_fields (field ∷ texts)
+unlaid-by true key field rest texts is further fewer = omega (arith, further (omega (arith, fewer)))
+unlaid-by false key field rest texts is further fewer = omega (arith, unlaid-some (key, field) is)
 
 -- in front of the first that isn't there are two bytes less at least
-pub unlaid-within : (texts : List (List ℕ)) → length (take_while is_laid_out texts) < length texts → len_of_fields (take_while is_laid_out texts) + 2 ≤ len_of_fields texts
-unlaid-within [] fewer = absurd (omega (arith, fewer))
-unlaid-within (field ∷ texts) fewer =
-    let rest = take_while is_laid_out texts in
-    let front = take_while-cons is_laid_out field texts in
-    subst (λ (some : List (List ℕ)). len_of_fields some + 2 ≤ len_of_fields (field ∷ texts)) (sym front)
-    (unlaid-by (is_laid_out field) field rest texts refl (unlaid-within texts)
-    (subst (λ (some : List (List ℕ)). length some < length (field ∷ texts)) front fewer))
+pub unlaid-within : (format : FormatRow) (column : ℕ) (texts : List (List ℕ)) → length (built_of format column texts) < length texts
+    → len_of_fields (texts_of (built_of format column texts)) + 2 ≤ len_of_fields texts
+unlaid-within format column [] fewer = absurd (omega (arith, fewer))
+unlaid-within format column (field ∷ texts) fewer =
+    let key = key_at format column in
+    let rest = built_of format (suc column) texts in
+    let front = take_while-cons is-laid (key, field) (keyed format (suc column) texts) in
+    subst (λ (some : List (Key × List ℕ)). len_of_fields (texts_of some) + 2 ≤ len_of_fields (field ∷ texts)) (sym front)
+    (unlaid-by (is-laid (key, field)) key field rest texts refl (unlaid-within format (suc column) texts)
+    (subst (λ (some : List (Key × List ℕ)). length some < length (field ∷ texts)) front fewer))
 
 -- where there is a surplus, some text stands in front of it
 kept-some : (room : ℕ) (all : List (List ℕ)) → room < length all → 1 ≤ room → 1 ≤ len_of_fields (take room (without_opening all))
@@ -62,13 +74,13 @@ front-some place zero all fewer some = omega (arith, some)
 front-some place (suc room) all fewer some = omega (arith, kept-some (suc room) all fewer (omega arith))
 
 -- a row, by its faults and its surplus
-outcome-same : (unbuilt first opens : Bool) (a b s u : ℕ) (row : RowBegun) (t : TableRead) → (unbuilt ≡ true → a ≡ b) → (first ≡ true → s ≡ u)
-    → (if unbuilt then bad a t else with_open_row opens row (with_notes (surplus_notes first s) t))
-    ≡ (if unbuilt then bad b t else with_open_row opens row (with_notes (surplus_notes first u) t))
-outcome-same true first opens a b s u row t fault surplus = ap (λ (k : ℕ). bad k t) (fault refl)
-outcome-same false true opens a b s u row t fault surplus =
-    ap (λ (k : ℕ). with_open_row opens row (with_notes (surplus_notes true k) t)) (surplus refl)
-outcome-same false false opens a b s u row t fault surplus = refl
+outcome-same : (unbuilt first opens : Bool) (a b s u : ℕ) (dropped : Bool) (contents : List Content) (t : TableRead) → (unbuilt ≡ true → a ≡ b) → (first ≡ true → s ≡ u)
+    → (if unbuilt then bad a t else with_open_row opens dropped contents (with_notes (surplus_notes first s) t))
+    ≡ (if unbuilt then bad b t else with_open_row opens dropped contents (with_notes (surplus_notes first u) t))
+outcome-same true first opens a b s u dropped contents t fault surplus = ap (λ (k : ℕ). bad k t) (fault refl)
+outcome-same false true opens a b s u dropped contents t fault surplus =
+    ap (λ (k : ℕ). with_open_row opens dropped contents (with_notes (surplus_notes true k) t)) (surplus refl)
+outcome-same false false opens a b s u dropped contents t fault surplus = refl
 
 one-of : (has had : Bool) → (has && not had) ≡ true → has ≡ true
 one-of true had is = refl
@@ -103,30 +115,34 @@ module _ (others : List (ℕ × ℕ)) (m : ℕ) (ends : List (ℕ × ℕ)) (n le
   kind-same (Repeated b) place field within = refl
   kind-same Above place field within = refl
 
-  notes-same : (place : ℕ) (fs : List (List ℕ)) → place + len_of_fields fs ≤ len + 1 → field_notes others m place fs ≡ field_notes ends n place fs
+  notes-same : (place : ℕ) (fs : List (Key × List ℕ)) → place + len_of_fields (texts_of fs) ≤ len + 1 → field_notes others m place fs ≡ field_notes ends n place fs
   notes-same place [] within = refl
   notes-same place (field ∷ fs) within =
-      ap (λ (ts : List Told). ts ++ field_notes others m (place + length field + 1) fs)
-      (kind-same (field_kind field) place field (λ some. omega (arith, within)))
-      ∙ ap (λ (ts : List Told). notes_of_field ends n place field ++ ts) (notes-same (place + length field + 1) fs (omega (arith, within)))
+      ap (λ (ts : List Told). ts ++ field_notes others m (place + length field.1 + 1) fs)
+      (kind-same (kind_under field.0 field.1) place field.1 (λ some. omega (arith, within)))
+      ∙ ap (λ (ts : List Told). notes_of_field field.0 ends n place field.1 ++ ts) (notes-same (place + length field.1 + 1) fs (omega (arith, within)))
 
   fields-same : (place : ℕ) (all : List (List ℕ)) (in_front : List Content) (had : Bool) (t : TableRead) → place + len_of_fields all ≤ len + 1
       → 1 ≤ place + (columns t - length in_front) → with_fields others m place all in_front had t ≡ with_fields ends n place all in_front had t
   fields-same place all in_front had t within some =
-      let room = columns t - length in_front in
+      let format = serving t in
+      let column = length in_front in
+      let room = columns t - column in
       let texts = take room (without_opening all) in
-      let built = take_while is_laid_out texts in
+      let built = built_of format column texts in
       let has = nat_lt room (length all) in
       let unbuilt = nat_lt (length built) (length texts) in
-      let row : RowBegun = record { fields = in_front ++ map content_read texts; block = if has || had then None else Some [] } in
-      let laid = part-while texts in
+      let contents = in_front ++ map content-of (keyed format column texts) in
+      let laid = part-while format column texts in
       let kept = part-behind texts (without_opening all) all (part-take room (without_opening all)) (part-opening all) in
       let few : length texts ≤ room = take-few room (without_opening all) in
-      let behind = λ (ts : List Told). if unbuilt then bad (line_at others (place + len_of_fields built) m) (with_notes ts t) else with_open_row (ends_in_block all) row (with_notes (surplus_notes (has && not had) (line_at others (place + len_of_fields texts - 1) m)) (with_notes ts t)) in
+      let fault = place + len_of_fields (take (length built) texts) in
+      let front : len_of_fields (texts_of built) ≡ len_of_fields (take (length built) texts) = ap len_of_fields (built-front format column texts) in
+      let behind = λ (ts : List Told). if unbuilt then bad (line_at others fault m) (with_notes ts t) else with_open_row (ends_in_block all) (has || had) contents (with_notes (surplus_notes (has && not had) (line_at others (place + len_of_fields texts - 1) m)) (with_notes ts t)) in
       ap behind (notes-same place built (omega (arith, within, laid.shorter, laid.fewer, kept.shorter, kept.fewer)))
-      ∙ outcome-same unbuilt (has && not had) (ends_in_block all) (line_at others (place + len_of_fields built) m) (line_at ends (place + len_of_fields built) n)
-      (line_at others (place + len_of_fields texts - 1) m) (line_at ends (place + len_of_fields texts - 1) n) row (with_notes (field_notes ends n place built) t)
-      (λ is. same (place + len_of_fields built) (omega (arith, within, kept.shorter, kept.fewer, unlaid-within texts (less (length built) (length texts) is))))
+      ∙ outcome-same unbuilt (has && not had) (ends_in_block all) (line_at others fault m) (line_at ends fault n)
+      (line_at others (place + len_of_fields texts - 1) m) (line_at ends (place + len_of_fields texts - 1) n) (has || had) contents (with_notes (field_notes ends n place built) t)
+      (λ is. same fault (omega (arith, within, front, kept.shorter, kept.fewer, unlaid-within format column texts (less (length built) (length texts) is))))
       (λ is.
       let fewer = less room (length all) (one-of has had is) in
       same (place + len_of_fields texts - 1) (omega (arith, within, kept.shorter, few, fewer, front-some place room all fewer some)))
@@ -144,7 +160,7 @@ module _ (others : List (ℕ × ℕ)) (m : ℕ) (ends : List (ℕ × ℕ)) (n le
   behind-same line [] row t whole is = refl
   behind-same line (first ∷ []) row t whole is = refl
   behind-same line (first ∷ field ∷ more) row t whole is =
-      fields-same (length first + 3) (field ∷ more) (fields_with_block row) (is_none row.block) t (omega (arith, whole, is, length-drop 2 line)) (omega arith)
+      fields-same (length first + 3) (field ∷ more) (fields_with_block row) row.had_surplus t (omega (arith, whole, is, length-drop 2 line)) (omega arith)
 
   block-same : (kind : BlockLineKind) (line : List ℕ) (row : RowBegun) (t : TableRead) → block_line_kind line ≡ kind → length line ≡ len
       → with_block_line kind others m line row t ≡ with_block_line kind ends n line row t

@@ -11,12 +11,12 @@ use Rattle.tbl_data.specs.TableRead.{RowBegun, TableRead}
 use Rattle.tbl_data.specs.declared.phase.Phase.{Phase}
 use Rattle.tbl_data.specs.declared.phase.Phase.TheVariants.{AtHead, Bad, InData, InFormat}
 use Rattle.tbl_data.specs.declared.table_data.TableData.{TableData}
-use Rattle.tbl_format.specs.Notes.{NotesWithin, told_of, told_of_all}
+use Rattle.tbl_options.specs.Notes.{NotesWithin, told_of, told_of_all}
 use Rattle.tbl_format.specs.RowsServed.{all_rows}
 use Rattle.tbl_format.specs.declared.limits.TblLimits.{TblLimits}
-use Rattle.tbl_format.specs.declared.message.Told.{Told}
-use Rattle.tbl_format.specs.declared.notes.KeptNote.{KeptNote}
-use Rattle.tbl_format.specs.declared.options.Options.{Options}
+use Rattle.tbl_options.specs.declared.message.Told.{Told}
+use Rattle.tbl_options.specs.declared.notes.KeptNote.{KeptNote}
+use Rattle.tbl_options.specs.declared.options.Options.{Options}
 use Rattle.tbl_kept.specs.Joined.{Joined, behind_joined, ends_joined, goes_on}
 use Rattle.tbl_kept.specs.Rows.{RowBegunKept, RowsKept, cleared, no_column, with_columns}
 use Rattle.tbl_kept.specs.TableText.{KeptText, block_of, text_whole}
@@ -74,15 +74,14 @@ module _ (bytes : List ℕ) (d : TableData) where
   dropped-fits AtHead fits = absurd fits
   dropped-fits InFormat fits = record {
     alone = refl;
-    fits = record { kept = none-kept; closed = refl; none = refl; columns = omega (arith, none-columns); first = fits.first; notes = fits.notes };
+    fits = record { kept = none-kept; closed = refl; none = refl; columns = omega (arith, none-columns); first = fits.first; rules = fits.rules; notes = fits.notes };
   }
   dropped-fits InData fits = record {
     fits = record {
       kept = none-kept;
       block = refl;
       columns = none-columns;
-      first = fits.first;
-      serves = fits.serves;
+      served = fits.served;
       whole = fits.whole;
       notes = fits.notes;
     };
@@ -94,7 +93,7 @@ module _ (l : TblLimits) (phase : Phase) (begun : Begun) (text : KeptText) (d : 
   -- there is a column
   has-column : 1 ≤ length d.format.format.asked
   has-column =
-      let serves = (data-reads l phase begun text d fits is).fits.serves in
+      let serves = (data-reads l phase begun text d fits is).fits.served.serves in
       let wide = fits.keys.rows.wide (omega (arith, serves, length-append d.format.format.earlier d.format.format.rows)) in
       omega (arith, wide)
 

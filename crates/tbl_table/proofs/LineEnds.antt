@@ -14,11 +14,11 @@ use Rattle.tbl_data.specs.declared.table_data.OpenBlock.{OpenBlock}
 use Rattle.tbl_data.specs.declared.table_data.OpenBlock.TheVariants.{Dropped, Kept, Nothing as NoBlock}
 use Rattle.tbl_data.specs.declared.table_data.TableData.{TableData}
 use Rattle.tbl_format.specs.Format.{Format, further}
-use Rattle.tbl_format.specs.Notes.{NotesWithin, told_of_all}
+use Rattle.tbl_options.specs.Notes.{NotesWithin, told_of_all}
 use Rattle.tbl_format.specs.RowsServed.{all_rows, row_at}
 use Rattle.tbl_format.specs.declared.limits.TblLimits.{TblLimits}
-use Rattle.tbl_format.specs.declared.notes.KeptNote.{KeptNote}
-use Rattle.tbl_format.specs.declared.options.Options.{Options}
+use Rattle.tbl_options.specs.declared.notes.KeptNote.{KeptNote}
+use Rattle.tbl_options.specs.declared.options.Options.{Options}
 use Rattle.tbl_format.proofs.FormatReading.{keys_of-append}
 use Rattle.tbl_kept.specs.Joined.{Joined, behind_joined, ends_joined}
 use Rattle.tbl_kept.specs.Rows.{element_of, entries_of}
@@ -64,7 +64,7 @@ slice-last settled line more =
 pub behind-grows : (bytes more : List ℕ) (from : ℕ) (block : OpenBlock) (row : List Entry) → from ≤ length bytes → OpenBehind bytes from block row
     → OpenBehind (bytes ++ more) from block row
 behind-grows bytes more from NoBlock row within behind = tt
-behind-grows bytes more from Dropped row within behind = tt
+behind-grows bytes more from (Dropped had_surplus) row within behind = tt
 behind-grows bytes more from Kept row within behind = record {
   some = behind.some;
   newline = get_or-append bytes more 0 (from - 1) (omega (arith, within, behind.some)) ∙ behind.newline;
@@ -78,7 +78,7 @@ last-moved a b row is ends = subst (λ (n : ℕ). LastEndsAt n row) is ends
 pub behind-ends : (front : List ℕ) (to : ℕ) (block : OpenBlock) (row : List Entry) → to ≡ length front → OpenEndsAt to block row
     → OpenBehind (front ++ newline ∷ []) (length (front ++ newline ∷ [])) block row
 behind-ends front to NoBlock row is ends = tt
-behind-ends front to Dropped row is ends = tt
+behind-ends front to (Dropped had_surplus) row is ends = tt
 behind-ends front to Kept row is ends =
     let len : length (front ++ newline ∷ []) ≡ length front + 1 = length-append front (newline ∷ []) in
     let last : length (front ++ newline ∷ []) - 1 ≡ length front = omega (arith, len) in
@@ -92,7 +92,7 @@ behind-ends front to Kept row is ends =
 begun-open : (block : OpenBlock) (contents : List Content) → one_begun (begun_by block contents) ≡ block_open block
 begun-open NoBlock contents = refl
 begun-open Kept contents = refl
-begun-open Dropped contents = refl
+begun-open (Dropped had_surplus) contents = refl
 
 -- no more bytes than may tell something
 pub whole-most : (pending : Option Joined) (line : List ℕ) → length (behind_joined pending line) ≤ line_may_tell pending + length line
@@ -108,7 +108,7 @@ whole-less (Some j) block line = omega (arith, length-append j.bytes line)
 pub row-open-most : (pending : Option Joined) (block : OpenBlock) → row_open pending block ≤ 1
 row-open-most None NoBlock = omega arith
 row-open-most None Kept = omega arith
-row-open-most None Dropped = omega arith
+row-open-most None (Dropped had_surplus) = omega arith
 row-open-most (Some j) block = omega arith
 
 -- a further format is counted as the one before it

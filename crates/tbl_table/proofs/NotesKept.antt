@@ -1,12 +1,12 @@
 -- Messages that are kept, where the bytes of the table grow.
 use Rattle.std.proofs.Common.{◌≡◌, ℕ, ◌≤◌, List, [], ◌∷◌, ◌++◌, length, map, refl, ap, ◌∙◌, arith}
 use Rattle.std.proofs.lemmas.List.{map-append}
-use Rattle.tbl_format.specs.Notes.{IsWithin, NotesWithin, ignored_message, left_out_note, told_at, told_of, told_of_all}
-use Rattle.tbl_format.specs.declared.message.Told.{Told}
-use Rattle.tbl_format.specs.declared.message.Message.TheVariants.{LeftOut as LeftOutMessage}
-use Rattle.tbl_format.specs.declared.notes.Cause.{Cause}
-use Rattle.tbl_format.specs.declared.notes.Cause.TheVariants.{BadFormat, LeftOut, NotMeasured, OptionIgnored, RequestInTextBlock, TooManyFields}
-use Rattle.tbl_format.specs.declared.notes.KeptNote.{KeptNote}
+use Rattle.tbl_options.specs.Notes.{IsWithin, NotesWithin, ignored_message, left_out_note, told_at, told_of, told_of_all}
+use Rattle.tbl_options.specs.declared.message.Told.{Told}
+use Rattle.tbl_options.specs.declared.message.Message.TheVariants.{LeftOut as LeftOutMessage}
+use Rattle.tbl_options.specs.declared.notes.Cause.{Cause}
+use Rattle.tbl_options.specs.declared.notes.Cause.TheVariants.{BadFormat, LeftOut, NotMeasured, OptionIgnored, RequestInTextBlock, TooManyFields}
+use Rattle.tbl_options.specs.declared.notes.KeptNote.{KeptNote}
 use Rattle.tbl_format.proofs.LeftOut.{told-letters}
 use Rattle.tbl_format.proofs.Parts.{slice_range-append}
 

@@ -1,21 +1,22 @@
 -- The messages of a table so far stay.
 use Rattle.std.proofs.Common.{ℕ, suc, ◌+◌, ◌-◌, Bool, true, false, not, ◌&&◌, ◌||◌, List, [], ◌∷◌, ◌++◌, length, map, take, drop, Option, Some, None, refl, sym, ap, ◌∙◌, append-nil, append_assoc, nat_lt, if◌then◌else◌}
-use Rattle.std.specs.Prelude.{take_while, is_none}
 use Rattle.roff_source.specs.Bytes.{newline}
 use Rattle.tbl_format.specs.Format.{Format, format_read}
-use Rattle.tbl_format.specs.Options.{options_end}
+use Rattle.tbl_options.specs.Options.{options_end}
 use Rattle.tbl_format.specs.declared.format.FormatPlace.{FormatPlace}
 use Rattle.tbl_format.specs.declared.format.FormatPlace.TheVariants.{AtEnd, AtFault, InRows}
-use Rattle.tbl_format.specs.declared.message.Told.{Told}
+use Rattle.tbl_options.specs.declared.message.Told.{Told}
 use Rattle.tbl_kept.specs.Joined.{Joined, behind_joined, ends_joined, goes_on, line_at}
 use Rattle.tbl_layout.specs.Data.{fields}
-use Rattle.tbl_layout.specs.DataLines.{block_line_kind, ends_in_block, is_laid_out, len_of_fields, line_kind, without_opening}
-use Rattle.tbl_layout.specs.Entries.{Content, content_read}
+use Rattle.tbl_layout.specs.DataLines.{block_line_kind, ends_in_block, len_of_fields, line_kind, without_opening}
+use Rattle.tbl_layout.specs.Entries.{Content}
 use Rattle.tbl_layout.specs.declared.data_lines.BlockLineKind.{BlockLineKind}
 use Rattle.tbl_layout.specs.declared.data_lines.BlockLineKind.TheVariants.{End, Request, Text}
 use Rattle.tbl_layout.specs.declared.data_lines.LineKind.{LineKind}
 use Rattle.tbl_layout.specs.declared.data_lines.LineKind.TheVariants.{Command, Formats, Row, Rule}
-use Rattle.tbl_data.specs.DataRead.{closed_block, behind_block, field_notes, fields_with_block, surplus_notes, whole_line, with_block_line, with_fields, with_line, with_open_row, with_pending, with_whole}
+use Rattle.tbl_data.specs.DataRead.{closed_block, behind_block, field_notes, fields_with_block, keyed, serving, surplus_notes, whole_line, with_block_line, with_fields, with_line, with_open_row, with_pending, with_whole}
+use Rattle.tbl_data.proofs.FieldSteps.{content-of}
+use Rattle.tbl_table.proofs.FewFields.{built_of}
 use Rattle.tbl_table.specs.NotesStay.{Begins, NotesStay}
 use Rattle.tbl_table.specs.Table.{behind_format, closed, closed_line, ended, ended_in, format_line, head_line, left_out_notes, line_in, line_read, notes, told_at_cut, with_options}
 use Rattle.tbl_data.specs.TableRead.{RowBegun, TableRead, bad, columns, with_notes}
@@ -60,28 +61,30 @@ head_stays None n line t = format_stays n line t
 head_stays (Some end) n line t = options_stay n (take end line) (drop (suc end) line) t
 
 -- a row that is whole, or of which a text block opens
-open_stays : (opens : Bool) (row : RowBegun) (t : TableRead) → Begins t.notes (with_open_row opens row t).notes
-open_stays true row t = begins_same t.notes
-open_stays false row t = begins_same t.notes
+open_stays : (opens had : Bool) (contents : List Content) (t : TableRead) → Begins t.notes (with_open_row opens had contents t).notes
+open_stays true had contents t = begins_same t.notes
+open_stays false had contents t = begins_same t.notes
 
 -- fields, by whether one of them isn't laid out
-fields_by : (unbuilt opens : Bool) (line : ℕ) (row : RowBegun) (surplus : List Told) (t : TableRead)
-    → Begins t.notes (if unbuilt then bad line t else with_open_row opens row (with_notes surplus t)).notes
-fields_by true opens line row surplus t = begins_longer t.notes _
-fields_by false opens line row surplus t =
-    begins_behind t.notes (t.notes ++ surplus) (with_open_row opens row (with_notes surplus t)).notes (begins_longer t.notes surplus) (open_stays opens row (with_notes surplus t))
+fields_by : (unbuilt opens : Bool) (line : ℕ) (had : Bool) (contents : List Content) (surplus : List Told) (t : TableRead)
+    → Begins t.notes (if unbuilt then bad line t else with_open_row opens had contents (with_notes surplus t)).notes
+fields_by true opens line had contents surplus t = begins_longer t.notes _
+fields_by false opens line had contents surplus t =
+    begins_behind t.notes (t.notes ++ surplus) (with_open_row opens had contents (with_notes surplus t)).notes (begins_longer t.notes surplus) (open_stays opens had contents (with_notes surplus t))
 
 fields_stay : (ends : List (ℕ × ℕ)) (n place : ℕ) (all : List (List ℕ)) (in_front : List Content) (had_surplus : Bool) (t : TableRead)
     → Begins t.notes (with_fields ends n place all in_front had_surplus t).notes
 fields_stay ends n place all in_front had_surplus t =
-    let room = columns t - length in_front in
+    let format = serving t in
+    let column = length in_front in
+    let room = columns t - column in
     let texts = take room (without_opening all) in
-    let built = take_while is_laid_out texts in
+    let built = built_of format column texts in
     let has_surplus = nat_lt room (length all) in
     let told = field_notes ends n place built in
     begins_behind t.notes (t.notes ++ told) (with_fields ends n place all in_front had_surplus t).notes (begins_longer t.notes told)
-    (fields_by (nat_lt (length built) (length texts)) (ends_in_block all) (line_at ends (place + len_of_fields built) n)
-    (record { fields = in_front ++ map content_read texts; block = if has_surplus || had_surplus then None else Some [] })
+    (fields_by (nat_lt (length built) (length texts)) (ends_in_block all) (line_at ends (place + len_of_fields (take (length built) texts)) n)
+    (has_surplus || had_surplus) (in_front ++ map content-of (keyed format column texts))
     (surplus_notes (has_surplus && not had_surplus) (line_at ends (place + len_of_fields texts - 1) n)) (with_notes told t))
 
 -- a whole line of the data
@@ -95,7 +98,7 @@ behind_block_stays : (ends : List (ℕ × ℕ)) (n : ℕ) (all : List (List ℕ)
 behind_block_stays ends n [] row t = begins_same t.notes
 behind_block_stays ends n (first ∷ []) row t = begins_same t.notes
 behind_block_stays ends n (first ∷ field ∷ more) row t =
-    fields_stay ends n (length first + 3) (field ∷ more) (fields_with_block row) (is_none row.block) t
+    fields_stay ends n (length first + 3) (field ∷ more) (fields_with_block row) row.had_surplus t
 
 block_kind_stays : (kind : BlockLineKind) (ends : List (ℕ × ℕ)) (n : ℕ) (line : List ℕ) (row : RowBegun) (t : TableRead)
     → Begins t.notes (with_block_line kind ends n line row t).notes

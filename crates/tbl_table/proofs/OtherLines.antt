@@ -11,7 +11,7 @@ use Rattle.tbl_data.specs.declared.phase.Phase.TheVariants.{Bad, InData}
 use Rattle.tbl_data.specs.declared.table_data.TableData.{TableData}
 use Rattle.tbl_format.specs.Format.{Format}
 use Rattle.tbl_format.specs.declared.limits.TblLimits.{TblLimits}
-use Rattle.tbl_format.specs.declared.options.Options.{Options}
+use Rattle.tbl_options.specs.declared.options.Options.{Options}
 use Rattle.tbl_kept.specs.Joined.{Joined, behind_joined}
 use Rattle.tbl_kept.specs.TableText.{KeptText, text_ended, text_joined}
 use Rattle.tbl_table.specs.Begun.{FewKeys, begun_in}

@@ -1,22 +1,24 @@
 -- The rows and commands of a table behind a line, and the columns that count in it.
 use Rattle.std.proofs.Common.{◌≡◌, ℕ, suc, ◌+◌, ◌-◌, ◌≤◌, Bool, true, false, not, ◌&&◌, ◌||◌, List, [], ◌∷◌, ◌++◌, length, map, take, drop, Option, Some, None, refl, ap, arith, length-append, nat_lt, if◌then◌else◌}
-use Rattle.std.specs.Prelude.{take_while, is_none, is_some}
+use Rattle.std.specs.Prelude.{is_some}
 use Rattle.roff_source.specs.Bytes.{newline}
 use Rattle.tbl_format.specs.Format.{format_read}
-use Rattle.tbl_format.specs.Options.{options_end}
+use Rattle.tbl_options.specs.Options.{options_end}
 use Rattle.tbl_format.specs.declared.format.FormatPlace.{FormatPlace}
 use Rattle.tbl_format.specs.declared.format.FormatPlace.TheVariants.{AtEnd, AtFault, InRows}
-use Rattle.tbl_format.specs.declared.message.Told.{Told}
+use Rattle.tbl_options.specs.declared.message.Told.{Told}
 use Rattle.tbl_kept.specs.Joined.{behind_joined, ends_joined, goes_on, line_at}
 use Rattle.tbl_layout.specs.Data.{fields}
-use Rattle.tbl_layout.specs.DataLines.{behind_first, block_kind_ends_row, block_line_kind, ends_in_block, ends_row, is_laid_out, kind_ends_row, len_of_fields, line_kind, without_opening}
-use Rattle.tbl_layout.specs.Entries.{Command as OneCommand, Content, Row as OneRow, Rule as OneRule, content_read}
+use Rattle.tbl_layout.specs.DataLines.{behind_first, block_kind_ends_row, block_line_kind, ends_in_block, ends_row, kind_ends_row, len_of_fields, line_kind, without_opening}
+use Rattle.tbl_layout.specs.Entries.{Command as OneCommand, Content, Row as OneRow, Rule as OneRule, completed}
 use Rattle.tbl_layout.specs.declared.data_lines.BlockLineKind.{BlockLineKind}
 use Rattle.tbl_layout.specs.declared.data_lines.BlockLineKind.TheVariants.{End, Request, Text}
 use Rattle.tbl_layout.specs.declared.data_lines.LineKind.{LineKind}
 use Rattle.tbl_layout.specs.declared.data_lines.LineKind.TheVariants.{Command, Formats, Row, Rule}
-use Rattle.tbl_data.specs.DataRead.{behind_block, field_notes, fields_with_block, serving, surplus_notes, whole_line, with_block_line, with_fields, with_line, with_open_row, with_pending, with_whole}
+use Rattle.tbl_data.specs.DataRead.{behind_block, field_notes, fields_with_block, keyed, rules_in_front, serving, surplus_notes, whole_line, with_block_line, with_fields, with_line, with_open_row, with_pending, with_row, with_whole}
 use Rattle.tbl_table.specs.Table.{behind_format, columns_at, columns_in, ends_in, format_line, head_line, left_out_notes, line_in, line_read, rows, rows_behind, with_options}
+use Rattle.tbl_data.proofs.FieldSteps.{content-of}
+use Rattle.tbl_table.proofs.FewFields.{built_of}
 use Rattle.tbl_data.specs.TableRead.{RowBegun, TableRead, bad, columns, with_notes}
 use Rattle.tbl_data.specs.declared.phase.Phase.{Phase}
 use Rattle.tbl_data.specs.declared.phase.Phase.TheVariants.{AtHead, Bad, InData, InFormat}
@@ -46,24 +48,29 @@ head-rows (Some end) n line t =
     line-rows n (drop (suc end) line) (with_options n (take end line) t)
 
 -- a row that isn't whole yet adds none either
-open-rows : (opens : Bool) (row : RowBegun) (t : TableRead) → length (with_open_row opens row t).body ≡ length t.body + one-if (not opens)
-open-rows true row t = omega arith
-open-rows false row t = length-append t.body (OneRow (serving t) row.fields ∷ [])
+row-more : (contents : List Content) (t : TableRead) → length (with_row contents t).body ≡ length t.body + 1
+row-more contents t = length-append t.body (OneRow (rules_in_front t) (serving t) (completed (serving t) contents) ∷ [])
 
-noted-rows : (unbuilt opens : Bool) (line : ℕ) (row : RowBegun) (surplus : List Told) (t : TableRead)
-    → length (if unbuilt then bad line t else with_open_row opens row (with_notes surplus t)).body ≤ length t.body + one-if (not opens)
-noted-rows true opens line row surplus t = omega arith
-noted-rows false opens line row surplus t = omega (arith, open-rows opens row (with_notes surplus t))
+open-rows : (opens had : Bool) (contents : List Content) (t : TableRead) → length (with_open_row opens had contents t).body ≡ length t.body + one-if (not opens)
+open-rows true had contents t = omega arith
+open-rows false had contents t = row-more contents t
+
+noted-rows : (unbuilt opens : Bool) (line : ℕ) (had : Bool) (contents : List Content) (surplus : List Told) (t : TableRead)
+    → length (if unbuilt then bad line t else with_open_row opens had contents (with_notes surplus t)).body ≤ length t.body + one-if (not opens)
+noted-rows true opens line had contents surplus t = omega arith
+noted-rows false opens line had contents surplus t = omega (arith, open-rows opens had contents (with_notes surplus t))
 
 fields-rows : (ends : List (ℕ × ℕ)) (n place : ℕ) (all : List (List ℕ)) (in_front : List Content) (had_surplus : Bool) (t : TableRead)
     → length (with_fields ends n place all in_front had_surplus t).body ≤ length t.body + one-if (not (ends_in_block all))
 fields-rows ends n place all in_front had_surplus t =
-    let room = columns t - length in_front in
+    let format = serving t in
+    let column = length in_front in
+    let room = columns t - column in
     let texts = take room (without_opening all) in
-    let built = take_while is_laid_out texts in
+    let built = built_of format column texts in
     let has_surplus = nat_lt room (length all) in
-    noted-rows (nat_lt (length built) (length texts)) (ends_in_block all) (line_at ends (place + len_of_fields built) n)
-    (record { fields = in_front ++ map content_read texts; block = if has_surplus || had_surplus then None else Some [] })
+    noted-rows (nat_lt (length built) (length texts)) (ends_in_block all) (line_at ends (place + len_of_fields (take (length built) texts)) n)
+    (has_surplus || had_surplus) (in_front ++ map content-of (keyed format column texts))
     (surplus_notes (has_surplus && not had_surplus) (line_at ends (place + len_of_fields texts - 1) n)) (with_notes (field_notes ends n place built) t)
 
 kind-rows : (kind : LineKind) (ends : List (ℕ × ℕ)) (n : ℕ) (line : List ℕ) (t : TableRead)
@@ -75,10 +82,10 @@ kind-rows Row ends n line t = fields-rows ends n 0 (fields t.options.separator l
 
 behind-rows : (ends : List (ℕ × ℕ)) (n : ℕ) (all : List (List ℕ)) (row : RowBegun) (t : TableRead)
     → length (behind_block ends n all row t).body ≤ length t.body + one-if (not (ends_in_block (behind_first all)))
-behind-rows ends n [] row t = omega (arith, length-append t.body (OneRow (serving t) (fields_with_block row) ∷ []))
-behind-rows ends n (first ∷ []) row t = omega (arith, length-append t.body (OneRow (serving t) (fields_with_block row) ∷ []))
+behind-rows ends n [] row t = omega (arith, row-more (fields_with_block row) t)
+behind-rows ends n (first ∷ []) row t = omega (arith, row-more (fields_with_block row) t)
 behind-rows ends n (first ∷ field ∷ more) row t =
-    fields-rows ends n (length first + 3) (field ∷ more) (fields_with_block row) (is_none row.block) t
+    fields-rows ends n (length first + 3) (field ∷ more) (fields_with_block row) row.had_surplus t
 
 block-rows : (kind : BlockLineKind) (ends : List (ℕ × ℕ)) (n : ℕ) (line : List ℕ) (row : RowBegun) (t : TableRead)
     → length (with_block_line kind ends n line row t).body ≤ length t.body + one-if (block_kind_ends_row kind t.options.separator line)

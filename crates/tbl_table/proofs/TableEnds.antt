@@ -10,7 +10,7 @@ use Rattle.tbl_data.specs.TableRead.{RowBegun}
 use Rattle.tbl_data.specs.declared.table_data.OpenBlock.{OpenBlock}
 use Rattle.tbl_data.specs.declared.table_data.OpenBlock.TheVariants.{Dropped, Kept, Nothing}
 use Rattle.tbl_format.specs.declared.limits.TblLimits.{TblLimits}
-use Rattle.tbl_format.specs.declared.message.Told.{Told}
+use Rattle.tbl_options.specs.declared.message.Told.{Told}
 use Rattle.tbl_kept.specs.Joined.{Joined}
 use Rattle.tbl_layout.specs.Entries.{Content}
 use Rattle.tbl_table.specs.Reading.{Reading, given_at_end, given_behind, limit_at_end, output_or_read, told_at_end, told_behind}
@@ -46,7 +46,7 @@ closed-rests t = let whole = closed_line t.pending t in block-rests whole.begun 
 pub none-begun-open : (block : OpenBlock) (contents : List Content) → begun_by block contents ≡ None → block ≡ Nothing
 none-begun-open Nothing contents is = refl
 none-begun-open Kept contents is = absurd (cc)
-none-begun-open Dropped contents is = absurd (cc)
+none-begun-open (Dropped had_surplus) contents is = absurd (cc)
 
 -- a width that is cut off passes a limit where it would
 pub over-test : (most wide cut : ℕ) → most < 4294967296 → cut ≡ min wide (2 ^ 64 - 1) → most < cut → nat_lt most wide ≡ true

@@ -10,11 +10,11 @@ use Rattle.tbl_data.specs.declared.phase.Phase.TheVariants.{AtHead, Bad, InData,
 use Rattle.tbl_data.specs.declared.table_data.TableData.{TableData}
 use Rattle.tbl_format.specs.Format.{Format}
 use Rattle.tbl_format.specs.KeyCounts.{StandsOnLine}
-use Rattle.tbl_format.specs.Notes.{NotesWithin}
+use Rattle.tbl_options.specs.Notes.{NotesWithin}
 use Rattle.tbl_format.specs.RowsServed.{all_rows}
 use Rattle.tbl_format.specs.declared.limits.TblLimits.{TblLimits}
-use Rattle.tbl_format.specs.declared.notes.Cause.TheVariants.{BadFormat}
-use Rattle.tbl_format.specs.declared.notes.KeptNote.{KeptNote}
+use Rattle.tbl_options.specs.declared.notes.Cause.TheVariants.{BadFormat}
+use Rattle.tbl_options.specs.declared.notes.KeptNote.{KeptNote}
 use Rattle.tbl_format.proofs.StepPlaces.{stands-longer}
 use Rattle.tbl_kept.specs.Joined.{Joined, behind_joined}
 use Rattle.tbl_kept.specs.TableText.{KeptText, no_text, text_ended}
@@ -109,7 +109,7 @@ telling to_tell escapes d = record d { notes = record d.notes { to_tell = to_tel
 module _ (settled : List ℕ) (pending : Option Joined) (d : TableData) (to_tell : List KeptNote) (escapes : KeptEscapes) where
   telling-format : FormatFits settled d → FormatFits settled (telling to_tell escapes d)
   telling-format fits =
-      record { kept = fits.kept; closed = fits.closed; none = fits.none; columns = fits.columns; first = fits.first; notes = fits.notes }
+      record { kept = fits.kept; closed = fits.closed; none = fits.none; columns = fits.columns; first = fits.first; rules = fits.rules; notes = fits.notes }
 
   pub telling-phase : (phase : Phase) → (phase ≡ AtHead → to_tell ≡ []) → PhaseFits phase settled pending d → PhaseFits phase settled pending (telling to_tell escapes d)
   telling-phase AtHead none fits = record {
@@ -127,8 +127,7 @@ module _ (settled : List ℕ) (pending : Option Joined) (d : TableData) (to_tell
       kept = fits.fits.kept;
       block = fits.fits.block;
       columns = fits.fits.columns;
-      first = fits.fits.first;
-      serves = fits.fits.serves;
+      served = fits.fits.served;
       whole = fits.fits.whole;
       notes = fits.fits.notes;
     };
@@ -310,6 +309,7 @@ start-fits l text d rooms = record {
       none = refl;
       columns = omega arith;
       first = refl;
+      rules = refl;
       notes = tt;
     };
   };

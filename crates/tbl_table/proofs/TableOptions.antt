@@ -11,12 +11,12 @@ use Rattle.tbl_data.specs.declared.phase.Phase.TheVariants.{AtHead}
 use Rattle.tbl_data.specs.declared.table_data.TableData.{TableData}
 use Rattle.tbl_format.specs.Format.{Format, format_read, letters_left_out, no_format}
 use Rattle.tbl_format.specs.KeyCounts.{StandsOnLine}
-use Rattle.tbl_format.specs.Notes.{NotesWithin, told_of_all}
-use Rattle.tbl_format.specs.Options.{bracketed, options_end}
+use Rattle.tbl_options.specs.Notes.{NotesWithin, told_of_all}
+use Rattle.tbl_options.specs.Options.{bracketed, options_end}
 use Rattle.tbl_format.specs.RowsServed.{all_rows}
 use Rattle.tbl_format.specs.declared.limits.TblLimits.{TblLimits}
-use Rattle.tbl_format.specs.declared.message.Told.{Told}
-use Rattle.tbl_format.specs.declared.options.Options.{Options}
+use Rattle.tbl_options.specs.declared.message.Told.{Told}
+use Rattle.tbl_options.specs.declared.options.Options.{Options}
 use Rattle.tbl_format.proofs.FormatReading.{columns-read, columns-read-most, keys-read as keys-read-most, line-stands}
 use Rattle.tbl_format.proofs.LeftOut.{letters-few}
 use Rattle.tbl_format.proofs.Parts.{slice_range-rest}
@@ -73,7 +73,7 @@ module _ (l : TblLimits) (phase : Phase) (begun : Begun) (text : KeptText) (d : 
       -- the table with these options
       abbrev pub with_options_said : TableRead
       with_options_said =
-          made phase options d.format.format (d.keys - length d.format.format.earlier) text.pending (begun_by d.open (map (content_of text.settled) d.rows.row))
+          made phase options d.format.format (d.keys - d.rules - length d.format.format.earlier) text.pending (begun_by d.open (map (content_of text.settled) d.rows.row))
           (elements_of text.settled (all_rows d.format.format) d.rows.elements) said
 
       pub options-made : (line : List ℕ) → keys ≡ line ++ newline ∷ [] → IsCounted l (length text.read + length text.line + 1) (format_read d.format.format keys)
@@ -85,7 +85,7 @@ module _ (l : TblLimits) (phase : Phase) (begun : Begun) (text : KeptText) (d : 
           (record { alone = nothing.alone; fits = nothing.fits }) all (format-extends d.format.format keys) (columns-read [] d.format.format keys) room counted few
           (noted-within (letters_left_out d.format.format keys)) to_tell same options before (said ++ told_of_letters number (letters_left_out d.format.format keys))
           (letters-said (text_ended text).settled kept.notes number (letters_left_out d.format.format keys) said says) (format_read d.format.format keys).place
-          ∙ ap (λ (ks : List ℕ). ended_with (behind_format (format_read d.format.format ks).place number (made phase options (format_read d.format.format ks) (d.keys - length d.format.format.earlier) text.pending (begun_by d.open (map (content_of text.settled) d.rows.row)) (elements_of text.settled (all_rows d.format.format) d.rows.elements) (said ++ told_of_letters number (letters_left_out d.format.format ks)))) (reading_of phase before text d)) is
+          ∙ ap (λ (ks : List ℕ). ended_with (behind_format (format_read d.format.format ks).place number (made phase options (format_read d.format.format ks) (d.keys - d.rules - length d.format.format.earlier) text.pending (begun_by d.open (map (content_of text.settled) d.rows.row)) (elements_of text.settled (all_rows d.format.format) d.rows.elements) (said ++ told_of_letters number (letters_left_out d.format.format ks)))) (reading_of phase before text d)) is
 
 pub keys-format : (number : ℕ) (keys : List ℕ) (d : TableData) → (with_keys number keys d).format.format ≡ format_read d.format.format keys
 keys-format number keys d =

@@ -1,17 +1,18 @@
 -- What a whole line of the data makes of a table: a row at most, also if it is only begun, and a further format or the same.
 use Rattle.std.proofs.Common.{◌≡◌, ℕ, ◌+◌, ◌-◌, ◌≤◌, ◌⊎◌, inl, inr, Bool, true, false, not, ◌&&◌, ◌||◌, List, [], ◌∷◌, ◌++◌, length, map, take, drop, Option, Some, None, refl, ap, arith, length-append, nat_lt, if◌then◌else◌}
-use Rattle.std.specs.Prelude.{take_while, is_none}
 use Rattle.tbl_format.specs.Format.{further}
-use Rattle.tbl_format.specs.declared.message.Told.{Told}
+use Rattle.tbl_options.specs.declared.message.Told.{Told}
 use Rattle.tbl_kept.specs.Joined.{line_at}
 use Rattle.tbl_layout.specs.Data.{fields}
-use Rattle.tbl_layout.specs.DataLines.{block_line_kind, ends_in_block, is_laid_out, len_of_fields, line_kind, without_opening}
-use Rattle.tbl_layout.specs.Entries.{Command as OneCommand, Content, Row as OneRow, Rule as OneRule, content_read}
+use Rattle.tbl_layout.specs.DataLines.{block_line_kind, ends_in_block, len_of_fields, line_kind, without_opening}
+use Rattle.tbl_layout.specs.Entries.{Command as OneCommand, Content, Row as OneRow, Rule as OneRule, completed}
 use Rattle.tbl_layout.specs.declared.data_lines.BlockLineKind.{BlockLineKind}
 use Rattle.tbl_layout.specs.declared.data_lines.BlockLineKind.TheVariants.{End, Request, Text}
 use Rattle.tbl_layout.specs.declared.data_lines.LineKind.{LineKind}
 use Rattle.tbl_layout.specs.declared.data_lines.LineKind.TheVariants.{Command, Formats, Row, Rule}
-use Rattle.tbl_data.specs.DataRead.{behind_block, field_notes, fields_with_block, serving, surplus_notes, whole_line, with_block_line, with_fields, with_line, with_open_row, with_whole}
+use Rattle.tbl_data.specs.DataRead.{behind_block, field_notes, fields_with_block, keyed, rules_in_front, serving, surplus_notes, whole_line, with_block_line, with_fields, with_line, with_open_row, with_row, with_whole}
+use Rattle.tbl_data.proofs.FieldSteps.{content-of}
+use Rattle.tbl_table.proofs.FewFields.{built_of}
 use Rattle.tbl_data.specs.TableRead.{RowBegun, TableRead, bad, columns, with_notes}
 
 -- a row that is begun
@@ -24,28 +25,37 @@ pub record Makes (t u : TableRead) : Type 0 where
   pub few : length u.body + one_begun u.begun ≤ length t.body + 1
   pub format : (u.format ≡ t.format) ⊎ (u.format ≡ further t.format)
 
-makes-open : (opens : Bool) (row : RowBegun) (t : TableRead) → Makes t (with_open_row opens row t)
-makes-open true row t = record { few = omega arith; format = inl refl }
-makes-open false row t = record { few = omega (arith, length-append t.body (OneRow (serving t) row.fields ∷ [])); format = inl refl }
+makes-row : (contents : List Content) (t : TableRead) → Makes t (with_row contents t)
+makes-row contents t = record {
+  few = omega (arith, length-append t.body (OneRow (rules_in_front t) (serving t) (completed (serving t) contents) ∷ []));
+  format = inl refl;
+}
+
+makes-open : (opens had : Bool) (contents : List Content) (t : TableRead) → Makes t (with_open_row opens had contents t)
+makes-open true had contents t = record { few = omega arith; format = inl refl }
+makes-open false had contents t = makes-row contents t
 
 makes-noted : (t u : TableRead) (notes : List Told) → Makes (with_notes notes t) u → Makes t u
 makes-noted t u notes makes = record { few = makes.few; format = makes.format }
 
-makes-by : (unbuilt opens : Bool) (line : ℕ) (row : RowBegun) (surplus : List Told) (t : TableRead)
-    → Makes t (if unbuilt then bad line t else with_open_row opens row (with_notes surplus t))
-makes-by true opens line row surplus t = record { few = omega arith; format = inl refl }
-makes-by false opens line row surplus t = makes-noted t (with_open_row opens row (with_notes surplus t)) surplus (makes-open opens row (with_notes surplus t))
+makes-by : (unbuilt opens : Bool) (line : ℕ) (had : Bool) (contents : List Content) (surplus : List Told) (t : TableRead)
+    → Makes t (if unbuilt then bad line t else with_open_row opens had contents (with_notes surplus t))
+makes-by true opens line had contents surplus t = record { few = omega arith; format = inl refl }
+makes-by false opens line had contents surplus t =
+    makes-noted t (with_open_row opens had contents (with_notes surplus t)) surplus (makes-open opens had contents (with_notes surplus t))
 
 makes-fields : (ends : List (ℕ × ℕ)) (n place : ℕ) (all : List (List ℕ)) (in_front : List Content) (had_surplus : Bool) (t : TableRead)
     → Makes t (with_fields ends n place all in_front had_surplus t)
 makes-fields ends n place all in_front had_surplus t =
-    let room = columns t - length in_front in
+    let format = serving t in
+    let column = length in_front in
+    let room = columns t - column in
     let texts = take room (without_opening all) in
-    let built = take_while is_laid_out texts in
+    let built = built_of format column texts in
     let has_surplus = nat_lt room (length all) in
     makes-noted t (with_fields ends n place all in_front had_surplus t) (field_notes ends n place built)
-    (makes-by (nat_lt (length built) (length texts)) (ends_in_block all) (line_at ends (place + len_of_fields built) n)
-    (record { fields = in_front ++ map content_read texts; block = if has_surplus || had_surplus then None else Some [] })
+    (makes-by (nat_lt (length built) (length texts)) (ends_in_block all) (line_at ends (place + len_of_fields (take (length built) texts)) n)
+    (has_surplus || had_surplus) (in_front ++ map content-of (keyed format column texts))
     (surplus_notes (has_surplus && not had_surplus) (line_at ends (place + len_of_fields texts - 1) n)) (with_notes (field_notes ends n place built) t))
 
 makes-line : (kind : LineKind) (ends : List (ℕ × ℕ)) (n : ℕ) (line : List ℕ) (t : TableRead) → one_begun t.begun ≡ 0 → Makes t (with_line kind ends n line t)
@@ -55,11 +65,10 @@ makes-line Command ends n line t none = record { few = omega (arith, none, lengt
 makes-line Row ends n line t none = makes-fields ends n 0 (fields t.options.separator line) [] false t
 
 makes-behind : (ends : List (ℕ × ℕ)) (n : ℕ) (all : List (List ℕ)) (row : RowBegun) (t : TableRead) → Makes t (behind_block ends n all row t)
-makes-behind ends n [] row t = record { few = omega (arith, length-append t.body (OneRow (serving t) (fields_with_block row) ∷ [])); format = inl refl }
-makes-behind ends n (first ∷ []) row t =
-    record { few = omega (arith, length-append t.body (OneRow (serving t) (fields_with_block row) ∷ [])); format = inl refl }
+makes-behind ends n [] row t = makes-row (fields_with_block row) t
+makes-behind ends n (first ∷ []) row t = makes-row (fields_with_block row) t
 makes-behind ends n (first ∷ field ∷ more) row t =
-    makes-fields ends n (length first + 3) (field ∷ more) (fields_with_block row) (is_none row.block) t
+    makes-fields ends n (length first + 3) (field ∷ more) (fields_with_block row) row.had_surplus t
 
 makes-block : (kind : BlockLineKind) (ends : List (ℕ × ℕ)) (n : ℕ) (line : List ℕ) (row : RowBegun) (t : TableRead)
     → Makes t (with_block_line kind ends n line row t)

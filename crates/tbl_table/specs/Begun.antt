@@ -2,7 +2,7 @@
 use Rattle.std.specs.Prelude.{ℕ, suc, ◌-◌, ◌≤◌, false, List, length, drop, fold, Option, None, Some}
 use Rattle.tbl_format.specs.Format.{Format, format_read, has_some, no_format}
 use Rattle.tbl_format.specs.KeyCounts.{IsCount}
-use Rattle.tbl_format.specs.Options.{bracketed, options_end}
+use Rattle.tbl_options.specs.Options.{bracketed, options_end}
 use Rattle.tbl_table.specs.declared.begun.Begun.{Begun}
 use Rattle.tbl_table.specs.declared.begun.Begun.TheVariants.{Front, Keys, Nothing}
 use Rattle.tbl_format.specs.declared.key_count.KeyCount.{KeyCount}

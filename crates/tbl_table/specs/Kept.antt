@@ -7,7 +7,7 @@ use Rattle.tbl_format.specs.Format.{Format, no_format}
 use Rattle.tbl_format.specs.FormatRows.{key_count, keys_of}
 use Rattle.tbl_format.specs.KeyCounts.{StandsOnLine}
 use Rattle.tbl_kept.specs.Joined.{Joined, behind_joined}
-use Rattle.tbl_format.specs.Notes.{NotesWithin, told_of_all}
+use Rattle.tbl_options.specs.Notes.{NotesWithin, told_of_all}
 use Rattle.tbl_table.specs.MayTell.{fault_may_come, line_may_tell}
 use Rattle.tbl_picture.specs.Giving.{CanGive, coming}
 use Rattle.tbl_table.specs.Reading.{KeptTable, Reading}
@@ -24,7 +24,7 @@ use Rattle.tbl_table.specs.declared.begun.Begun.{Begun}
 use Rattle.tbl_format.specs.declared.format.FormatPlace.{FormatPlace}
 use Rattle.tbl_format.specs.declared.format.FormatPlace.TheVariants.{AtEnd, AtFault, InRows}
 use Rattle.tbl_format.specs.declared.limits.TblLimits.{TblLimits}
-use Rattle.tbl_format.specs.declared.options.Options.{Options}
+use Rattle.tbl_options.specs.declared.options.Options.{Options}
 use Rattle.tbl_table.specs.declared.table.Table.TheInside.{Inside}
 
 -- the table that the parts give
@@ -103,7 +103,7 @@ data_read Bad = 0
 abbrev pub block_open : OpenBlock → ℕ
 block_open Nothing = 0
 block_open Kept = 1
-block_open Dropped = 1
+block_open (Dropped had_surplus) = 1
 
 abbrev pub row_open : Option Joined → OpenBlock → ℕ
 row_open None block = block_open block

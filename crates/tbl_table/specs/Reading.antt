@@ -4,7 +4,7 @@ use Rattle.roff_num.specs.declared.limit.Limit.{Limit}
 use Rattle.roff_num.specs.declared.limit.Limit.TheVariants.{Rows, Width}
 use Rattle.roff_source.specs.Bytes.{newline}
 use Rattle.tbl_format.specs.declared.limits.TblLimits.{TblLimits}
-use Rattle.tbl_format.specs.declared.message.Told.{Told}
+use Rattle.tbl_options.specs.declared.message.Told.{Told}
 use Rattle.tbl_table.specs.Table.{TableRead, no_lines, line_read, closed, rows, notes, ended, width, output}
 
 -- the table of its complete lines, their bytes, and those of the line that is begun

@@ -5,13 +5,13 @@ use Rattle.roff_num.specs.declared.limit.Limit.TheVariants.{Width}
 use Rattle.roff_source.specs.Bytes.{newline}
 use Rattle.tbl_format.specs.Format.{Format, format_read, letters_left_out, no_format}
 use Rattle.tbl_format.specs.FormatRows.{keeping}
-use Rattle.tbl_format.specs.Notes.{ignored_message, left_out_note, told_at}
-use Rattle.tbl_format.specs.Options.{ignored_options}
+use Rattle.tbl_options.specs.Notes.{ignored_message, left_out_note, told_at}
+use Rattle.tbl_options.specs.Options.{ignored_options}
 use Rattle.tbl_kept.specs.Rows.{cleared, entries_of, no_rows, with_columns}
 use Rattle.tbl_layout.specs.KeptEntries.{content_of}
 use Rattle.tbl_data.specs.DataRead.{closed_block}
-use Rattle.tbl_data.specs.TableData.{DataFits, SameRooms, begun_by, table_by}
-use Rattle.tbl_format.specs.declared.options.Options.{Options}
+use Rattle.tbl_data.specs.TableData.{DataFits, SameRooms, begun_by, serving_from, table_by}
+use Rattle.tbl_options.specs.declared.options.Options.{Options}
 use Rattle.tbl_kept.specs.TableNotes.{KeptNotes, no_notes}
 use Rattle.tbl_data.specs.declared.phase.Phase.{Phase}
 use Rattle.tbl_data.specs.declared.phase.Phase.TheVariants.{AtHead, Bad, InData, InFormat}
@@ -23,9 +23,9 @@ use Rattle.tbl_table.specs.Reading.{Reading}
 use Rattle.tbl_table.specs.Table.{TableRead}
 use Rattle.tbl_format.specs.declared.format.FormatPlace.{FormatPlace}
 use Rattle.tbl_format.specs.declared.format.FormatPlace.TheVariants.{AtEnd, AtFault, InRows}
-use Rattle.tbl_format.specs.declared.message.Told.{Told}
-use Rattle.tbl_format.specs.declared.notes.Cause.{Cause}
-use Rattle.tbl_format.specs.declared.notes.Cause.TheVariants.{BadFormat}
+use Rattle.tbl_options.specs.declared.message.Told.{Told}
+use Rattle.tbl_options.specs.declared.notes.Cause.{Cause}
+use Rattle.tbl_options.specs.declared.notes.Cause.TheVariants.{BadFormat}
 
 -- one message more
 abbrev pub with_cause : ℕ → Cause → KeptNotes → KeptNotes
@@ -36,6 +36,7 @@ abbrev pub emptied : TableData → TableData
 emptied d = record d {
   format = keeping d.format no_format;
   keys = 0;
+  rules = 0;
   rows = cleared d.rows;
   «open» = Nothing;
   notes = no_notes d.notes.note_room;
@@ -46,6 +47,7 @@ abbrev pub roomy : ℕ → ℕ → TableData → TableData
 roomy text columns d = record d {
   format = record { format = no_format; key_room = text; column_room = columns };
   keys = 0;
+  rules = 0;
   rows = no_rows text text columns;
   «open» = Nothing;
   notes = no_notes (text + 2);
@@ -74,7 +76,7 @@ data_refused line d = record d { notes = with_cause line BadFormat d.notes }
 abbrev pub data_behind : FormatPlace → ℕ → TableData → TableData
 data_behind (InRows part) line d = d
 data_behind AtEnd line d =
-    record d { keys = length d.format.format.earlier; rows = with_columns (length d.format.format.asked) d.rows }
+    serving_from (length d.format.format.earlier) (record d { rows = with_columns (length d.format.format.asked) d.rows })
 data_behind AtFault line d = data_refused line d
 
 -- behind keys
@@ -115,7 +117,7 @@ is_front Bad = false
 abbrev pub is_open : OpenBlock → Bool
 is_open Nothing = false
 is_open Kept = true
-is_open Dropped = true
+is_open (Dropped had_surplus) = true
 
 -- the block that is open ends
 pub record BlockEnds (old new : TableData) : Type 0 where

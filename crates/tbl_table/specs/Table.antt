@@ -2,18 +2,18 @@
 use Rattle.std.specs.Prelude.{ℕ, suc, ◌+◌, Bool, true, false, not, ◌&&◌, List, [], ◌∷◌, ◌++◌, length, map, take, drop, Option, None, Some, is_some, if◌then◌else◌, ◌==◌}
 use Rattle.roff_source.specs.Bytes.{newline}
 use Rattle.tbl_format.specs.Format.{Format, format_read, letters_left_out, no_format}
-use Rattle.tbl_format.specs.Notes.{ignored_message, told_at}
-use Rattle.tbl_format.specs.Options.{ignored_options, options_end, options_read}
+use Rattle.tbl_options.specs.Notes.{ignored_message, told_at}
+use Rattle.tbl_options.specs.Options.{ignored_options, options_end, options_read}
 use Rattle.tbl_format.specs.declared.format.FormatPlace.{FormatPlace}
 use Rattle.tbl_format.specs.declared.format.FormatPlace.TheVariants.{AtEnd, AtFault, InRows}
-use Rattle.tbl_format.specs.declared.message.Message.TheVariants.{LeftOut}
-use Rattle.tbl_format.specs.declared.message.Told.{Told}
+use Rattle.tbl_options.specs.declared.message.Message.TheVariants.{LeftOut}
+use Rattle.tbl_options.specs.declared.message.Told.{Told}
 use Rattle.tbl_kept.specs.Joined.{Joined, behind_joined, goes_on}
 use Rattle.tbl_layout.specs.Columns.{Laid, laid}
 use Rattle.tbl_layout.specs.DataLines.{ends_row}
 use Rattle.tbl_layout.specs.Widths.{table_bars}
 use Rattle.tbl_picture.specs.Frame.{indent, picture}
-use Rattle.tbl_picture.specs.PictureLines.{Sheet, picture_lines}
+use Rattle.tbl_lines.specs.PictureLines.{Sheet, picture_lines}
 use Rattle.tbl_data.specs.DataRead.{closed_block, data_line, whole_line}
 pub use Rattle.tbl_data.specs.TableRead.{TableRead, bad, columns, no_lines, with_notes}
 use Rattle.tbl_data.specs.declared.phase.Phase.{Phase}

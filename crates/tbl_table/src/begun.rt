@@ -6,7 +6,7 @@ ghost use Rattle.roff_source.specs.Bytes.{newline};
 ghost use Rattle.tbl_table.specs.Begun.{FewKeys, begun_in, count_of, head_begun};
 ghost use Rattle.tbl_format.specs.Format.{Format, format_read, no_format};
 ghost use Rattle.tbl_format.specs.KeyCounts.{Counts, IsCount};
-ghost use Rattle.tbl_format.specs.Options.{options_end, options_read, semicolon};
+ghost use Rattle.tbl_options.specs.Options.{options_end, options_read, semicolon};
 ghost use Rattle.tbl_table.specs.Table.{columns_of, head_columns, head_place};
 ghost use Rattle.tbl_data.specs.declared.phase.Phase.TheVariants.{AtHead};
 ghost use Rattle.tbl_table.specs.declared.begun.Begun.TheVariants.{Front, Keys};
@@ -14,7 +14,7 @@ ghost use Rattle.tbl_table.specs.declared.begun.Begun.TheVariants.{Front, Keys};
 use tbl_data::phase::Phase;
 use tbl_format::format::FormatPlace;
 use tbl_format::key_count::KeyCount;
-use tbl_format::options::{bracketed, read_options};
+use tbl_options::options::{bracketed, read_options};
 
 /// What is known of the line that is begun.
 #[derive(Clone, Copy)]

@@ -10,12 +10,12 @@ ghost use Rattle.tbl_format.specs.RowsServed.{all_rows};
 ghost use Rattle.tbl_kept.specs.Rows.{entries_of};
 ghost use Rattle.tbl_kept.specs.RowsLaying.{AreOpened};
 ghost use Rattle.tbl_kept.specs.TableText.{block_of};
-ghost use Rattle.tbl_format.specs.Notes.{NotesWithin, told_of_all};
+ghost use Rattle.tbl_options.specs.Notes.{NotesWithin, told_of_all};
 ghost use Rattle.tbl_table.specs.Steps.{BlockEnds, data_behind};
 ghost use Rattle.tbl_table.specs.Steps.{emptied, fault_noted, head_letters, is_open, letters_noted};
 ghost use Rattle.tbl_table.specs.Steps.{options_told, phase_at_last, phase_behind, roomy};
 ghost use Rattle.tbl_table.specs.Steps.{with_cause, with_keys};
-ghost use Rattle.tbl_format.specs.declared.notes.Cause.TheVariants.{BadFormat};
+ghost use Rattle.tbl_options.specs.declared.notes.Cause.TheVariants.{BadFormat};
 ghost use Rattle.tbl_data.specs.declared.phase.Phase.TheVariants.{Bad};
 
 use roff_escape::OpenEscapes;
@@ -25,11 +25,11 @@ use tbl_data::table_data::{OpenBlock, TableData};
 use tbl_format::format::FormatPlace;
 use tbl_format::format_rows::FormatRows;
 use tbl_format::key_count::KeyCount;
-use tbl_format::notes::{Cause, KeptNote};
-use tbl_format::options::read_options;
 use tbl_kept::rows::TableRows;
 use tbl_kept::table_notes::TableNotes;
 use tbl_kept::table_text::TableText;
+use tbl_options::notes::{Cause, KeptNote};
+use tbl_options::options::read_options;
 
 /// No data, with room for a text of so many bytes and so many columns.
 pub fn new_data(alloc: Global, text: u32, columns: u32) -> Result<TableData, AllocError>
@@ -40,6 +40,7 @@ pub fn new_data(alloc: Global, text: u32, columns: u32) -> Result<TableData, All
     Ok(TableData {
         format: FormatRows::new(alloc, bytes, count)?,
         keys: 0,
+        rules: 0,
         rows: TableRows::new(alloc, bytes, bytes, count)?,
         open: OpenBlock::Nothing,
         notes: TableNotes::new(alloc, bytes + 2)?,
@@ -53,6 +54,7 @@ pub fn clear_data(kept: &mut TableData)
 {
     kept.format.clear();
     kept.keys = 0;
+    kept.rules = 0;
     kept.rows.clear();
     kept.open = OpenBlock::Nothing;
     kept.notes.clear();
@@ -65,6 +67,7 @@ pub fn end_block(kept: &mut TableData)
         → length kept.old.rows.elements < kept.old.rows.element_room }
     requires serves { is_open kept.old.open ≡ true
         → kept.old.keys < length (all_rows kept.old.format.format) }
+    requires rules { is_open kept.old.open ≡ true → kept.old.rules ≤ kept.old.keys }
     requires few { is_open kept.old.open ≡ true → entries_of kept.old.rows < 2 ^ 32 }
     requires opened { is_open kept.old.open ≡ true → AreOpened kept.old.rows.row }
     ensures done { is_open kept.old.open ≡ true → BlockEnds kept.old kept.new }
@@ -82,7 +85,7 @@ pub fn is_open(block: OpenBlock) -> bool
     match block {
         OpenBlock::Nothing => false,
         OpenBlock::Kept => true,
-        OpenBlock::Dropped => true,
+        OpenBlock::Dropped(_) => true,
     }
 }
 
@@ -129,7 +132,8 @@ fn go_behind_keys(kept: &mut TableData, line: u32) -> Phase
         FormatPlace::InRows(_) => Phase::InFormat,
         FormatPlace::AtEnd => {
             kept.rows.add_columns(kept.format.columns());
-            kept.keys = kept.format.earlier_rows();
+            let first = kept.format.earlier_rows();
+            kept.serve_from(first);
             Phase::InData
         }
         FormatPlace::AtFault => refuse(&mut kept.notes, line),

@@ -1,11 +1,11 @@
 //! Worked tables: what the definitions give for their lines.
 
 ghost use Rattle.std.specs.Prelude.{◌≡◌, [], ◌∷◌, Some, None, codes};
-ghost use Rattle.tbl_format.specs.Notes.{told_at};
-ghost use Rattle.tbl_format.specs.declared.message.Message.TheVariants.{BadFormat, LeftOut};
-ghost use Rattle.tbl_format.specs.declared.message.Message.TheVariants.{NotMeasured};
-ghost use Rattle.tbl_format.specs.declared.message.Message.TheVariants.{RequestInTextBlock};
-ghost use Rattle.tbl_format.specs.declared.message.Message.TheVariants.{TooManyFields};
+ghost use Rattle.tbl_options.specs.Notes.{told_at};
+ghost use Rattle.tbl_options.specs.declared.message.Message.TheVariants.{BadFormat, LeftOut};
+ghost use Rattle.tbl_options.specs.declared.message.Message.TheVariants.{NotMeasured};
+ghost use Rattle.tbl_options.specs.declared.message.Message.TheVariants.{RequestInTextBlock};
+ghost use Rattle.tbl_options.specs.declared.message.Message.TheVariants.{TooManyFields};
 ghost use Rattle.tbl_table.specs.Table.{lines_after, notes_after, picture_after, rows_after};
 
 /// Tables that are laid out.
@@ -38,6 +38,13 @@ pub fn pictures()
         ≡ codes "\\&_    __\n" }
     ensures joined { lines_after 65 (codes "l l." ∷ codes "a\\" ∷ codes "b\t c " ∷ codes "\\" ∷ [])
         ≡ codes "\\&ab    c\n\\&\n" }
+    ensures rule_row { lines_after 65 (codes "l l l" ∷ codes "___" ∷ codes "l l l."
+        ∷ codes "a\tb\tc" ∷ codes "d\te\tf" ∷ codes "g" ∷ [])
+        ≡ codes "\\&a   b   c\n\\&---------\n\\&d   e   f\n\\&g\n" }
+    ensures short_row { lines_after 65 (codes "l l" ∷ codes "l _." ∷ codes "ab\tcd" ∷ codes "e" ∷ [])
+        ≡ codes "\\&ab   cd\n\\&e    --\n" }
+    ensures last_rule_row { lines_after 65 (codes "l" ∷ codes "_." ∷ codes "ab" ∷ codes "c" ∷ [])
+        ≡ codes "\\&ab\n\\&--\n" }
     ensures bars { lines_after 65 (codes "l|r." ∷ codes "a\tbb" ∷ codes "longer\tc" ∷ [])
         ≡ codes "\\&a      | bb\n\\&longer |  c\n" }
     ensures double_box { lines_after 65 (codes "doublebox;" ∷ codes "l." ∷ codes "ab" ∷ [])
@@ -68,12 +75,17 @@ pub fn reports()
         ≡ told_at 4 (NotMeasured 99) ∷ [] }
     ensures surplus_rule { notes_after (codes "l." ∷ codes "a\t_" ∷ [])
         ≡ told_at 2 TooManyFields ∷ [] }
-    ensures no_picture { picture_after 65 (codes "box;" ∷ codes "l_." ∷ []) ≡ None }
+    ensures no_picture { picture_after 65 (codes "box;" ∷ codes "l|||." ∷ []) ≡ None }
     ensures double_box { notes_after (codes "doublebox;" ∷ codes "l|." ∷ []) ≡ [] }
     ensures third_bar { notes_after (codes "box;" ∷ codes "l|||." ∷ [])
         ≡ told_at 2 BadFormat ∷ [] }
-    ensures key { notes_after (codes "l" ∷ codes "l=." ∷ codes "a" ∷ [])
+    ensures key { notes_after (codes "l" ∷ codes "ls." ∷ codes "a" ∷ [])
         ≡ told_at 2 BadFormat ∷ [] }
+    ensures rule_key { notes_after (codes "l _." ∷ codes "a\t\\c" ∷ []) ≡ [] }
+    ensures block_under_rule_key { notes_after (codes "l _." ∷ codes "a\tT{" ∷ codes "\\c"
+        ∷ codes "T}\tb" ∷ []) ≡ told_at 4 TooManyFields ∷ [] }
+    ensures told_once { notes_after (codes "l _." ∷ codes "a\tT{" ∷ codes "T}\tb\tT{"
+        ∷ codes "T}\tc" ∷ []) ≡ told_at 3 TooManyFields ∷ [] }
     ensures joined_surplus { notes_after (codes "l." ∷ codes "a\\" ∷ codes "\tb" ∷ [])
         ≡ told_at 3 TooManyFields ∷ [] }
     ensures joined_unbuilt { notes_after (codes "l l." ∷ codes "_\t\\" ∷ codes "\\^" ∷ [])

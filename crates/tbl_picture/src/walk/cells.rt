@@ -3,19 +3,20 @@
 ghost use Rattle.std.specs.Prelude.{◌≡◌, ℕ, suc, ◌+◌, ◌-◌, ◌<◌, ◌≤◌, List, [], ◌∷◌, ◌++◌};
 ghost use Rattle.std.specs.Prelude.{length, min};
 ghost use Rattle.tbl_layout.specs.declared.entry.EntryKind.TheVariants.{Split, Text};
-ghost use Rattle.tbl_picture.specs.Pieces.{bytes_of, piece_len};
-ghost use Rattle.tbl_picture.specs.PieceQueue.{Adds, KeptPieces};
-ghost use Rattle.tbl_picture.specs.RowsLeft.{end_given, if_given};
-ghost use Rattle.tbl_picture.specs.RowsWalked.{IsBlock, IsEmptyOn, Repeats};
+ghost use Rattle.tbl_pieces.specs.Pieces.{bytes_of, piece_len};
+ghost use Rattle.tbl_pieces.specs.PieceQueue.{Adds, KeptPieces};
+ghost use Rattle.tbl_lines.specs.RowsLeft.{end_given, if_given};
+ghost use Rattle.tbl_lines.specs.RowsWalked.{IsBlock, IsEmptyOn, Repeats};
 
 use super::fronts::{count_given, next_column};
 use super::{Next, Walk};
-use crate::picture::Piece;
-use crate::piece_queue::PieceQueue;
-use crate::row_columns::{RowColumn, RowLent, block_bytes, column_at};
 use roff_escape::OpenEscapes;
 use tbl_layout::data_lines::{RuleSign, sign_byte};
 use tbl_layout::entry::{EntryKind, SplitEntry};
+use tbl_layout::rule_keys::entry_at;
+use tbl_lines::row_columns::{RowColumn, RowLent, block_bytes, column_at};
+use tbl_pieces::piece_queue::PieceQueue;
+use tbl_pieces::pieces::Piece;
 use tbl_text::block_parts::{BlockPart, BlockPlace, next_part};
 
 /// Adds a piece where columns are left up to the line's last glyph.
@@ -40,7 +41,7 @@ pub(super) fn end_given(count: usize, glyphs: u32, to: u32) -> u32
 
 impl Walk {
     ghost use Rattle.tbl_picture.specs.Walks.{AtColumn, BeforeLine, InLine, RowSteps, at_word};
-    ghost use Rattle.tbl_picture.specs.Walks.{lent_row, passed};
+    ghost use Rattle.tbl_picture.specs.Walks.{lent_entries, lent_row, passed};
 
     /// A line begins.
     pub(super) fn begin_line(
@@ -87,12 +88,24 @@ impl Walk {
     }
 
     /// The column at which the walk stands.
+    // It is called for each cell.
+    #[inline(always)]
     pub(super) fn column(&self, row: &RowLent<'_>) -> RowColumn
         requires line { InLine (lent_row row.now) self.now }
-        requires left { length self.now.behind < length row.now.entries.now }
+        requires left { length self.now.behind < length (lent_entries row.now) }
         ensures { AtColumn (lent_row row.now) self.now result }
     {
         column_at(row, self.places.as_slice(), self.behind.len())
+    }
+
+    /// What the field of that column is.
+    // It is called for each cell.
+    #[inline(always)]
+    fn kind(&self, row: &RowLent<'_>) -> EntryKind
+        ensures { (held : RowColumn) → AtColumn (lent_row row.now) self.now held
+            → result ≡ held.entry.kind }
+    {
+        entry_at(row.keys, row.entries, self.behind.len()).kind
     }
 
     /// A cell of the line.
@@ -104,13 +117,13 @@ impl Walk {
     )
         requires next { self.old.next ≡ Next.AtCell }
         requires line { InLine (lent_row row.now) self.old }
-        requires left { length self.old.behind < length row.now.entries.now }
+        requires left { length self.old.behind < length (lent_entries row.now) }
         requires room { pieces.old.taken + 4 ≤ pieces.old.room }
         ensures steps { (frame : List ℕ)
             → RowSteps frame (lent_row row.now) self.old self.new pieces.old pieces.new }
         ensures escapes { escapes.new.room ≡ escapes.old.room }
     {
-        match row.entries[self.behind.len()].kind {
+        match self.kind(row) {
             EntryKind::Text(glyphs, width) => self.give_text(pieces, row, glyphs, width),
             EntryKind::Split(split) => self.give_split(pieces, row, split),
             EntryKind::Block(_) => self.begin_block_line(pieces, escapes, row),
@@ -134,7 +147,7 @@ impl Walk {
     fn pass_empty(&mut self, row: &RowLent<'_>)
         requires next { self.old.next ≡ Next.AtCell }
         requires line { InLine (lent_row row.now) self.old }
-        requires left { length self.old.behind < length row.now.entries.now }
+        requires left { length self.old.behind < length (lent_entries row.now) }
         requires empty { (held : RowColumn) → AtColumn (lent_row row.now) self.old held
             → IsEmptyOn row.now.bytes.now self.old.line held }
         ensures { (frame : List ℕ) (pieces : KeptPieces)
@@ -148,7 +161,7 @@ impl Walk {
     fn give_text(&mut self, pieces: &mut PieceQueue, row: &RowLent<'_>, glyphs: u32, width: u32)
         requires next { self.old.next ≡ Next.AtCell }
         requires line { InLine (lent_row row.now) self.old }
-        requires left { length self.old.behind < length row.now.entries.now }
+        requires left { length self.old.behind < length (lent_entries row.now) }
         requires kind { (held : RowColumn) → AtColumn (lent_row row.now) self.old held
             → held.entry.kind ≡ Text glyphs width }
         requires room { pieces.old.taken + 4 ≤ pieces.old.room }
@@ -174,7 +187,7 @@ impl Walk {
     fn give_split(&mut self, pieces: &mut PieceQueue, row: &RowLent<'_>, split: SplitEntry)
         requires next { self.old.next ≡ Next.AtCell }
         requires line { InLine (lent_row row.now) self.old }
-        requires left { length self.old.behind < length row.now.entries.now }
+        requires left { length self.old.behind < length (lent_entries row.now) }
         requires kind { (held : RowColumn) → AtColumn (lent_row row.now) self.old held
             → held.entry.kind ≡ Split split }
         requires room { pieces.old.taken + 4 ≤ pieces.old.room }
@@ -235,7 +248,7 @@ impl Walk {
     )
         requires next { self.old.next ≡ Next.AtCell }
         requires line { InLine (lent_row row.now) self.old }
-        requires left { length self.old.behind < length row.now.entries.now }
+        requires left { length self.old.behind < length (lent_entries row.now) }
         requires kind { (held : RowColumn) → AtColumn (lent_row row.now) self.old held
             → IsBlock held.entry.kind }
         requires room { pieces.old.taken + 4 ≤ pieces.old.room }

@@ -2,23 +2,37 @@
 
 ghost use Rattle.std.specs.Prelude.{◌≡◌, ℕ, ◌+◌, ◌-◌, ◌<◌, ◌≤◌, ◌^◌, List, true, drop, length};
 ghost use Rattle.tbl_format.specs.RowsServed.{all_rows};
-ghost use Rattle.tbl_picture.specs.Pieces.{AreWithin};
+ghost use Rattle.tbl_pieces.specs.Pieces.{AreWithin};
 ghost use Rattle.tbl_picture.specs.RulesWalked.{AreServed, IsRowThere};
 
-use super::rules::{Beside, frame_sign, give_rule, next_behind_rule};
+use super::beside::{Beside, RuleRows};
+use super::rules::{frame_sign, give_rule, next_behind_rule};
 use super::{Next, Walk};
-use crate::picture::Piece;
-use crate::piece_queue::PieceQueue;
-use crate::row_columns::RowLent;
 use roff_escape::OpenEscapes;
 use tbl_format::format_rows::FormatRows;
 use tbl_kept::rows::{Lent, TableRows};
 use tbl_layout::data_lines::RuleSign;
 use tbl_layout::entry::Entry;
+use tbl_lines::row_columns::RowLent;
+use tbl_pieces::piece_queue::PieceQueue;
+use tbl_pieces::pieces::Piece;
+
+/// A row that comes next.
+#[derive(Clone, Copy)]
+pub(super) struct RowNext<'a> {
+    /// The row of the formats that serves it, among all.
+    keys: usize,
+    /// How many rows of rule keys stand directly in front of it.
+    rules: usize,
+    /// Its fields.
+    entries: &'a [Entry],
+}
 
 impl Walk {
-    ghost use Rattle.tbl_picture.specs.ElementsWalked.{CanWalk, FirstFits, IsInRow, RowAtElement};
-    ghost use Rattle.tbl_picture.specs.ElementsWalked.{RuleAtElement, StepsIf, gone_on};
+    ghost use Rattle.tbl_picture.specs.ElementsWalked.{CanWalk, FirstFits, FirstIs, IsInRow};
+    ghost use Rattle.tbl_picture.specs.ElementsWalked.{RowAtElement, RuleAtElement, StepsIf};
+    ghost use Rattle.tbl_picture.specs.ElementsWalked.{gone_on};
+    ghost use Rattle.tbl_lines.specs.RowsWalked.{AreNarrow};
 
     /// The first pieces of the next element, or of a rule that the box adds. Answers whether there
     /// were some to come.
@@ -32,7 +46,8 @@ impl Walk {
         requires element { self.old.element ≤ length rows.now.elements }
         requires served { AreServed (all_rows format.now.format) rows.now.elements }
         requires above { IsRowThere rows.now.elements self.old.above }
-        requires fits { FirstFits self.old.room (drop self.old.element rows.now.elements) }
+        requires fits { FirstFits self.old.room (all_rows format.now.format)
+            (drop self.old.element rows.now.elements) }
         requires room { pieces.old.taken + 4 ≤ pieces.old.room }
         ensures step { (bytes frame : List ℕ)
             → CanWalk bytes (all_rows format.now.format) rows.now self.old
@@ -55,8 +70,13 @@ impl Walk {
                 self.step_at_rule(pieces, rows, format, sign, false);
                 true
             }
-            Lent::Row(_, _, entries) => {
-                self.step_at_row(pieces, rows, format, entries);
+            Lent::Row(keys, rules, _, entries) => {
+                let row = RowNext {
+                    keys,
+                    rules,
+                    entries,
+                };
+                self.step_at_row(pieces, rows, format, row);
                 true
             }
         }
@@ -101,8 +121,9 @@ impl Walk {
         requires served { AreServed (all_rows format.now.format) rows.now.elements }
         requires above { IsRowThere rows.now.elements self.old.above }
         requires room { pieces.old.taken + 4 ≤ pieces.old.room }
-        ensures { (bytes frame : List ℕ) → RuleAtElement bytes frame (all_rows format.now.format)
-            rows.now sign is_last self.old self.new pieces.old pieces.new }
+        ensures { (bytes frame : List ℕ) → AreNarrow rows.now.columns
+            → RuleAtElement bytes frame (all_rows format.now.format) rows.now sign is_last
+            self.old self.new pieces.old pieces.new }
     {
         if self.bars.has_any {
             self.begin_rule(pieces, rows, format, sign, is_last);
@@ -113,26 +134,36 @@ impl Walk {
         }
     }
 
-    /// A row comes next, or a rule in front of it.
+    /// A row comes next, or a rule in front of it, or rows of rule keys.
     fn step_at_row(
         &mut self,
         pieces: &mut PieceQueue,
         rows: &TableRows,
         format: &FormatRows,
-        entries: &[Entry],
+        row: RowNext<'_>,
     )
         requires element { self.old.element ≤ length rows.now.elements }
         requires served { AreServed (all_rows format.now.format) rows.now.elements }
         requires above { IsRowThere rows.now.elements self.old.above }
-        requires fits { length entries.now ≤ self.old.room }
+        requires row { FirstIs row.keys row.rules row.entries.now
+            (drop self.old.element rows.now.elements) }
+        requires fits { FirstFits self.old.room (all_rows format.now.format)
+            (drop self.old.element rows.now.elements) }
         requires room { pieces.old.taken + 4 ≤ pieces.old.room }
-        ensures { (bytes frame : List ℕ) → RowAtElement bytes frame (all_rows format.now.format)
-            rows.now entries.now self.old self.new pieces.old pieces.new }
+        ensures { (bytes frame : List ℕ) → AreNarrow rows.now.columns
+            → RowAtElement bytes frame (all_rows format.now.format) rows.now row.entry.keys
+            row.entry.rules row.entry.entries.now self.old self.new pieces.old pieces.new }
     {
-        if self.rules_between() {
+        if row.rules > 0 {
+            let rules = RuleRows {
+                first: row.keys.saturating_sub(row.rules),
+                count: row.rules,
+            };
+            self.come_to_rule_rows(rows, format, rules);
+        } else if self.rules_between() {
             self.step_at_rule(pieces, rows, format, RuleSign::Single, false);
         } else {
-            self.begin_row(entries);
+            self.begin_row(format.row_of_all(row.keys), row.entries);
         }
     }
 
@@ -156,7 +187,7 @@ impl Walk {
     {
         let _ = rows.count();
         match rows.element(self.element) {
-            Lent::Row(keys, height, entries) => {
+            Lent::Row(keys, _, height, entries) => {
                 let row = RowLent {
                     bars: self.bars,
                     width: self.picture_width,

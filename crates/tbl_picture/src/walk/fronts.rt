@@ -2,24 +2,22 @@
 
 ghost use Rattle.std.specs.Prelude.{◌≡◌, ℕ, ◌+◌, ◌-◌, ◌<◌, ◌≤◌, ◌^◌, true};
 ghost use Rattle.std.specs.Prelude.{List, drop, length};
-ghost use Rattle.std.specs.List.{AllByRecursion};
 ghost use Rattle.std.specs.Prelude.{false, []};
 ghost use Rattle.tbl_layout.specs.Entries.{up_to_last_glyph};
-ghost use Rattle.tbl_layout.specs.KeptEntries.{Lies};
-ghost use Rattle.tbl_picture.specs.RowsLeft.{first_cell, first_of};
-ghost use Rattle.tbl_picture.specs.RowsWalked.{AreGlyphless, AreNarrow, HasGlyph};
-ghost use Rattle.tbl_picture.specs.RowsWalked.{LastHasGlyph};
-ghost use Rattle.tbl_picture.specs.RowsWalked.{PlacesLie};
-ghost use Rattle.tbl_picture.specs.Walks.{lent_row, line_cells, next_behind, next_column};
+ghost use Rattle.tbl_lines.specs.RowsLeft.{first_cell, first_of};
+ghost use Rattle.tbl_lines.specs.RowsWalked.{AreGlyphless, HasGlyph};
+ghost use Rattle.tbl_lines.specs.RowsWalked.{LastHasGlyph};
+ghost use Rattle.tbl_picture.specs.Walks.{CellsLie, lent_row, line_cells, next_behind};
+ghost use Rattle.tbl_picture.specs.Walks.{next_column};
 
 use super::cells::give;
 use super::{Next, Walk};
-use crate::fronts::{Front, front_at};
-use crate::picture::Piece;
-use crate::piece_queue::PieceQueue;
-use crate::row_columns::{RowLent, column_at, count_to_glyph};
 use roff_escape::OpenEscapes;
 use tbl_layout::data_lines::{RuleSign, sign_byte};
+use tbl_lines::fronts::{Front, front_at};
+use tbl_lines::row_columns::{RowLent, column_at, count_to_glyph};
+use tbl_pieces::piece_queue::PieceQueue;
+use tbl_pieces::pieces::Piece;
 use tbl_text::block_parts::BlockPlace;
 
 /// How many cells of a line are given, with what stands in front of them: up to the last that has a
@@ -30,10 +28,7 @@ pub(super) fn count_given(
     places: &[BlockPlace],
     line: u32,
 ) -> usize
-    requires columns { length row.now.entries.now ≤ length row.now.columns.now }
-    requires narrow { AreNarrow row.now.columns.now }
-    requires lie { AllByRecursion (Lies row.now.bytes.now) row.now.entries.now }
-    requires places { PlacesLie row.now.bytes.now row.now.entries.now places.now }
+    requires cells { CellsLie (lent_row row.now) places.now }
     ensures few { result ≤ length (line_cells (lent_row row.now) line places.now) }
     ensures last { LastHasGlyph result (line_cells (lent_row row.now) line places.now) }
     ensures behind { AreGlyphless (drop result (line_cells (lent_row row.now) line places.now)) }
@@ -53,17 +48,14 @@ fn count_to_mark(
     places: &[BlockPlace],
     line: u32,
 ) -> usize
-    requires columns { length row.now.entries.now ≤ length row.now.columns.now }
-    requires narrow { AreNarrow row.now.columns.now }
-    requires lie { AllByRecursion (Lies row.now.bytes.now) row.now.entries.now }
-    requires places { PlacesLie row.now.bytes.now row.now.entries.now places.now }
+    requires cells { CellsLie (lent_row row.now) places.now }
     requires any { row.now.bars.has_any ≡ true }
     ensures few { result ≤ length (line_cells (lent_row row.now) line places.now) }
     ensures last { LastHasGlyph result (line_cells (lent_row row.now) line places.now) }
     ensures behind { AreGlyphless (drop result (line_cells (lent_row row.now) line places.now)) }
     ensures room { escapes.new.room ≡ escapes.old.room }
 {
-    let mut count = row.entries.len() + row.columns.len().max(1) + 1;
+    let mut count = places.len() + row.columns.len().max(1) + 1;
     while count > 0 {
         let last = count - 1;
         if has_mark(escapes, row, places, line, last) {
@@ -83,10 +75,7 @@ fn has_mark(
     line: u32,
     at: usize,
 ) -> bool
-    requires columns { length row.now.entries.now ≤ length row.now.columns.now }
-    requires narrow { AreNarrow row.now.columns.now }
-    requires lie { AllByRecursion (Lies row.now.bytes.now) row.now.entries.now }
-    requires places { PlacesLie row.now.bytes.now row.now.entries.now places.now }
+    requires cells { CellsLie (lent_row row.now) places.now }
     requires any { row.now.bars.has_any ≡ true }
     requires within { at < length (line_cells (lent_row row.now) line places.now) }
     ensures yes { result ≡ true
@@ -96,7 +85,7 @@ fn has_mark(
         (first_of (first_cell (drop at (line_cells (lent_row row.now) line places.now)))) ≡ [] }
     ensures room { escapes.new.room ≡ escapes.old.room }
 {
-    let fields = row.entries.len();
+    let fields = places.len();
     if at > 2 * fields {
         return front_at(row, at - fields).is_some();
     }
@@ -118,7 +107,7 @@ pub(super) fn next_column(has_bars: bool, column: usize) -> Next
 }
 
 impl Walk {
-    ghost use Rattle.tbl_picture.specs.PictureLines.{bars_at, crossed_at};
+    ghost use Rattle.tbl_lines.specs.PictureLines.{bars_at, crossed_at};
     ghost use Rattle.tbl_picture.specs.Walks.{FrontStands, InFront, RowSteps, front_passed};
 
     /// What stands in front of a column, or behind the last.
@@ -202,7 +191,7 @@ impl Walk {
         }
         self.place = place;
         self.width = width;
-        let is_field = self.behind.len() < row.entries.len();
+        let is_field = self.behind.len() < self.places.len();
         self.next = next_behind(is_field, at < row.columns.len().max(1), at);
     }
 }

@@ -4,16 +4,17 @@ ghost use Rattle.std.specs.Prelude.{◌≡◌, ℕ, ◌+◌, ◌<◌, ◌^◌, �
 
 use super::cells::{end_given, give};
 use super::{Next, Walk};
-use crate::picture::Piece;
-use crate::piece_queue::PieceQueue;
-use crate::row_columns::{RowLent, block_bytes};
 use roff_escape::OpenEscapes;
+use tbl_lines::row_columns::{RowLent, block_bytes};
+use tbl_pieces::piece_queue::PieceQueue;
+use tbl_pieces::pieces::Piece;
 use tbl_text::block_lines::{OnLine, next_on_line};
 use tbl_text::block_parts::BlockPlace;
 use tbl_text::block_words::BlockWord;
 
 impl Walk {
-    ghost use Rattle.tbl_picture.specs.Walks.{InLine, InWord, RowEndsOrGoesOn, RowSteps, lent_row};
+    ghost use Rattle.tbl_picture.specs.Walks.{InLine, InWord, RowEndsOrGoesOn, RowSteps};
+    ghost use Rattle.tbl_picture.specs.Walks.{lent_entries, lent_row};
 
     /// A word of a block, whose line is so wide with it, and the blanks in front of the word behind
     /// it, if that goes on with the line.
@@ -37,7 +38,7 @@ impl Walk {
         let block = block_bytes(row.bytes, held.entry);
         let start = held.entry.from as usize + 1;
         let from = start + word.from as usize;
-        match next_on_line(escapes, block, place, width, held.column.measure) {
+        match next_on_line(escapes, block, place, width, u64::from(held.column.measure)) {
             OnLine::Joins(next, wider, behind) => {
                 give(
                     pieces,
@@ -59,7 +60,7 @@ impl Walk {
     pub(super) fn end_line(&mut self, pieces: &mut PieceQueue, row: &RowLent<'_>) -> bool
         requires next { self.old.next ≡ Next.AtCell }
         requires line { InLine (lent_row row.now) self.old }
-        requires all { length self.old.behind ≡ length row.now.entries.now }
+        requires all { length self.old.behind ≡ length (lent_entries row.now) }
         requires small { row.now.height < 2 ^ 32 }
         requires room { pieces.old.taken + 4 ≤ pieces.old.room }
         ensures { (frame : List ℕ) → RowEndsOrGoesOn result frame (lent_row row.now) self.old

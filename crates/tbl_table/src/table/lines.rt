@@ -5,7 +5,7 @@ ghost use Rattle.std.specs.Prelude.{take, true, None};
 ghost use Rattle.roff_source.specs.Bytes.{newline};
 ghost use Rattle.tbl_format.specs.Format.{format_read, no_format};
 ghost use Rattle.tbl_kept.specs.Joined.{behind_joined, ends_joined};
-ghost use Rattle.tbl_format.specs.Options.{options_end};
+ghost use Rattle.tbl_options.specs.Options.{options_end};
 ghost use Rattle.tbl_table.specs.Reading.{bytes_read, line_ended};
 ghost use Rattle.tbl_table.specs.Steps.{ended_with, is_front};
 ghost use Rattle.tbl_table.specs.Table.{columns_at, columns_of};
@@ -18,8 +18,8 @@ use super::Table;
 use crate::begun::Begun;
 use crate::table_steps::{goes_on, is_open, take_keys};
 use tbl_data::phase::Phase;
-use tbl_format::options::{options_end, read_options};
 use tbl_layout::data_lines::ends_row;
+use tbl_options::options::{options_end, read_options};
 
 impl Table {
     /// How many columns of its format are counted once this byte is read.

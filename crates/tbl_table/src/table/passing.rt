@@ -11,7 +11,7 @@ use crate::begun::Begun;
 use crate::table_steps::{end_of_line, tell_head_letters, tell_keys, tell_options};
 use tbl_data::phase::Phase;
 use tbl_data::table_data::{OpenBlock, TableData};
-use tbl_format::options::options_end;
+use tbl_options::options::options_end;
 
 impl Table {
     /// The input has ended within the table: its messages are to tell, those of a line that is

@@ -2,7 +2,7 @@ use Rattle.std.proofs.Common.{◌≡◌, ◌+◌, ◌++◌, ℕ, Option, List, [
 use Rattle.std.proofs.lemmas.List.{drop_all, length-take-le}
 use Rattle.tbl_format.specs.Format.{Format, format_read, if_letter, left_out_behind}
 use Rattle.tbl_format.specs.KeyCounts.{Counts, IsCount}
-use Rattle.tbl_format.specs.Notes.{left_out_note}
+use Rattle.tbl_options.specs.Notes.{left_out_note}
 use Rattle.tbl_format.proofs.FormatReading.{read-more}
 use Rattle.tbl_format.proofs.LeftOut.{letters-more}
 use Rattle.tbl_format.proofs.left_out.push_left_out.Goals as goal

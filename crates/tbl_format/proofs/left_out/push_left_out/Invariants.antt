@@ -1,7 +1,7 @@
 use Rattle.std.proofs.Common.{◌≡◌, ◌+◌, ◌≤◌, ◌++◌, map, take, drop, vec_len, vec_capacity}
 use Rattle.tbl_format.specs.Format.{Format, format_read, left_out_behind, letters_left_out}
 use Rattle.tbl_format.specs.KeyCounts.{Counts, IsCount}
-use Rattle.tbl_format.specs.Notes.{left_out_note}
+use Rattle.tbl_options.specs.Notes.{left_out_note}
 use Rattle.tbl_format.proofs.left_out.push_left_out.Given as goal
 
 abbrev pub invariant-loop-at : goal.invariant-loop-at

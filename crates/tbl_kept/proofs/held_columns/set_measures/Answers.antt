@@ -16,8 +16,8 @@ loop-at-preserved c =
     let in_asked : c.loop-at.at < length c.args.asked.now = omega (arith, c.min-at-end.ensures, c.loop-at-test.true) in
     let in_columns : c.loop-at.at < length c.loop-at.columns = omega (arith, c.min-at-end.ensures, c.loop-at-test.true, c.loop-at.invariant.same) in
     record {
-      done = next-measured c.args.line_length (length c.args.columns.now) c.args.asked.now c.loop-at.columns c.loop-at.at _ _ c.measure.result
-          in_asked in_columns c.measure.ensures.value
+      done = next-measured c.args.line_length (length c.args.columns.now) c.args.asked.now c.loop-at.columns c.loop-at.at _ _ c.measure.result _
+          in_asked in_columns c.measure.ensures.value refl
           ∙ c.loop-at.invariant.done;
       same = length-set c.loop-at.columns c.loop-at.at _ ∙ c.loop-at.invariant.same;
       narrow = next-narrow c.loop-at.columns c.loop-at.at 4294967296 _ in_columns c.measure.ensures.narrow c.loop-at.invariant.narrow;

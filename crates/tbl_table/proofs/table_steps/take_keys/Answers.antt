@@ -1,7 +1,7 @@
 use Rattle.std.proofs.Common.{length, map, ap, arith, length-append}
 use Rattle.std.proofs.lemmas.List.{length-map}
 use Rattle.tbl_format.specs.Format.{letters_left_out}
-use Rattle.tbl_format.specs.Notes.{left_out_note}
+use Rattle.tbl_options.specs.Notes.{left_out_note}
 use Rattle.tbl_kept.specs.TableNotes.{KeptNotes}
 use Rattle.tbl_format.proofs.LeftOut.{letters-few}
 use Rattle.tbl_table.proofs.table_steps.take_keys.Goals as goal

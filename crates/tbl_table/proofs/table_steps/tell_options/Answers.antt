@@ -1,6 +1,6 @@
 use Rattle.std.proofs.Common.{◌≡◌, ◌-◌, ◌++◌, ℕ, List, Option, map, take, sym, ap, ◌∙◌, arith}
-use Rattle.tbl_format.specs.Notes.{ignored_message, told_at, told_of_all}
-use Rattle.tbl_format.specs.Options.{ignored_options}
+use Rattle.tbl_options.specs.Notes.{ignored_message, told_at, told_of_all}
+use Rattle.tbl_options.specs.Options.{ignored_options}
 use Rattle.tbl_table.specs.Steps.{options_told}
 use Rattle.tbl_table.proofs.table_steps.tell_options.Goals as goal
 

@@ -13,6 +13,6 @@ returns c = record {
       let d = c.args.self.now in
       let format = c.begin_further.ensures in
       let keys : c.earlier_rows-self.result ≡ length (all_rows d.format.format) = c.earlier_rows-self.ensures ∙ ap (λ (f : KeptFormat). length f.format.earlier) format in
-      subst (λ (f : KeptFormat). Makes k line 0 (made_by Formats k line) InFormat d (record d { format = f; keys = c.earlier_rows-self.result })) (sym format)
+      subst (λ (f : KeptFormat). Makes k line 0 (made_by Formats k line) InFormat d (record d { format = f; keys = c.earlier_rows-self.result; rules = 0 })) (sym format)
       (formats-follow k line d fits closed c.earlier_rows-self.result keys);
 }

@@ -15,4 +15,4 @@ returns-in-Kept-clause-made c k lies plain fits behind =
     (extends-kept k c.args.line lies plain d fits c.in-Kept.is behind)
 
 pub returns-in-Dropped-clause-made : goal.returns-in-Dropped-clause-made
-returns-in-Dropped-clause-made c k lies plain fits behind = extends-dropped k c.args.line lies plain c.args.self.now fits c.in-Dropped.is
+returns-in-Dropped-clause-made c k lies plain fits behind = extends-dropped k c.args.line lies plain c.args.self.now fits _ c.in-Dropped.is

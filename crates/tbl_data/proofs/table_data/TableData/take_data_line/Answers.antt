@@ -1,4 +1,4 @@
-use Rattle.std.proofs.Common.{◌≡◌, ◌+◌, ◌-◌, ℕ, List, sym, ap, arith, ◌∙◌}
+use Rattle.std.proofs.Common.{◌≡◌, ◌+◌, ◌-◌, ℕ, List, sym, ap, ◌∙◌}
 use Rattle.std.specs.List.{slice_range}
 use Rattle.tbl_data.proofs.LineSteps.{kind-line, none-kept, row-line}
 use Rattle.tbl_kept.specs.TableText.{block_of}

@@ -1,13 +1,13 @@
 use Rattle.std.proofs.Common.{◌≡◌, ◌+◌, ◌-◌, ◌<◌, ℕ, List, true, false, length, subst, sym, ap, ◌∙◌, arith}
 use Rattle.std.specs.List.{slice_range}
-use Rattle.tbl_data.specs.LineTaken.{Makes, TakesField, RowFits, fields_made, last_made}
+use Rattle.tbl_data.specs.LineTaken.{Makes, TakesField, RowFits, fields_made, key_next, last_made}
 use Rattle.tbl_data.specs.TableRead.{bad}
 use Rattle.tbl_data.specs.declared.table_data.TableData.{TableData}
 use Rattle.tbl_data.proofs.LineFields.{fields-end, fields-last, fields-next, fields-unbuilt}
 use Rattle.tbl_kept.specs.Joined.{ends_joined, line_at}
 use Rattle.tbl_kept.specs.TableText.{KeptText, block_of}
 use Rattle.tbl_layout.proofs.Fields.{field_len, length-part}
-use Rattle.tbl_layout.specs.DataLines.{is_laid_out}
+use Rattle.tbl_layout.specs.DataLines.{is_laid_out, kind_under}
 use Rattle.tbl_data.proofs.table_data.TableData.take_fields.Goals as goal
 
 pub returns-then-end-line-clause-made : goal.returns-then-end-line-clause-made
@@ -47,8 +47,8 @@ returns-then-not-is_laid_out-clause-made c =
     (c.take_field-is_laid_out.ensures.same c.if-not-is_laid_out.true) told in
     let column : length now.rows.row < length now.format.format.asked = omega (arith, c.loop-text-test.true, c.row_len.ensures, c.columns.ensures) in
     let more : at + c.field_len.result < line.to = omega (arith, c.if-end-line.false, c.field_len.ensures.within, ap (λ (b : List ℕ). length (slice_range b at line.to)) (c.block.ensures ∙ ap block_of text), length-part (block_of k) at line.to so_far.within c.requires.lies.within) in
-    let unbuilt : is_laid_out (slice_range (block_of k) at (at + c.field_len.result)) ≡ false =
-    ap (λ (t : KeptText). is_laid_out (slice_range (block_of t) at (at + c.field_len.result))) (sym text) ∙ sym c.take_field-is_laid_out.ensures.laid ∙ c.if-not-is_laid_out.true in
+    let unbuilt : is_laid_out (kind_under (key_next now) (slice_range (block_of k) at (at + c.field_len.result))) ≡ false =
+    ap (λ (t : KeptText). is_laid_out (kind_under (key_next now) (slice_range (block_of t) at (at + c.field_len.result)))) (sym text) ∙ sym c.take_field-is_laid_out.ensures.laid ∙ c.if-not-is_laid_out.true in
     fields-unbuilt k line c.args.first at had c.args.self.now now so_far c.requires.lies c.field_len.result len column more phase new unbuilt made
 
 pub take_field-is_laid_out-requires-clause-fits : goal.take_field-is_laid_out-requires-clause-fits
@@ -68,8 +68,8 @@ loop-text-preserved c =
     c.field_len.ensures.value ∙ ap (λ (b : List ℕ). field_len line.separator (slice_range b at line.to)) (c.block.ensures ∙ ap block_of text) in
     let column : length now.rows.row < length now.format.format.asked = omega (arith, c.loop-text-test.true, c.row_len.ensures, c.columns.ensures) in
     let more : at + c.field_len.result < line.to = omega (arith, c.if-end-line.false, c.field_len.ensures.within, ap (λ (b : List ℕ). length (slice_range b at line.to)) (c.block.ensures ∙ ap block_of text), length-part (block_of k) at line.to so_far.within c.requires.lies.within) in
-    let laid : is_laid_out (slice_range (block_of k) at (at + c.field_len.result)) ≡ true =
-    ap (λ (t : KeptText). is_laid_out (slice_range (block_of t) at (at + c.field_len.result))) (sym text) ∙ sym c.take_field-is_laid_out.ensures.laid ∙ c.if-not-is_laid_out.false in
+    let laid : is_laid_out (kind_under (key_next now) (slice_range (block_of k) at (at + c.field_len.result))) ≡ true =
+    ap (λ (t : KeptText). is_laid_out (kind_under (key_next now) (slice_range (block_of t) at (at + c.field_len.result)))) (sym text) ∙ sym c.take_field-is_laid_out.ensures.laid ∙ c.if-not-is_laid_out.false in
     let taken = subst (λ (t : KeptText). TakesField t line at (at + c.field_len.result) now c.take_field-is_laid_out.new.self) text (c.take_field-is_laid_out.ensures.taken c.if-not-is_laid_out.false) in
     record {
       text = c.take_field-is_laid_out.ensures.text ∙ text;

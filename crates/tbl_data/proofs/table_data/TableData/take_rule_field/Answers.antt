@@ -1,4 +1,4 @@
-use Rattle.std.proofs.Common.{◌-◌, sym, subst, ap, ◌∙◌}
+use Rattle.std.proofs.Common.{sym, subst, ap, ◌∙◌}
 use Rattle.tbl_data.specs.LineTaken.{TakesField}
 use Rattle.tbl_data.proofs.RulesKept.{takes-rule}
 use Rattle.tbl_kept.specs.Rows.{KeptRows, with_entry}

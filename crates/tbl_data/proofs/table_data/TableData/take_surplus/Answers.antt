@@ -6,7 +6,7 @@ use Rattle.tbl_data.proofs.LineFields.{surplus-ends, surplus-fits, surplus-opens
 use Rattle.tbl_kept.specs.TableText.{block_of}
 use Rattle.tbl_layout.specs.Data.{fields}
 use Rattle.tbl_layout.specs.DataLines.{ends_in_block}
-use Rattle.tbl_data.proofs.RowSteps.{row-opened}
+use Rattle.tbl_data.proofs.RowSteps.{row-opened, rules-in-front}
 use Rattle.tbl_data.proofs.table_data.TableData.take_surplus.Goals as goal
 
 pub returns-then-ends_in_block-clause-made : goal.returns-then-ends_in_block-clause-made
@@ -46,3 +46,6 @@ returns-else-ends_in_block-clause-made c =
 
 pub end_row-requires-clause-opened : goal.end_row-requires-clause-opened
 end_row-requires-clause-opened c = row-opened (block_of c.args.text.now) c.args.self.now c.requires.fits
+
+pub end_row-requires-clause-rules : goal.end_row-requires-clause-rules
+end_row-requires-clause-rules c = rules-in-front (block_of c.args.text.now) c.args.self.now c.requires.fits

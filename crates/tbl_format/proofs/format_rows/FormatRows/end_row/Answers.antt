@@ -3,7 +3,7 @@ use Rattle.tbl_format.specs.Format.{Format}
 use Rattle.tbl_format.specs.FormatRows.{KeptFormat}
 use Rattle.tbl_format.specs.Parts.{last_end}
 use Rattle.tbl_format.proofs.FormatBlocks.{format-whole}
-use Rattle.tbl_format.proofs.Parts.{EndWithin-append, EndWithin-count, EndWithin-last, last_end-append}
+use Rattle.tbl_format.proofs.Parts.{AreFew-append, EndWithin-append, EndWithin-count, EndWithin-last, last_end-append}
 use Rattle.tbl_format.proofs.format_rows.FormatRows.end_row.Goals as goal
 
 pub push_reserved-requires : goal.push_reserved-requires
@@ -42,6 +42,8 @@ invariant_of-self c =
       ends = rw items (EndWithin-append (length old.keys.items) 0 old.ends.items some before.ends);
       bars = omega (arith, before.bars, ap length items, ap length bars.ensures.items, longer, length-append old.row_bars.items (old.bars ∷ []));
       first = omega (arith, before.first, ap length items, longer);
+      short = rw items (AreFew-append (length old.asked.items) (length old.keys.items) 0 old.ends.items
+          (omega (arith, before.row, length-drop (last_end 0 old.ends.items) old.keys.items)) before.short);
       row = rw (items, last_end-append 0 (length old.keys.items) old.ends.items) none;
     }
 

@@ -4,7 +4,7 @@ use Rattle.tbl_format.specs.FormatRows.{KeptFormat}
 use Rattle.tbl_format.specs.Parts.{last_end}
 use Rattle.tbl_format.proofs.FormatBlocks.{format-key, key_count-all, row-key}
 use Rattle.tbl_format.proofs.KeyCounting.{length-with_columns}
-use Rattle.tbl_format.proofs.Parts.{EndWithin-more}
+use Rattle.tbl_format.proofs.Parts.{AreFew-more, EndWithin-more}
 use Rattle.tbl_format.proofs.format_rows.FormatRows.push_key.Goals as goal
 
 pub push_reserved-requires : goal.push_reserved-requires
@@ -36,6 +36,7 @@ invariant_of-self c =
       ends = EndWithin-more (length old.keys.items) _ 0 old.ends.items (omega (arith, longer, len)) before.ends;
       bars = before.bars;
       first = before.first;
+      short = AreFew-more (length old.asked.items) _ 0 old.ends.items (omega (arith, columns, more)) before.short;
       row = rw items (omega (arith, begun, one, columns, more, row));
     }
 

@@ -87,4 +87,4 @@ returns-in-Row-clause-value c =
     c.index.result.now a.columns.items c.fill_fields-height.new.columns a.entry_room a.element_room a.column_room c.fill_fields-height.result c.args.bytes.now formats more is
     c.self.invariant.rows (part-changed a.entries.items part r.from r.to row.order within len) c.fill_fields-height.ensures.height
     (rw (c.as_mut_slice.ensures.value, c.as_mut_slice-in-Row.ensures.value) at c.fill_fields-height.ensures.entries)
-    (rw (c.as_mut_slice.ensures.value, c.as_mut_slice-in-Row.ensures.value, c.row_of_all-keys.ensures) at cols))
+    (rw (c.as_mut_slice.ensures.value, c.as_mut_slice-in-Row.ensures.value, c.row_of_all-keys.ensures.keys) at cols))

@@ -1,6 +1,6 @@
 use Rattle.std.proofs.Common.{rules, ◌≡◌, ◌<◌, List, get_or, ap, arith}
 use Rattle.tbl_kept.specs.TableNotes.{KeptNotes}
-use Rattle.tbl_format.specs.declared.notes.KeptNote.{KeptNote}
+use Rattle.tbl_options.specs.declared.notes.KeptNote.{KeptNote}
 use Rattle.tbl_format.proofs.Slices.{slice_range-more}
 use Rattle.tbl_kept.proofs.table_notes.TableNotes.next.Goals as goal
 

@@ -1,7 +1,7 @@
 use Rattle.std.proofs.Common.{◌++◌, List, length, map, ap, arith, length-append}
 use Rattle.tbl_format.specs.Format.{letters_left_out}
-use Rattle.tbl_format.specs.Notes.{left_out_note}
-use Rattle.tbl_format.specs.declared.notes.KeptNote.{KeptNote}
+use Rattle.tbl_options.specs.Notes.{left_out_note}
+use Rattle.tbl_options.specs.declared.notes.KeptNote.{KeptNote}
 use Rattle.tbl_kept.specs.TableNotes.{KeptNotes}
 use Rattle.tbl_format.proofs.KeyCounting.{counted, counted-is}
 use Rattle.tbl_format.proofs.Parts.{slice_range-append}

@@ -3,10 +3,10 @@ use Rattle.std.specs.List.{slice_range}
 use Rattle.tbl_format.proofs.Parts.{length-slice_range}
 use Rattle.tbl_kept.specs.TableText.{block_of}
 use Rattle.tbl_picture.specs.Giving.{KeptGiving, last_piece, with_newline}
-use Rattle.tbl_picture.specs.PieceQueue.{bytes_left}
-use Rattle.tbl_picture.specs.Pieces.{AreWithin, bytes_of, piece_len}
-use Rattle.tbl_picture.specs.declared.picture.Piece.{Piece}
-use Rattle.tbl_picture.proofs.Adding.{adds-more}
+use Rattle.tbl_pieces.specs.PieceQueue.{bytes_left}
+use Rattle.tbl_pieces.specs.Pieces.{AreWithin, bytes_of, piece_len}
+use Rattle.tbl_pieces.specs.declared.pieces.Piece.{Piece}
+use Rattle.tbl_pieces.proofs.Adding.{adds-more}
 use Rattle.tbl_picture.proofs.GivingLeft.{ending, last-len, newline-last}
 use Rattle.tbl_picture.proofs.giving.Giving.add_end.Goals as goal
 

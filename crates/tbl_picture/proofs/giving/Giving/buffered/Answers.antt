@@ -2,7 +2,7 @@ use Rattle.std.proofs.Common.{refl}
 use Rattle.tbl_format.specs.Parts.{IsFront}
 use Rattle.tbl_kept.specs.TableText.{block_of}
 use Rattle.tbl_picture.specs.Giving.{KeptGiving}
-use Rattle.tbl_picture.specs.PieceQueue.{bytes_left}
+use Rattle.tbl_pieces.specs.PieceQueue.{bytes_left}
 use Rattle.tbl_picture.proofs.GivingLeft.{front-more, some_coming}
 use Rattle.tbl_picture.proofs.giving.Giving.buffered.Goals as goal
 

@@ -1,7 +1,7 @@
 use Rattle.std.proofs.Common.{ℕ, ◌<◌, List, length, ap, arith}
 use Rattle.std.proofs.lemmas.List.{length-take}
-use Rattle.tbl_picture.specs.Pieces.{some_piece}
-use Rattle.tbl_picture.specs.declared.picture.Piece.TheVariants.{Frame}
+use Rattle.tbl_pieces.specs.Pieces.{some_piece}
+use Rattle.tbl_pieces.specs.declared.pieces.Piece.TheVariants.{Frame}
 use Rattle.tbl_format.specs.RowsServed.{all_rows}
 use Rattle.tbl_kept.specs.TableText.{block_of}
 use Rattle.tbl_picture.specs.Giving.{KeptGiving}

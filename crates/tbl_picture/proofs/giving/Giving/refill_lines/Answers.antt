@@ -1,8 +1,8 @@
 use Rattle.std.proofs.Common.{◌≡◌, ℕ, Bool, ◌+◌, ◌≤◌, ◌++◌, List, [], drop, ap, refl, sym, subst, ◌∙◌, arith, append-nil}
 use Rattle.tbl_kept.specs.TableText.{block_of}
 use Rattle.tbl_picture.specs.Giving.{KeptGiving, lines_left, with_newline}
-use Rattle.tbl_picture.specs.PieceQueue.{KeptPieces, bytes_left}
-use Rattle.tbl_picture.specs.Pieces.{AreWithin}
+use Rattle.tbl_pieces.specs.PieceQueue.{KeptPieces, bytes_left}
+use Rattle.tbl_pieces.specs.Pieces.{AreWithin}
 use Rattle.tbl_picture.specs.Walks.{KeptWalk}
 use Rattle.tbl_picture.proofs.GivingLeft.{following-lines, newline-append}
 use Rattle.tbl_picture.proofs.giving.Giving.refill_lines.Goals as goal

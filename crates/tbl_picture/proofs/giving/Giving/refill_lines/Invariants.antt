@@ -2,8 +2,8 @@ use Rattle.std.proofs.Common.{◌≡◌, ◌++◌, ◌≤◌, length}
 use Rattle.tbl_format.specs.RowsServed.{all_rows}
 use Rattle.tbl_kept.specs.TableText.{block_of}
 use Rattle.tbl_picture.specs.Giving.{lines_left}
-use Rattle.tbl_picture.specs.PieceQueue.{bytes_left}
-use Rattle.tbl_picture.specs.Pieces.{AreWithin}
+use Rattle.tbl_pieces.specs.PieceQueue.{bytes_left}
+use Rattle.tbl_pieces.specs.Pieces.{AreWithin}
 use Rattle.tbl_picture.specs.ElementsWalked.{CanWalk, steps_left}
 use Rattle.tbl_picture.specs.declared.giving.Rest.TheVariants.{Lines}
 use Rattle.tbl_picture.proofs.giving.Giving.refill_lines.Given as goal

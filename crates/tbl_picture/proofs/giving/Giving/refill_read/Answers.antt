@@ -2,7 +2,7 @@ use Rattle.std.proofs.Common.{◌≡◌, length, ap, refl, ◌∙◌}
 use Rattle.std.proofs.lemmas.List.{drop_all}
 use Rattle.tbl_picture.specs.Giving.{KeptGiving, last_piece}
 use Rattle.tbl_picture.proofs.GivingLeft.{CanGive-joint, CanGive-last, coming-joint, coming-last}
-use Rattle.tbl_picture.proofs.PiecesLeft.{drop-at}
+use Rattle.tbl_pieces.proofs.PiecesLeft.{drop-at}
 use Rattle.tbl_picture.proofs.giving.Giving.refill_read.Goals as goal
 
 pub returns-in-Some-clause-can : goal.returns-in-Some-clause-can

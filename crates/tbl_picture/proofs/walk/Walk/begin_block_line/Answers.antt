@@ -1,9 +1,9 @@
 use Rattle.std.proofs.Common.{◌≡◌, ℕ, ◌+◌, ◌-◌, List, [], ◌∷◌, ◌++◌, replicate, sym, ap, subst, ◌∙◌, arith}
 use Rattle.std.proofs.lemmas.List.{length-replicate}
 use Rattle.roff_source.specs.Bytes.{blank}
-use Rattle.tbl_picture.specs.RowsLeft.{if_given}
+use Rattle.tbl_lines.specs.RowsLeft.{if_given}
 use Rattle.tbl_picture.specs.Walks.{AtColumn, KeptWalk, RowSteps, at_word, kept_by, lent_row, passed}
-use Rattle.tbl_picture.proofs.Adding.{adds-fewer, adds-more}
+use Rattle.tbl_pieces.proofs.Adding.{adds-fewer, adds-more}
 use Rattle.tbl_picture.proofs.WordSteps.{begun-steps, empty-steps, ended-steps}
 use Rattle.tbl_picture.proofs.walk.Walk.begin_block_line.Goals as goal
 use Rattle.tbl_text.specs.BlockPlaces.{IsWithin, LiesBehind, PartLies, part_at, parts_at, word_at}

@@ -1,8 +1,8 @@
 use Rattle.std.proofs.Common.{◌≤◌, List, refl, sym, ap, subst, ◌∙◌, drop, length, codes, arith}
-use Rattle.tbl_picture.specs.PictureLines.{Cell}
-use Rattle.tbl_picture.specs.RowsWalked.{AreGlyphless, LastHasGlyph}
+use Rattle.tbl_lines.specs.PictureLines.{Cell}
+use Rattle.tbl_lines.specs.RowsWalked.{AreGlyphless, LastHasGlyph}
 use Rattle.tbl_picture.specs.Walks.{BeforeLine, KeptWalk, RowSteps, kept_by, lent_row, line_cells, next_column}
-use Rattle.tbl_picture.proofs.Adding.{adds-fewer}
+use Rattle.tbl_pieces.proofs.Adding.{adds-fewer}
 use Rattle.tbl_picture.proofs.LineSteps.{begun-line}
 use Rattle.tbl_picture.proofs.walk.Walk.begin_line.Goals as goal
 use Rattle.tbl_picture.specs.declared.walk.Next.{Next}

@@ -1,5 +1,5 @@
 use Rattle.std.proofs.Common.{◌≡◌, ◌<◌, ℕ, suc, List, ◌∷◌, length, drop, sym, ap, subst, arith}
-use Rattle.tbl_picture.specs.RowsLeft.{row_columns}
+use Rattle.tbl_lines.specs.RowsLeft.{row_columns}
 use Rattle.tbl_picture.specs.Walks.{AtColumn, InLine, KeptWalk, kept_by, lent_row}
 use Rattle.tbl_picture.proofs.ColumnSteps.{at-column, column-there}
 use Rattle.tbl_picture.proofs.walk.Walk.column.Goals as goal

@@ -4,7 +4,7 @@ use Rattle.roff_source.specs.Bytes.{newline}
 use Rattle.tbl_picture.specs.Walks.{InLine, KeptWalk, RowEndsOrGoesOn, kept_by, lent_row}
 use Rattle.tbl_picture.specs.declared.walk.Next.TheVariants.{AtLine}
 use Rattle.tbl_text.specs.declared.block_parts.BlockPlace.{BlockPlace}
-use Rattle.tbl_picture.proofs.Adding.{adds-fewer}
+use Rattle.tbl_pieces.proofs.Adding.{adds-fewer}
 use Rattle.tbl_picture.proofs.LineSteps.{ended-by}
 use Rattle.tbl_picture.proofs.walk.Walk.end_line.Goals as goal
 

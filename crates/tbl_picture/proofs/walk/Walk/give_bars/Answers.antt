@@ -1,10 +1,10 @@
 use Rattle.std.proofs.Common.{◌≡◌, ◌+◌, ◌-◌, ◌++◌, replicate, refl, sym, ap, subst, ◌∙◌, arith}
 use Rattle.std.proofs.lemmas.List.{length-replicate}
 use Rattle.roff_source.specs.Bytes.{blank}
-use Rattle.tbl_picture.specs.PictureLines.{bar, bars_at}
-use Rattle.tbl_picture.specs.RowsLeft.{if_given}
+use Rattle.tbl_lines.specs.PictureLines.{bar, bars_at}
+use Rattle.tbl_lines.specs.RowsLeft.{if_given}
 use Rattle.tbl_picture.specs.Walks.{FrontStands, KeptWalk, RowSteps, front_passed, kept_by, lent_row}
-use Rattle.tbl_picture.proofs.Adding.{adds-fewer, adds-more}
+use Rattle.tbl_pieces.proofs.Adding.{adds-fewer, adds-more}
 use Rattle.tbl_picture.proofs.FrontSteps.{bars-steps}
 use Rattle.tbl_picture.proofs.walk.Walk.give_bars.Goals as goal
 

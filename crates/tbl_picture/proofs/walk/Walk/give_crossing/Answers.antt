@@ -2,11 +2,11 @@ use Rattle.std.proofs.Common.{◌≡◌, ℕ, ◌+◌, ◌-◌, ◌++◌, replic
 use Rattle.std.proofs.lemmas.List.{length-replicate}
 use Rattle.roff_source.specs.Bytes.{blank}
 use Rattle.tbl_layout.specs.DataLines.{sign_byte}
-use Rattle.tbl_picture.specs.PictureLines.{crossed_at, crossing}
-use Rattle.tbl_picture.specs.PieceQueue.{Adds}
-use Rattle.tbl_picture.specs.RowsLeft.{if_given}
+use Rattle.tbl_lines.specs.PictureLines.{crossed_at, crossing}
+use Rattle.tbl_pieces.specs.PieceQueue.{Adds}
+use Rattle.tbl_lines.specs.RowsLeft.{if_given}
 use Rattle.tbl_picture.specs.Walks.{FrontStands, KeptWalk, RowSteps, front_passed, kept_by, lent_row}
-use Rattle.tbl_picture.proofs.Adding.{adds-fewer, adds-more}
+use Rattle.tbl_pieces.proofs.Adding.{adds-fewer, adds-more}
 use Rattle.tbl_picture.proofs.FrontSteps.{crossing-steps}
 use Rattle.tbl_picture.proofs.walk.Walk.give_crossing.Goals as goal
 

@@ -1,9 +1,9 @@
 use Rattle.std.proofs.Common.{◌≡◌, ◌≢◌, ℕ, suc, ◌∷◌, drop, sym, ap, subst}
-use Rattle.tbl_picture.specs.PictureLines.{bars_at, crossed_at, nothing_there}
-use Rattle.tbl_picture.specs.RowsLeft.{cell_of_front, fronts_by}
-use Rattle.tbl_picture.specs.RowsWalked.{HasBars}
+use Rattle.tbl_lines.specs.PictureLines.{bars_at, crossed_at, nothing_there}
+use Rattle.tbl_lines.specs.RowsLeft.{cell_of_front, fronts_by}
+use Rattle.tbl_lines.specs.RowsWalked.{HasBars}
 use Rattle.tbl_picture.specs.Walks.{KeptWalk, RowSteps, WalkedRow, front_passed, lent_row}
-use Rattle.tbl_picture.specs.declared.fronts.Front.{Front}
+use Rattle.tbl_lines.specs.declared.fronts.Front.{Front}
 use Rattle.tbl_picture.proofs.FrontSteps.{front-stands, nothing-steps, stands-late}
 use Rattle.tbl_picture.proofs.walk.Walk.give_front.Goals as goal
 

@@ -1,16 +1,16 @@
 use Rattle.std.proofs.Common.{◌≡◌, ◌≢◌, ℕ, ◌+◌, ◌-◌, List, [], ◌∷◌, ◌++◌, replicate, sym, ap, subst, ◌∙◌, arith}
 use Rattle.std.proofs.lemmas.List.{length-replicate}
 use Rattle.roff_source.specs.Bytes.{blank}
-use Rattle.tbl_picture.specs.PictureLines.{repeated}
-use Rattle.tbl_picture.specs.PieceQueue.{Adds}
-use Rattle.tbl_picture.specs.RowsLeft.{begins_at, cell_left, if_given}
-use Rattle.tbl_picture.specs.RowsWalked.{HasGlyph, LastHasGlyph}
+use Rattle.tbl_lines.specs.PictureLines.{repeated}
+use Rattle.tbl_pieces.specs.PieceQueue.{Adds}
+use Rattle.tbl_lines.specs.RowsLeft.{begins_at, cell_left, if_given}
+use Rattle.tbl_lines.specs.RowsWalked.{HasGlyph, LastHasGlyph}
 use Rattle.tbl_picture.specs.Walks.{AtColumn, KeptWalk, RowSteps, kept_by, lent_row, passed}
-use Rattle.tbl_picture.proofs.Adding.{adds-fewer, adds-more}
+use Rattle.tbl_pieces.proofs.Adding.{adds-fewer, adds-more}
 use Rattle.tbl_picture.proofs.CellSteps.{none-steps, run-steps}
-use Rattle.tbl_picture.proofs.CellsGiven.{repeated-first, repeated-last, repeated-late, repeated-moved}
+use Rattle.tbl_lines.proofs.CellsGiven.{repeated-first, repeated-last, repeated-late, repeated-moved}
 use Rattle.tbl_picture.proofs.ColumnSteps.{cells-first, cells_behind}
-use Rattle.tbl_picture.proofs.RunsGiven.{glyph-first}
+use Rattle.tbl_lines.proofs.RunsGiven.{glyph-first}
 use Rattle.tbl_picture.proofs.walk.Walk.give_repeated.Goals as goal
 
 pub returns-then-self-ne0 : goal.returns-then-self-ne0

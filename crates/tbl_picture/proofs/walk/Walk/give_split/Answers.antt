@@ -2,12 +2,12 @@ use Rattle.std.proofs.Common.{◌≡◌, ◌≢◌, ℕ, ◌+◌, ◌-◌, ◌�
 use Rattle.std.specs.List.{slice_range}
 use Rattle.std.proofs.lemmas.List.{length-replicate}
 use Rattle.roff_source.specs.Bytes.{blank}
-use Rattle.tbl_picture.specs.PieceQueue.{Adds}
-use Rattle.tbl_picture.specs.RowsLeft.{begins_at, if_given, split_run}
+use Rattle.tbl_pieces.specs.PieceQueue.{Adds}
+use Rattle.tbl_lines.specs.RowsLeft.{begins_at, if_given, split_run}
 use Rattle.tbl_picture.specs.Walks.{AtColumn, KeptWalk, RowSteps, kept_by, lent_row, passed}
-use Rattle.tbl_picture.proofs.Adding.{adds-fewer, adds-more}
+use Rattle.tbl_pieces.proofs.Adding.{adds-fewer, adds-more}
 use Rattle.tbl_picture.proofs.CellSteps.{end-within, run-steps}
-use Rattle.tbl_picture.proofs.CellsGiven.{split-first, split-last, split-late, split-moved}
+use Rattle.tbl_lines.proofs.CellsGiven.{split-first, split-last, split-late, split-moved}
 use Rattle.tbl_picture.proofs.walk.Walk.give_split.Goals as goal
 use Rattle.tbl_text.proofs.BlockSlices.{length-slice_range}
 

@@ -3,12 +3,12 @@ use Rattle.std.specs.List.{slice_range}
 use Rattle.std.proofs.lemmas.List.{length-replicate}
 use Rattle.roff_source.specs.Bytes.{blank}
 use Rattle.tbl_layout.specs.declared.entry.Entry.{Entry}
-use Rattle.tbl_picture.specs.PieceQueue.{Adds}
-use Rattle.tbl_picture.specs.RowsLeft.{begins_at, cell_left, first_of, if_given, text_run}
+use Rattle.tbl_pieces.specs.PieceQueue.{Adds}
+use Rattle.tbl_lines.specs.RowsLeft.{begins_at, cell_left, first_of, if_given, text_run}
 use Rattle.tbl_picture.specs.Walks.{AtColumn, KeptWalk, RowSteps, kept_by, lent_row, passed}
-use Rattle.tbl_picture.proofs.Adding.{adds-fewer, adds-more}
+use Rattle.tbl_pieces.proofs.Adding.{adds-fewer, adds-more}
 use Rattle.tbl_picture.proofs.CellSteps.{end-within, run-steps}
-use Rattle.tbl_picture.proofs.CellsGiven.{text-empty, text-first, text-last, text-late, text-moved}
+use Rattle.tbl_lines.proofs.CellsGiven.{text-empty, text-first, text-last, text-late, text-moved}
 use Rattle.tbl_picture.proofs.ColumnSteps.{entry-there}
 use Rattle.tbl_picture.proofs.walk.Walk.give_text.Goals as goal
 use Rattle.tbl_picture.proofs.walk.Walk.give_text.Goals.{then-self-ne0-via-then-self-ne0, then-self-ne0-via-else-self-ne0+then-held}

@@ -2,12 +2,12 @@ use Rattle.std.proofs.Common.{◌≡◌, ℕ, ◌+◌, ◌≤◌, ◌<◌, List,
 use Rattle.std.specs.List.{slice_range}
 use Rattle.std.proofs.lemmas.List.{length-replicate}
 use Rattle.roff_source.specs.Bytes.{blank}
-use Rattle.tbl_picture.specs.RowsLeft.{block_text, given, if_given, one_less}
+use Rattle.tbl_lines.specs.RowsLeft.{block_text, given, if_given, one_less}
 use Rattle.tbl_picture.specs.Walks.{AtColumn, InWord, KeptWalk, RowSteps, at_word, columns_walked, kept_by, lent_row, passed}
-use Rattle.tbl_picture.proofs.Adding.{adds-fewer, adds-more}
+use Rattle.tbl_pieces.proofs.Adding.{adds-fewer, adds-more}
 use Rattle.tbl_picture.proofs.CellSteps.{end-within}
 use Rattle.tbl_picture.proofs.ColumnSteps.{cells_behind}
-use Rattle.tbl_picture.proofs.RowColumns.{length-row_columns}
+use Rattle.tbl_lines.proofs.RowColumns.{length-row_columns}
 use Rattle.tbl_picture.proofs.WordsGiven.{end-some, ends-steps, joins-steps, some-left, stands-at, word-in, word-last, word-within}
 use Rattle.tbl_picture.proofs.walk.Walk.give_word.Goals as goal
 use Rattle.tbl_text.proofs.BlockSlices.{length-slice_range}
@@ -40,6 +40,8 @@ returns-in-Joins-clause-steps c = λ frame.
     let arm = c.in-Joins in
     let value = c.block_bytes-block.ensures.value in
     let m = r.column.measure in
+    let block = c.block_bytes-block.result.now in
+    let measure_is : c.from.result ≡ m = c.from.ensures in
     let from = r.entry.from + 1 + word.from in
     let to = r.entry.from + 1 + word.to in
     let some = stands.lies.some in
@@ -54,8 +56,11 @@ returns-in-Joins-clause-steps c = λ frame.
     (c.give.ensures.adds row.bytes frame (length-slice_range row.bytes from to (word-within row.bytes r.entry word.to at.lies some within)))
     (c.give-in-Joins.ensures.adds row.bytes frame (length-replicate arm.next.gap blank))) in
     let steps = joins-steps row w r at word c.args.width c.args.place next stands frame before after arm.next arm.wider arm.behind (slice_range row.bytes from to)
-    (subst (λ (b : List ℕ). rest_of_line m c.args.width (parts_at b c.args.place) ≡ OneWord (word_at b arm.next) ∷ rest_of_line m arm.wider (parts_at b arm.behind)) value arm.ensures.line)
-    (subst (λ (b : List ℕ). behind_rest m c.args.width (parts_at b c.args.place) ≡ behind_rest m arm.wider (parts_at b arm.behind)) value arm.ensures.behind)
+    (subst (λ (b : List ℕ). rest_of_line m c.args.width (parts_at b c.args.place) ≡ OneWord (word_at b arm.next) ∷ rest_of_line m arm.wider (parts_at b arm.behind)) value
+    (subst (λ (n : ℕ). rest_of_line n c.args.width (parts_at block c.args.place) ≡ OneWord (word_at block arm.next) ∷ rest_of_line n arm.wider (parts_at block arm.behind))
+    measure_is arm.ensures.line))
+    (subst (λ (b : List ℕ). behind_rest m c.args.width (parts_at b c.args.place) ≡ behind_rest m arm.wider (parts_at b arm.behind)) value
+    (subst (λ (n : ℕ). behind_rest n c.args.width (parts_at block c.args.place) ≡ behind_rest n arm.wider (parts_at block arm.behind)) measure_is arm.ensures.behind))
     arm.ensures.width.0
     (subst (λ (b : List ℕ). LiesBehind b 0 arm.next) value arm.ensures.on.lies)
     (subst (λ (b : List ℕ). IsWithin b arm.behind) value arm.ensures.on.within)
@@ -94,7 +99,8 @@ returns-in-Ends-clause-steps c = λ frame.
     ∙ ap (λ (n : ℕ). if_given w.count (slice_range block word.from n)) c.end_given-end.ensures
     ∙ word-last block word w.count lies.last in
     let steps = ends-steps row w r at word c.args.width c.args.place next stands frame before after reached text
-    (subst (λ (b : List ℕ). rest_of_line m c.args.width (parts_at b c.args.place) ≡ []) c.block_bytes-block.ensures.value arm.ensures.line)
+    (subst (λ (b : List ℕ). rest_of_line m c.args.width (parts_at b c.args.place) ≡ []) c.block_bytes-block.ensures.value
+    (subst (λ (n : ℕ). rest_of_line n c.args.width (parts_at c.block_bytes-block.result.now c.args.place) ≡ []) (c.from.ensures) arm.ensures.line))
     text_is
     (ap (λ (n : ℕ). given (one_less w.count) (n + c.args.width) (cells_behind row w r at)) c.begins_at.ensures.value)
     adds in

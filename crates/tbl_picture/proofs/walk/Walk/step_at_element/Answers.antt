@@ -7,8 +7,8 @@ use Rattle.tbl_picture.specs.ElementsWalked.{CanWalk, Steps}
 use Rattle.tbl_picture.specs.Walks.{KeptWalk, kept_by}
 use Rattle.tbl_picture.specs.declared.walk.Next.TheVariants.{AtElement}
 use Rattle.tbl_text.proofs.BlockSlices.{length-slice_range}
-use Rattle.tbl_picture.proofs.Adding.{adds-fewer, adds-more}
-use Rattle.tbl_picture.proofs.PictureSteps.{command-lies, command-steps, row-at, rule-element}
+use Rattle.tbl_pieces.proofs.Adding.{adds-fewer, adds-more}
+use Rattle.tbl_picture.proofs.PictureSteps.{command-lies, command-steps, row-at-element, rule-element}
 use Rattle.tbl_picture.proofs.walk.Walk.step_at_element.Goals as goal
 
 pub returns-in-Command : goal.returns-in-Command
@@ -50,7 +50,7 @@ returns-in-Rule c = record {
       let new = c.step_at_rule.new.self in
       subst (λ (k : KeptWalk). Steps bytes frame formats rows k new before after) view
       (rule-element bytes frame formats rows w here before after within next c.in-Rule.sign (drop (suc w.element) rows.elements) new c.in-Rule.ensures
-      (c.step_at_rule.ensures bytes frame));
+      (c.step_at_rule.ensures bytes frame can.narrow));
 }
 
 pub returns-in-Row : goal.returns-in-Row
@@ -62,8 +62,8 @@ returns-in-Row c = record {
       let before = c.args.pieces.now in
       let after = c.step_at_row.new.pieces in
       let row = c.in-Row in
-      let at = subst (λ (k : KeptWalk). drop k.element rows.elements ≡ Row row.field-0 row.field-1 row.entries.now ∷ drop (suc k.element) rows.elements)
+      let at = subst (λ (k : KeptWalk). drop k.element rows.elements ≡ Row row.keys row.rules row.field-2 row.entries.now ∷ drop (suc k.element) rows.elements)
       c.self.view_is row.ensures in
-      row-at bytes frame formats rows w can before after within c.requires.next row.field-0 row.field-1 row.entries.now
-      (drop (suc w.element) rows.elements) at c.step_at_row.new.self (c.step_at_row.ensures bytes frame);
+      row-at-element bytes frame formats rows w can before after within c.requires.next row.keys row.rules row.field-2 row.entries.now
+      (drop (suc w.element) rows.elements) at c.step_at_row.new.self (c.step_at_row.ensures bytes frame can.narrow);
 }

@@ -3,7 +3,7 @@ use Rattle.std.proofs.lemmas.List.{drop_all}
 use Rattle.tbl_format.specs.RowsServed.{all_rows}
 use Rattle.tbl_layout.specs.declared.data_lines.RuleSign.{RuleSign}
 use Rattle.tbl_picture.specs.ElementsWalked.{RuleAtElement}
-use Rattle.tbl_picture.specs.PictureLines.{frame_sign}
+use Rattle.tbl_lines.specs.PictureLines.{frame_sign}
 use Rattle.tbl_picture.specs.Walks.{KeptWalk}
 use Rattle.tbl_picture.proofs.PictureSteps.{all-given, bottom-comes}
 use Rattle.tbl_picture.proofs.walk.Walk.step_behind_all.Goals as goal
@@ -36,5 +36,6 @@ returns c = record {
       let sign_is = c.frame_sign.ensures ∙ ap (λ (k : KeptWalk). frame_sign k.bars.boxing.bars) view in
       bottom-comes bytes frame formats rows w can before after within c.requires.next new
       (drop_all w.element rows.elements (omega (arith, c.requires.element))) framed
-      (subst (λ (sign : RuleSign). RuleAtElement bytes frame formats rows sign true w new before after) sign_is (c.step_at_rule.ensures bytes frame));
+      (subst (λ (sign : RuleSign). RuleAtElement bytes frame formats rows sign true w new before after) sign_is
+      (c.step_at_rule.ensures bytes frame can.narrow));
 }

@@ -3,6 +3,7 @@ use Rattle.tbl_format.specs.Format.{FormatRow}
 use Rattle.tbl_format.specs.RowsServed.{all_rows, row_at}
 use Rattle.tbl_format.specs.declared.format.FormatKey.{FormatKey}
 use Rattle.tbl_kept.specs.Rows.{Row}
+use Rattle.tbl_layout.specs.KeptEntries.{all_entries}
 use Rattle.tbl_layout.specs.declared.bars.Bars.{Bars}
 use Rattle.tbl_layout.specs.declared.columns.Column.{Column}
 use Rattle.tbl_picture.specs.ElementsWalked.{IsInRow, Steps}
@@ -21,24 +22,25 @@ returns-in-Row-clause-step c = λ frame within.
     let mid = c.steps_in_row-has_ended.new.self in
     let t = c.steps_in_row-has_ended.result in
     let keys = c.in-Row.keys in
+    let rules = c.in-Row.field-1 in
     let height = c.in-Row.height in
     let entries = c.in-Row.entries.now in
     let before = c.args.pieces.now in
     let after = c.steps_in_row-has_ended.new.pieces in
     let elements = drop (suc w.element) rows.elements in
-    let at = subst (λ (k : KeptWalk). drop k.element rows.elements ≡ Row keys height entries ∷ drop (suc k.element) rows.elements) view c.in-Row.ensures in
+    let at = subst (λ (k : KeptWalk). drop k.element rows.elements ≡ Row keys rules height entries ∷ drop (suc k.element) rows.elements) view c.in-Row.ensures in
     let format = row_at formats keys in
     let row : Bars → ℕ → FormatRow → List Column → WalkedRow = λ b n f cs.
-    record { bars = b; width = n; bytes = bytes; format = f; columns = cs; height = height; entries = entries } in
+    record { bars = b; width = n; bytes = bytes; format = f; columns = cs; height = height; entries = all_entries f entries } in
     let lent : List FormatKey → ℕ → WalkedRow = λ ks n. row a.bars a.picture_width (record { keys = ks; bars = n }) c.columns.result.now in
     let does = subst (λ (k : KeptWalk). RowEndsOrGoesOn t frame (row k.bars k.picture_width format rows.columns) w mid before after) view
     (subst (λ (cs : List Column). RowEndsOrGoesOn t frame (row a.bars a.picture_width format cs) w mid before after) c.columns.ensures
     (subst (λ (n : ℕ). RowEndsOrGoesOn t frame (lent format.keys n) w mid before after) c.bars_of_all.ensures
-    (subst (λ (ks : List FormatKey). RowEndsOrGoesOn t frame (lent ks c.bars_of_all.result) w mid before after) c.row_of_all.ensures
+    (subst (λ (ks : List FormatKey). RowEndsOrGoesOn t frame (lent ks c.bars_of_all.result) w mid before after) c.row_of_all.ensures.keys
     (c.steps_in_row-has_ended.ensures.steps frame)))) in
     let under = subst (IsInRow bytes formats rows w) at c.requires.row in
     subst (λ (k : KeptWalk). Steps bytes frame formats rows w k before after) (sym c.go_on.ensures)
-    (row-by bytes frame formats rows w c.requires.can before after within keys height entries elements at t mid under does)
+    (row-by bytes frame formats rows w c.requires.can before after within keys rules height entries elements at t mid under does)
 
 pub go_on-requires : goal.go_on-requires
 go_on-requires c = λ _.
@@ -51,14 +53,14 @@ go_on-requires c = λ _.
       format = record { keys = c.row_of_all.result.now; bars = c.bars_of_all.result };
       columns = c.columns.result.now;
       height = c.in-Row.height;
-      entries = c.in-Row.entries.now;
+      entries = all_entries (record { keys = c.row_of_all.result.now; bars = c.bars_of_all.result }) c.in-Row.entries.now;
     } in
     omega (
       arith,
       (does-stay c.steps_in_row-has_ended.result [] row c.args.self.now c.steps_in_row-has_ended.new.self c.args.pieces.now c.steps_in_row-has_ended.new.pieces
           (c.steps_in_row-has_ended.ensures.steps [])).element,
       ap (λ (k : KeptWalk). k.element) c.self.view_is,
-      within-drop a.element rows.elements (Row c.in-Row.keys c.in-Row.height c.in-Row.entries.now) (drop (suc a.element) rows.elements) c.in-Row.ensures,
+      within-drop a.element rows.elements (Row c.in-Row.keys c.in-Row.field-1 c.in-Row.height c.in-Row.entries.now) (drop (suc a.element) rows.elements) c.in-Row.ensures,
       c.count.ensures,
       c.count.type_inv,
     )

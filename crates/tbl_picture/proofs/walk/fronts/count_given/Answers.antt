@@ -1,8 +1,8 @@
 use Rattle.std.proofs.Common.{List, drop, length, sym, ap, subst, arith}
-use Rattle.tbl_picture.specs.PictureLines.{Cell}
-use Rattle.tbl_picture.specs.RowsWalked.{AreGlyphless, LastHasGlyph}
+use Rattle.tbl_lines.specs.PictureLines.{Cell}
+use Rattle.tbl_lines.specs.RowsWalked.{AreGlyphless, LastHasGlyph}
 use Rattle.tbl_picture.specs.Walks.{lent_row}
-use Rattle.tbl_picture.proofs.RowMarks.{many-fields, plain-cells}
+use Rattle.tbl_lines.proofs.RowMarks.{many-fields, plain-cells}
 use Rattle.tbl_picture.proofs.walk.fronts.count_given.Goals as goal
 
 pub returns-else-row-clause-few : goal.returns-else-row-clause-few
@@ -13,7 +13,7 @@ returns-else-row-clause-few c =
       arith,
       c.count_to_glyph.ensures.few,
       ap length (plain-cells row c.args.line places c.if-row.false),
-      many-fields row c.args.line places c.requires.columns c.requires.places,
+      many-fields row c.args.line places c.requires.cells.short c.requires.cells.places,
     )
 
 pub returns-else-row-clause-last : goal.returns-else-row-clause-last

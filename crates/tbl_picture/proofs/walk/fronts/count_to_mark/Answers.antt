@@ -1,21 +1,23 @@
 use Rattle.std.proofs.Common.{◌≡◌, ◌<◌, ℕ, suc, ◌+◌, ◌-◌, drop, length, refl, sym, subst, ◌∙◌, arith}
 use Rattle.std.proofs.lemmas.List.{drop_all}
-use Rattle.tbl_picture.specs.RowsLeft.{first_cell}
-use Rattle.tbl_picture.specs.RowsWalked.{AreGlyphless, LastHasGlyph}
+use Rattle.tbl_lines.specs.RowsLeft.{first_cell}
+use Rattle.tbl_lines.specs.RowsWalked.{AreGlyphless, LastHasGlyph}
 use Rattle.tbl_picture.specs.Walks.{lent_row, line_cells}
-use Rattle.tbl_picture.proofs.RowMarks.{first-left, many-cells}
-use Rattle.tbl_picture.proofs.RunsGiven.{glyphless-more, last-at, last-none}
+use Rattle.tbl_lines.proofs.RowColumns.{length-places}
+use Rattle.tbl_lines.proofs.RowMarks.{first-left, many-cells}
+use Rattle.tbl_lines.proofs.RunsGiven.{glyphless-more, last-at, last-none}
 use Rattle.tbl_picture.proofs.walk.fronts.count_to_mark.Goals as goal
 
 pub loop-count-init : goal.loop-count-init
 loop-count-init c =
     let row = lent_row c.args.row.now in
     let cells = line_cells row c.args.line c.args.places.now in
-    let n = length row.entries + c.max.result + 1 in
-    let many = many-cells row c.args.line c.args.places.now c.requires.columns c.requires.places c.requires.any in
+    let n = length c.args.places.now + c.max.result + 1 in
+    let given = length-places row.bytes row.entries c.args.places.now c.requires.cells.places in
+    let many = many-cells row c.args.line c.args.places.now c.requires.cells.short c.requires.cells.places c.requires.any in
     record {
-      few = omega (arith, many, c.max.ensures);
-      behind = subst AreGlyphless (sym (drop_all n cells (omega (arith, many, c.max.ensures)))) tt;
+      few = omega (arith, many, given, c.max.ensures);
+      behind = subst AreGlyphless (sym (drop_all n cells (omega (arith, many, given, c.max.ensures)))) tt;
       room = refl;
     }
 

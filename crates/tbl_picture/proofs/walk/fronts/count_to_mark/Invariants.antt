@@ -1,5 +1,5 @@
 use Rattle.std.proofs.Common.{◌≡◌, ◌≤◌, drop, length}
-use Rattle.tbl_picture.specs.RowsWalked.{AreGlyphless}
+use Rattle.tbl_lines.specs.RowsWalked.{AreGlyphless}
 use Rattle.tbl_picture.specs.Walks.{lent_row, line_cells}
 use Rattle.tbl_picture.proofs.walk.fronts.count_to_mark.Given as goal
 

@@ -1,13 +1,13 @@
 use Rattle.std.proofs.Common.{◌≡◌, ℕ, suc, ◌+◌, ◌*◌, ◌-◌, ◌<◌, ◌≤◌, ◌/◌, ◌%◌, length, drop, refl, sym, ap, subst, ◌∙◌, arith}
 use Rattle.std.proofs.Math.Nat.{div-add-mod, mod-lt}
 use Rattle.tbl_layout.specs.Entries.{up_to_last_glyph}
-use Rattle.tbl_picture.specs.PictureLines.{Cell}
-use Rattle.tbl_picture.specs.RowsLeft.{first_of}
-use Rattle.tbl_picture.specs.RowsWalked.{HasGlyph}
-use Rattle.tbl_picture.specs.Walks.{lent_format, lent_row}
-use Rattle.tbl_picture.proofs.FrontCells.{front-count}
-use Rattle.tbl_picture.proofs.RowColumns.{column-lies, length-places}
-use Rattle.tbl_picture.proofs.RowMarks.{columns, even-marks, many-cells, odd-cell, past-marks}
+use Rattle.tbl_lines.specs.PictureLines.{Cell}
+use Rattle.tbl_lines.specs.RowsLeft.{first_of}
+use Rattle.tbl_lines.specs.RowsWalked.{HasGlyph}
+use Rattle.tbl_picture.specs.Walks.{lent_row}
+use Rattle.tbl_lines.proofs.FrontCells.{front-count}
+use Rattle.tbl_lines.proofs.RowColumns.{column-lies, length-places}
+use Rattle.tbl_lines.proofs.RowMarks.{columns, even-marks, many-cells, odd-cell, past-marks}
 use Rattle.tbl_picture.proofs.walk.fronts.has_mark.Goals as goal
 
 -- a number by its half
@@ -22,51 +22,62 @@ odd-halves n k few odd =
 
 pub front_at-requires-clause-within : goal.front_at-requires-clause-within
 front_at-requires-clause-within c =
-    let row = c.args.row.now in
+    let row = lent_row c.args.row.now in
     omega (
       arith,
       c.requires.within,
       c.if-at-fields.true,
-      many-cells (lent_row row) c.args.line c.args.places.now c.requires.columns c.requires.places c.requires.any,
-      front-count row.bars row.width (lent_format row) row.columns.now row.entries.now c.requires.any,
+      length-places row.bytes row.entries c.args.places.now c.requires.cells.places,
+      many-cells row c.args.line c.args.places.now c.requires.cells.short c.requires.cells.places c.requires.any,
+      front-count row.bars row.width row.format row.columns row.entries c.requires.any,
     )
 
 pub returns-then-at-fields : goal.returns-then-at-fields
 returns-then-at-fields c =
     let row = lent_row c.args.row.now in
     let at = c.args.at in
-    let i = at - length row.entries in
-    let marks = past-marks row c.args.line c.args.places.now c.requires.columns c.requires.places c.requires.any at i c.front_at.result
-    (omega (arith, c.if-at-fields.true)) (omega (arith, c.if-at-fields.true)) c.front_at.ensures.at c.front_at.ensures.some
+    let given = length-places row.bytes row.entries c.args.places.now c.requires.cells.places in
+    let i = at - length c.args.places.now in
+    let marks = past-marks row c.args.line c.args.places.now c.requires.cells.short c.requires.cells.places c.requires.any at i c.front_at.result
+    (omega (arith, c.if-at-fields.true, given)) (omega (arith, c.if-at-fields.true, given)) c.front_at.ensures.at c.front_at.ensures.some
     c.is_some.result c.is_some.ensures in
     record { yes = marks.yes; no = marks.no; room = refl }
 
 pub front_at-requires-then-at-eq0-clause-within : goal.front_at-requires-then-at-eq0-clause-within
 front_at-requires-then-at-eq0-clause-within c =
-    let row = c.args.row.now in
-    let half = halves c.args.at (length row.entries.now) (omega (arith, c.if-at-fields.false)) c.if-at-eq0.true in
+    let row = lent_row c.args.row.now in
+    let given = length-places row.bytes row.entries c.args.places.now c.requires.cells.places in
+    let half = halves c.args.at (length row.entries) (omega (arith, c.if-at-fields.false, given)) c.if-at-eq0.true in
     omega (
       arith,
       half.1,
-      c.requires.columns,
-      front-count row.bars row.width (lent_format row) row.columns.now row.entries.now c.requires.any,
+      c.requires.cells.short,
+      front-count row.bars row.width row.format row.columns row.entries c.requires.any,
     )
 
 pub returns-then-at-eq0 : goal.returns-then-at-eq0
 returns-then-at-eq0 c =
     let row = lent_row c.args.row.now in
     let at = c.args.at in
-    let half = halves at (length row.entries) (omega (arith, c.if-at-fields.false)) c.if-at-eq0.true in
+    let given = length-places row.bytes row.entries c.args.places.now c.requires.cells.places in
+    let half = halves at (length row.entries) (omega (arith, c.if-at-fields.false, given)) c.if-at-eq0.true in
     let found = c.front_at-then-at-eq0 in
-    let marks = even-marks row c.args.line c.args.places.now c.requires.columns c.requires.places c.requires.any at (at / 2) found.result
+    let marks = even-marks row c.args.line c.args.places.now c.requires.cells.short c.requires.cells.places c.requires.any at (at / 2) found.result
     half.0 half.1 found.ensures.at found.ensures.some c.is_some-then-at-eq0.result c.is_some-then-at-eq0.ensures in
     record { yes = marks.yes; no = marks.no; room = refl }
 
+pub column_at-requires-clause-entry : goal.column_at-requires-clause-entry
+column_at-requires-clause-entry c =
+    let row = lent_row c.args.row.now in
+    let given = length-places row.bytes row.entries c.args.places.now c.requires.cells.places in
+    (odd-halves c.args.at (length row.entries) (omega (arith, c.if-at-fields.false, given)) c.if-at-eq0.false).1
+
 pub column_at-requires-clause-place : goal.column_at-requires-clause-place
 column_at-requires-clause-place c =
-    let row = c.args.row.now in
-    let half = odd-halves c.args.at (length row.entries.now) (omega (arith, c.if-at-fields.false)) c.if-at-eq0.false in
-    omega (arith, half.1, length-places row.bytes.now row.entries.now c.args.places.now c.requires.places)
+    let row = lent_row c.args.row.now in
+    let given = length-places row.bytes row.entries c.args.places.now c.requires.cells.places in
+    let half = odd-halves c.args.at (length row.entries) (omega (arith, c.if-at-fields.false, given)) c.if-at-eq0.false in
+    omega (arith, half.1, given)
 
 pub has_glyph-requires-clause-lies : goal.has_glyph-requires-clause-lies
 has_glyph-requires-clause-lies c =
@@ -74,7 +85,7 @@ has_glyph-requires-clause-lies c =
     let places = c.args.places.now in
     let i = c.args.at / 2 in
     (column-lies row.bytes row.bars.boxing row.format 0 i row.columns row.entries places c.column_at.result
-    (drop (suc i) (columns row c.args.line places)) c.column_at.ensures c.requires.lie c.requires.narrow c.requires.places).lies
+    (drop (suc i) (columns row c.args.line places)) c.column_at.ensures c.requires.cells.lie c.requires.cells.narrow c.requires.cells.places).lies
 
 pub has_glyph-requires-clause-within : goal.has_glyph-requires-clause-within
 has_glyph-requires-clause-within c =
@@ -82,14 +93,15 @@ has_glyph-requires-clause-within c =
     let places = c.args.places.now in
     let i = c.args.at / 2 in
     (column-lies row.bytes row.bars.boxing row.format 0 i row.columns row.entries places c.column_at.result
-    (drop (suc i) (columns row c.args.line places)) c.column_at.ensures c.requires.lie c.requires.narrow c.requires.places).within
+    (drop (suc i) (columns row c.args.line places)) c.column_at.ensures c.requires.cells.lie c.requires.cells.narrow c.requires.cells.places).within
 
 pub returns : goal.returns
 returns c =
     let row = lent_row c.args.row.now in
     let at = c.args.at in
-    let half = odd-halves at (length row.entries) (omega (arith, c.if-at-fields.false)) c.if-at-eq0.false in
-    let this = odd-cell row c.args.line c.args.places.now c.requires.columns c.requires.places c.requires.any at (at / 2) c.column_at.result
+    let given = length-places row.bytes row.entries c.args.places.now c.requires.cells.places in
+    let half = odd-halves at (length row.entries) (omega (arith, c.if-at-fields.false, given)) c.if-at-eq0.false in
+    let this = odd-cell row c.args.line c.args.places.now c.requires.cells.short c.requires.cells.places c.requires.any at (at / 2) c.column_at.result
     half.0 half.1 c.column_at.ensures in
     record {
       yes = λ yes. subst (λ (cell : Cell). HasGlyph (first_of cell)) (sym this) (c.has_glyph.ensures.yes yes);

@@ -1,5 +1,5 @@
 use Rattle.std.proofs.Common.{refl, sym, ◌∙◌}
-use Rattle.tbl_format.specs.Options.{options_end}
+use Rattle.tbl_options.specs.Options.{options_end}
 use Rattle.tbl_table.proofs.BegunLines.{columns-format, columns-keys, counts-behind, nothing-head}
 use Rattle.tbl_table.proofs.begun.Begun.columns_with.Goals as goal
 

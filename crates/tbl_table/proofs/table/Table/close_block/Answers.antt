@@ -1,10 +1,10 @@
 use Rattle.std.proofs.Common.{ℕ, List, [], ap, ◌∙◌}
-use Rattle.tbl_format.specs.Notes.{told_of_all}
-use Rattle.tbl_format.specs.declared.message.Told.{Told}
+use Rattle.tbl_options.specs.Notes.{told_of_all}
+use Rattle.tbl_options.specs.declared.message.Told.{Told}
 use Rattle.tbl_kept.specs.TableNotes.{KeptNotes}
 use Rattle.tbl_table.specs.Kept.{reading_of}
 use Rattle.tbl_table.specs.Reading.{KeptTable, Reading}
-use Rattle.tbl_table.proofs.BlockCloses.{rest-few, rest-formats, rest-opened, rest-read, rest-room, rest-serves, rests}
+use Rattle.tbl_table.proofs.BlockCloses.{rest-few, rest-formats, rest-opened, rest-read, rest-room, rest-rules, rest-serves, rests}
 use Rattle.tbl_table.proofs.table.Table.close_block.Goals as goal
 
 pub end_block-requires-clause-small : goal.end_block-requires-clause-small
@@ -21,6 +21,11 @@ pub end_block-requires-clause-serves : goal.end_block-requires-clause-serves
 end_block-requires-clause-serves c =
     let a = c.self.inside in
     rest-serves a.limits a.phase a.begun a.text a.kept c.self.invariant.parts
+
+pub end_block-requires-clause-rules : goal.end_block-requires-clause-rules
+end_block-requires-clause-rules c =
+    let a = c.self.inside in
+    rest-rules a.limits a.phase a.begun a.text a.kept c.self.invariant.parts
 
 pub end_block-requires-clause-few : goal.end_block-requires-clause-few
 end_block-requires-clause-few c =

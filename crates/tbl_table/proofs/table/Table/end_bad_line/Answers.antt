@@ -2,10 +2,10 @@ use Rattle.std.proofs.Common.{ℕ, List, [], ◌∷◌, ◌++◌, ap, ◌∙◌}
 use Rattle.roff_source.specs.Bytes.{newline}
 use Rattle.tbl_kept.specs.Joined.{behind_joined}
 use Rattle.tbl_table.specs.Kept.{reading_of}
-use Rattle.tbl_format.specs.Notes.{told_of_all}
+use Rattle.tbl_options.specs.Notes.{told_of_all}
 use Rattle.tbl_table.specs.Reading.{KeptTable, Reading}
 use Rattle.tbl_kept.specs.TableText.{text_ended}
-use Rattle.tbl_format.specs.declared.message.Told.{Told}
+use Rattle.tbl_options.specs.declared.message.Told.{Told}
 use Rattle.tbl_table.proofs.NotesKept.{told-longer}
 use Rattle.tbl_table.proofs.OtherLines.{bad-fits, bad-read}
 use Rattle.tbl_table.proofs.table.Table.end_bad_line.Goals as goal

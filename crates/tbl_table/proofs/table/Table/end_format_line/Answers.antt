@@ -6,8 +6,8 @@ use Rattle.std.specs.List.{slice_range}
 use Rattle.roff_source.specs.Bytes.{newline}
 use Rattle.tbl_data.specs.declared.phase.Phase.{Phase}
 use Rattle.tbl_format.specs.Format.{Format, format_read, letters_left_out}
-use Rattle.tbl_format.specs.Notes.{left_out_note, told_of_all}
-use Rattle.tbl_format.specs.declared.message.Told.{Told}
+use Rattle.tbl_options.specs.Notes.{left_out_note, told_of_all}
+use Rattle.tbl_options.specs.declared.message.Told.{Told}
 use Rattle.tbl_format.proofs.FormatReading.{columns-read, columns-read-most, keys-read as format-keys-read, line-stands}
 use Rattle.tbl_format.proofs.LeftOut.{letters-few}
 use Rattle.tbl_kept.specs.Joined.{behind_joined}

@@ -1,7 +1,7 @@
 use Rattle.std.proofs.Common.{◌≡◌, ◌≤◌, false, ℕ, List, [], ◌∷◌, ◌++◌, None, Some, sym, ap, subst, ◌∙◌, arith}
 use Rattle.roff_source.specs.Bytes.{newline}
 use Rattle.tbl_format.specs.Format.{Format, format_read}
-use Rattle.tbl_format.specs.Options.{options_end}
+use Rattle.tbl_options.specs.Options.{options_end}
 use Rattle.tbl_table.specs.Table.{columns_of}
 use Rattle.tbl_table.proofs.BegunLines.{options_end-within}
 use Rattle.tbl_table.proofs.TableOptions.{at-head, columns-head-none, columns-head-some}

@@ -8,11 +8,11 @@ use Rattle.tbl_data.specs.TableData.{begun_by}
 use Rattle.tbl_data.specs.TableRead.{TableRead}
 use Rattle.tbl_data.specs.declared.phase.Phase.{Phase}
 use Rattle.tbl_format.specs.Format.{Format, format_read, letters_left_out}
-use Rattle.tbl_format.specs.Notes.{NotesWithin, ignored_message, left_out_note, told_at, told_of_all}
-use Rattle.tbl_format.specs.Options.{ignored_options, options_read}
+use Rattle.tbl_options.specs.Notes.{NotesWithin, ignored_message, left_out_note, told_at, told_of_all}
+use Rattle.tbl_options.specs.Options.{ignored_options, options_read}
 use Rattle.tbl_format.specs.RowsServed.{all_rows}
-use Rattle.tbl_format.specs.declared.message.Told.{Told}
-use Rattle.tbl_format.specs.declared.options.Options.{Options}
+use Rattle.tbl_options.specs.declared.message.Told.{Told}
+use Rattle.tbl_options.specs.declared.options.Options.{Options}
 use Rattle.tbl_format.proofs.FormatReading.{columns-read-most}
 use Rattle.tbl_format.proofs.LeftOut.{letters-few}
 use Rattle.tbl_kept.specs.Rows.{elements_of}
@@ -162,7 +162,7 @@ returns c =
     ∙ ap (λ ns. told_of_all a.text.settled ns ++ messages (slice_range blk 0 end)) (sym nothing.no_notes)
     ∙ ap (λ (xs : List ℕ). told_of_all a.text.settled a.kept.notes.notes ++ messages xs) (head-options line blk end block inside_line) in
     let before_read : Reading = reading_of a.phase a.options a.text a.kept in
-    let with_read = λ (o : Options). let t : TableRead = made a.phase o f (a.kept.keys - length f.earlier) a.text.pending (begun_by a.kept.open (map (content_of a.text.settled) a.kept.rows.row)) (elements_of a.text.settled (all_rows f) a.kept.rows.elements) said in
+    let with_read = λ (o : Options). let t : TableRead = made a.phase o f (a.kept.keys - a.kept.rules - length f.earlier) a.text.pending (begun_by a.kept.open (map (content_of a.text.settled) a.kept.rows.row)) (elements_of a.text.settled (all_rows f) a.kept.rows.elements) said in
     ended_with (format_line c.args.number (drop (suc end) line) t) before_read in
     let options_is : c.read_options-options.result ≡ options_read (take end line) =
     c.read_options-options.ensures ∙ ap (λ (xs : List ℕ). options_read (take end xs)) c.line.ensures in

@@ -1,7 +1,7 @@
 use Rattle.std.proofs.Common.{◌≡◌, ◌+◌, ◌-◌, ◌≤◌, ℕ, List, [], ◌++◌, length, length-append, sym, ap, subst, ◌∙◌, arith}
 use Rattle.tbl_data.specs.declared.table_data.TableData.{TableData}
-use Rattle.tbl_format.specs.Notes.{told_of_all}
-use Rattle.tbl_format.specs.declared.message.Told.{Told}
+use Rattle.tbl_options.specs.Notes.{told_of_all}
+use Rattle.tbl_options.specs.declared.message.Told.{Told}
 use Rattle.tbl_kept.specs.Joined.{behind_joined}
 use Rattle.tbl_kept.specs.Rows.{entries_of}
 use Rattle.tbl_kept.specs.TableText.{KeptText, block_of, text_ended}

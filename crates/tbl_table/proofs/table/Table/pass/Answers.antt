@@ -1,5 +1,5 @@
 use Rattle.std.proofs.Common.{ap, sym, refl, ◌∙◌}
-use Rattle.tbl_format.specs.Notes.{told_of_all}
+use Rattle.tbl_options.specs.Notes.{told_of_all}
 use Rattle.tbl_kept.specs.TableNotes.{KeptNotes}
 use Rattle.tbl_table.specs.Kept.{table_of}
 use Rattle.tbl_table.proofs.LastLines.{notes-by}

@@ -3,8 +3,8 @@ use Rattle.tbl_table.specs.Begun.{begun_in, head_begun}
 use Rattle.tbl_table.specs.Kept.{table_of}
 use Rattle.std.proofs.lemmas.List.{length-map}
 use Rattle.tbl_format.specs.KeyCounts.{StandsOnLine}
-use Rattle.tbl_format.specs.Notes.{NotesWithin, left_out_note, told_of_all}
-use Rattle.tbl_format.specs.Options.{options_end}
+use Rattle.tbl_options.specs.Notes.{NotesWithin, left_out_note, told_of_all}
+use Rattle.tbl_options.specs.Options.{options_end}
 use Rattle.tbl_table.specs.Steps.{fault_noted, head_letters, letters_noted, is_front, options_told, phase_at_last}
 use Rattle.tbl_data.specs.TableRead.{TableRead}
 use Rattle.tbl_table.specs.Table.{closed, head_place, is_bad, notes}

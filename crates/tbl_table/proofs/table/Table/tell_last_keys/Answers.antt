@@ -5,7 +5,7 @@ use Rattle.tbl_data.specs.TableRead.{TableRead}
 use Rattle.tbl_data.specs.declared.phase.Phase.{Phase}
 use Rattle.tbl_data.specs.declared.phase.Phase.TheVariants.{InFormat}
 use Rattle.tbl_format.specs.Format.{format_read, letters_left_out}
-use Rattle.tbl_format.specs.Notes.{left_out_note, told_of_all}
+use Rattle.tbl_options.specs.Notes.{left_out_note, told_of_all}
 use Rattle.tbl_format.specs.declared.format.FormatPlace.{FormatPlace}
 use Rattle.tbl_format.proofs.LeftOut.{letters-few}
 use Rattle.tbl_kept.specs.Joined.{behind_joined}

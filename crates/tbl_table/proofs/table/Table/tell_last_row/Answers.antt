@@ -2,7 +2,7 @@ use Rattle.std.proofs.Common.{◌≡◌, ◌+◌, ◌-◌, ◌<◌, ◌≤◌, �
 use Rattle.tbl_data.specs.TableRead.{TableRead}
 use Rattle.tbl_data.specs.declared.phase.Phase.{Phase}
 use Rattle.tbl_data.specs.declared.table_data.TableData.{TableData}
-use Rattle.tbl_format.specs.Notes.{told_of_all}
+use Rattle.tbl_options.specs.Notes.{told_of_all}
 use Rattle.tbl_kept.specs.Joined.{goes_on}
 use Rattle.tbl_kept.specs.Rows.{entries_of}
 use Rattle.tbl_kept.specs.TableText.{KeptText, block_of, text_whole}

@@ -1,0 +1,12 @@
+pub mod BlockColumns
+pub mod CellsGiven
+pub mod FrontCells
+pub mod RowMarks
+pub mod RowCells
+pub mod RowColumns
+pub mod RowLines
+pub mod RowsBegun
+pub mod RunsGiven
+pub mod WordRuns
+pub mod AllLaid
+pub mod AllEntries

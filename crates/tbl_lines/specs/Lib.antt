@@ -1,0 +1,5 @@
+pub mod PictureLines
+pub mod WorkedPictures
+pub mod RowsLeft
+pub mod RowsWalked
+pub mod RowsLent

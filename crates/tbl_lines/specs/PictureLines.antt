@@ -1,0 +1,376 @@
+-- The lines of a table's picture, as the formatter reads them (Lesk, "Tbl": Formatting).
+use Rattle.std.specs.Prelude.{ℕ, zero, suc, nat_lt, ◌+◌, ◌-◌, max, Bool, true, false, ◌&&◌, List, [], ◌∷◌, ◌++◌, length, map, replicate, get_or, Option, None, Some, is_none, is_some, codes, if◌then◌else◌, ◌==◌}
+use Rattle.roff_source.specs.Bytes.{blank, newline}
+use Rattle.tbl_format.specs.Format.{FormatRow}
+use Rattle.tbl_format.specs.declared.format.FormatKey.{FormatKey}
+use Rattle.tbl_format.specs.declared.format.Key.{Key}
+use Rattle.tbl_options.specs.declared.options.Boxing.{Boxing}
+use Rattle.tbl_layout.specs.Columns.{bar_place, bars_end, greatest, place_in, place_of_rule, stands, widest_entry}
+use Rattle.tbl_layout.specs.DataLines.{is_same_sign, sign_byte}
+use Rattle.tbl_layout.specs.Entries.{Command, Content, Element, Repeated, Row, Rule, Ruled, Run, Short, blanks, columns_of, field_at, key_at, lines_of_field, up_to_last_glyph}
+use Rattle.tbl_layout.specs.LayoutLaws.{first_start, last_end}
+use Rattle.tbl_layout.specs.RuleKeys.{rule_sign}
+use Rattle.tbl_layout.specs.Widths.{edge_bars, inner_bars}
+use Rattle.tbl_layout.specs.declared.bars.Bars.{Bars}
+use Rattle.tbl_layout.specs.declared.columns.Column.{Column}
+use Rattle.tbl_layout.specs.declared.data_lines.RuleSign.{RuleSign}
+use Rattle.tbl_layout.specs.declared.data_lines.RuleSign.TheVariants.{Double, Single}
+
+-- a bar, and where a rule crosses one
+abbrev pub bar : ℕ
+bar = 124
+
+abbrev pub crossing : ℕ
+crossing = 43
+
+-- a byte so many times: a blank is no glyph
+abbrev pub repeated : ℕ → ℕ → Run
+repeated b count = record { bytes = replicate count b; to_glyph = if b == blank then [] else replicate count b; columns = count }
+
+-- whether a field is a rule over its column that is drawn with this sign
+abbrev pub is_ruled : RuleSign → Content → Bool
+is_ruled sign (Ruled other) = is_same_sign sign other
+is_ruled sign field = false
+
+-- how many bars a row of the formats has in front of the key of a column, or behind its last key
+abbrev pub bars_among : List FormatKey → ℕ → ℕ → ℕ
+bars_among [] last zero = last
+bars_among [] last (suc column) = 0
+bars_among (k ∷ keys) last zero = k.bars
+bars_among (k ∷ keys) last (suc column) = bars_among keys last column
+
+abbrev pub bars_of : FormatRow → ℕ → ℕ
+bars_of format column = bars_among format.keys format.bars column
+
+-- how many bars stand in rows that it serves, at an edge of the picture, and in front of a column that isn't the first
+abbrev pub bars_at_edge : Boxing → FormatRow → ℕ → ℕ
+bars_at_edge boxing format column = edge_bars boxing (bars_of format column)
+
+abbrev pub bars_between : Boxing → FormatRow → ℕ → ℕ
+bars_between boxing format column = inner_bars boxing (bars_of format column)
+
+-- where a rule over a column ends that goes on with the next one: there, or where so many bars stand between them
+abbrev pub joint : ℕ → Column → Column → ℕ
+joint zero c d = d.start
+joint (suc n) c d = bar_place (suc n) c d
+
+-- where a rule over a column ends, behind which these columns come, and this field: a rule that is drawn alike goes on with it
+abbrev pub rule_end : ℕ → RuleSign → Column → List Column → Content → ℕ
+rule_end bars sign c [] next = c.start + c.width
+rule_end bars sign c (d ∷ columns) next = if is_ruled sign next then joint bars c d else c.start + c.width
+
+-- a cell of a row, or a bar: the column of the page at which its lines begin, what stands on each of them, and on all further ones
+pub record Cell : Type 0 where
+  pub at : ℕ
+  pub lines : List (List Run)
+  pub below : List Run
+
+-- a cell of one run
+abbrev pub one_run : ℕ → Run → Cell
+one_run at run = record { at = at; lines = (run ∷ []) ∷ []; below = [] }
+
+-- the cell that a field is under its key in a column, behind which so many bars stand, these columns come, and this field
+abbrev pub cell_of : ℕ → Key → Column → List Column → Content → Content → Cell
+cell_of bars key c columns next (Ruled sign) =
+    one_run c.start (repeated (sign_byte sign) (rule_end bars sign c columns next - c.start))
+cell_of bars key c columns next Short = one_run (c.start + place_of_rule c key) (repeated (sign_byte Single) (widest_entry c.needs))
+cell_of bars key c columns next (Repeated b) = one_run c.start (repeated b c.width)
+cell_of bars key c columns next field =
+    record { at = c.start + place_in c key (stands c.measure key field); lines = lines_of_field c.measure key field; below = [] }
+
+-- the cells of a row, from a column on
+abbrev pub cells_from : Boxing → ℕ → List Column → FormatRow → List Content → List Cell
+cells_from boxing column [] format fields = []
+cells_from boxing column (c ∷ columns) format fields =
+    cell_of (bars_between boxing format (suc column)) (key_at format column) c columns (field_at fields (suc column)) (field_at fields column)
+    ∷ cells_from boxing (suc column) columns format fields
+
+-- nothing that stands in a row
+abbrev pub nothing_there : Cell
+nothing_there = record { at = 0; lines = []; below = [] }
+
+-- so many bars on each line of a row
+abbrev pub bars_at : ℕ → ℕ → Cell
+bars_at at zero = nothing_there
+bars_at at (suc n) = record { at = at; lines = []; below = repeated bar (suc n) ∷ [] }
+
+-- so many bars between two rules of a row: they cross them on the row's first line, and the second one goes on behind them up to a
+-- place
+abbrev pub crossed_at : ℕ → ℕ → RuleSign → ℕ → Cell
+crossed_at at n sign end = record {
+  at = at;
+  lines = (repeated crossing n ∷ repeated (sign_byte sign) (end - (at + n)) ∷ []) ∷ [];
+  below = repeated bar n ∷ [];
+}
+
+-- the sign of two fields that are the same rule
+abbrev pub joined_sign : Content → Content → Option RuleSign
+joined_sign (Ruled sign) next = if is_ruled sign next then Some sign else None
+joined_sign field next = None
+
+-- so many bars between two columns, which rules of this sign may cross
+abbrev pub bars_by : Option RuleSign → ℕ → Column → Column → Cell
+bars_by joined zero c d = nothing_there
+bars_by None (suc n) c d = bars_at (bar_place (suc n) c d) (suc n)
+bars_by (Some sign) (suc n) c d = crossed_at (bar_place (suc n) c d) (suc n) sign d.start
+
+-- what stands between columns from one on, each but the first
+abbrev pub all_between : Boxing → ℕ → List Column → FormatRow → List Content → List Cell
+all_between boxing column [] format fields = []
+all_between boxing column (c ∷ []) format fields = []
+all_between boxing column (c ∷ d ∷ columns) format fields =
+    bars_by (joined_sign (field_at fields column) (field_at fields (suc column))) (bars_between boxing format (suc column)) c d
+    ∷ all_between boxing (suc column) (d ∷ columns) format fields
+
+-- what stands at the right edge of a picture that is so wide
+abbrev pub right_bars : ℕ → ℕ → Cell
+right_bars width n = bars_at (width - n) n
+
+-- how a picture is boxed and which bars it has, how wide it is, and its columns
+pub record Sheet : Type 0 where
+  pub bars : Bars
+  pub width : ℕ
+  pub columns : List Column
+
+-- what stands in front of each column of a row, and behind the last: in a picture without bars nothing
+abbrev pub fronts : Sheet → FormatRow → List Content → List Cell
+fronts s format fields =
+    let boxing = s.bars.boxing in
+    if s.bars.has_any then
+    bars_at 0 (bars_at_edge boxing format 0)
+    ∷ all_between boxing 0 s.columns format fields ++ right_bars s.width (bars_at_edge boxing format (length s.columns)) ∷ []
+    else []
+
+-- cells, each behind what stands in front of it
+abbrev pub with_fronts : List Cell → List Cell → List Cell
+with_fronts [] cells = cells
+with_fronts (f ∷ fronts) [] = f ∷ with_fronts fronts []
+with_fronts (f ∷ fronts) (c ∷ cells) = f ∷ c ∷ with_fronts fronts cells
+
+-- all that stands on the lines of a row
+abbrev pub row_cells : Sheet → FormatRow → List Content → List Cell
+row_cells s format fields = with_fronts (fronts s format fields) (cells_from s.bars.boxing 0 s.columns format fields)
+
+-- a row is as high as its highest cell, and one line at least
+abbrev pub height : List Cell → ℕ
+height cells = max 1 (greatest (map (λ c. length c.lines) cells))
+
+-- a text that begins at a column of the page, behind what ends at a place: blanks stand between; and where it ends, if there is one
+abbrev pub at_column : ℕ → ℕ → List Run → List Run
+at_column at place [] = []
+at_column at place (run ∷ runs) = blanks (at - place) ∷ run ∷ runs
+
+abbrev pub end_of : ℕ → ℕ → List Run → ℕ
+end_of at place [] = place
+end_of at place (run ∷ runs) = at + columns_of (run ∷ runs)
+
+-- what stands on a line of some cells, from a place on
+abbrev pub written : ℕ → ℕ → List Cell → List Run
+written line place [] = []
+written line place (c ∷ cells) =
+    let text = get_or c.lines line c.below in at_column c.at place text ++ written line (end_of c.at place text) cells
+
+-- a line of the picture: `\&`, what stands on it up to its last glyph, and a newline
+abbrev pub line_of : ℕ → List Cell → List ℕ
+line_of line cells = codes "\\&" ++ (up_to_last_glyph (written line 0 cells) ++ newline ∷ [])
+
+-- so many lines of a row, from one on
+abbrev pub lines_from : ℕ → ℕ → List Cell → List ℕ
+lines_from line zero cells = []
+lines_from line (suc count) cells = line_of line cells ++ lines_from (suc line) count cells
+
+-- the line that stands directly above or below a line of rules: none of a row; one of a row of these keys with these fields, which is
+-- its first or not; or that of a row of rule keys, behind which another line stands
+pub data Neighbour : Type 0 where
+  NoRow : Neighbour
+  OfRow : (is_first : Bool) (format : FormatRow) (fields : List Content) → Neighbour
+  OfRules : (format : FormatRow) (behind : Neighbour) → Neighbour
+
+-- whether a row of rule keys rules the places of bars behind a column: it does behind each of its keys
+abbrev pub rules_behind : FormatRow → ℕ → Bool
+rules_behind format column = nat_lt column (length format.keys)
+
+-- how many bars a line shows at an edge, which is in front of a column or behind the last, and how many behind a column. A row has
+-- none where two same rules cross them on its first line. That of rule keys shows those of the line behind it where it isn't ruled, and
+-- it rules no edge
+abbrev pub shown_at_edge : Boxing → Neighbour → ℕ → ℕ
+shown_at_edge boxing NoRow column = 0
+shown_at_edge boxing (OfRow is_first format fields) column = bars_at_edge boxing format column
+shown_at_edge boxing (OfRules format behind) column = max (bars_at_edge boxing format column) (shown_at_edge boxing behind column)
+
+abbrev pub shown_behind : Boxing → Neighbour → ℕ → ℕ
+shown_behind boxing NoRow column = 0
+shown_behind boxing (OfRow is_first format fields) column =
+    if is_first && is_some (joined_sign (field_at fields column) (field_at fields (suc column))) then 0
+    else bars_between boxing format (suc column)
+shown_behind boxing (OfRules format behind) column =
+    if rules_behind format column then 0 else max (bars_between boxing format (suc column)) (shown_behind boxing behind column)
+
+-- a line of rules: one over the whole picture, or those of a row of rule keys over their columns
+pub data RuleLine : Type 0 where
+  Whole : (sign : RuleSign) → RuleLine
+  OfKeys : (format : FormatRow) → RuleLine
+
+-- how it is drawn over a column, if it rules that
+abbrev pub sign_over : RuleLine → ℕ → Option RuleSign
+sign_over (Whole sign) column = Some sign
+sign_over (OfKeys format) column = rule_sign (key_at format column)
+
+-- how many bars it has itself, where it isn't ruled: at an edge, and behind a column
+abbrev pub own_at_edge : Boxing → RuleLine → ℕ → ℕ
+own_at_edge boxing (Whole sign) column = 0
+own_at_edge boxing (OfKeys format) column = bars_at_edge boxing format column
+
+abbrev pub own_behind : Boxing → RuleLine → ℕ → ℕ
+own_behind boxing (Whole sign) column = 0
+own_behind boxing (OfKeys format) column = if rules_behind format column then 0 else bars_between boxing format (suc column)
+
+-- how many bars meet there, in a picture that may have bars: those of the line above it, of the one below it, and its own; of two lines
+-- with bars there, the more bars have the places of the fewer
+abbrev pub met_at_edge : Bars → RuleLine → Neighbour → Neighbour → ℕ → ℕ
+met_at_edge bars line above below column =
+    let boxing = bars.boxing in
+    if bars.has_any then max (own_at_edge boxing line column) (max (shown_at_edge boxing above column) (shown_at_edge boxing below column)) else 0
+
+abbrev pub met_behind : Bars → RuleLine → Neighbour → Neighbour → ℕ → ℕ
+met_behind bars line above below column =
+    let boxing = bars.boxing in
+    if bars.has_any then max (own_behind boxing line column) (max (shown_behind boxing above column) (shown_behind boxing below column)) else 0
+
+-- bytes from a column of the page on
+pub record Mark : Type 0 where
+  pub at : ℕ
+  pub bytes : List ℕ
+
+-- marks, each behind what ends at a place: blanks stand between
+abbrev pub drawn : ℕ → List Mark → List ℕ
+drawn place [] = []
+drawn place (m ∷ marks) =
+    if length m.bytes == 0 then drawn place marks
+    else replicate (m.at - place) blank ++ (m.bytes ++ drawn (m.at + length m.bytes) marks)
+
+-- what an edge shows: a rule over the whole picture crosses the bars there
+abbrev pub edge_byte : RuleLine → ℕ
+edge_byte (Whole sign) = crossing
+edge_byte (OfKeys format) = bar
+
+abbrev pub edge_mark : RuleLine → ℕ → ℕ → Mark
+edge_mark line at count = record { at = at; bytes = replicate count (edge_byte line) }
+
+-- where a line begins to rule its first column: behind so many bars of its edge, or with the column
+abbrev pub rule_from : RuleLine → ℕ → List Column → ℕ
+rule_from (Whole sign) left columns = left
+rule_from (OfKeys format) left columns = first_start left columns
+
+-- where it ends to rule its last one: in front of the bars of its edge, or with the column
+abbrev pub rule_to : RuleLine → ℕ → List Column → ℕ
+rule_to (Whole sign) right columns = right
+rule_to (OfKeys format) right columns = last_end 0 columns
+
+-- whether the rule over a column goes on over the next one
+abbrev pub is_same_rule : Option RuleSign → Option RuleSign → Bool
+is_same_rule None next = is_none next
+is_same_rule (Some sign) None = false
+is_same_rule (Some sign) (Some next) = is_same_sign sign next
+
+abbrev pub goes_on : RuleLine → ℕ → Bool
+goes_on line column = is_same_rule (sign_over line column) (sign_over line (suc column))
+
+-- a rule from a place on, if there is one, which so many bars cross at another place, and which ends there, or goes on with the next
+-- column's; else these bars
+abbrev pub mark_behind : Option RuleSign → Bool → ℕ → ℕ → ℕ → ℕ → Mark
+mark_behind None is_on from count at end = record { at = at; bytes = replicate count bar }
+mark_behind (Some sign) is_on from count at end = record {
+  at = from;
+  bytes = replicate (at - from) (sign_byte sign)
+      ++ (replicate count crossing ++ (if is_on then [] else replicate (end - (at + count)) (sign_byte sign)));
+}
+
+-- a rule from a place up to another, if there is one
+abbrev pub last_mark : Option RuleSign → ℕ → ℕ → Mark
+last_mark None from to = record { at = from; bytes = [] }
+last_mark (Some sign) from to = record { at = from; bytes = replicate (to - from) (sign_byte sign) }
+
+-- what a line of rules draws from a column on, over columns and behind each but the last: its rule over the first begins at a place, and
+-- that over the last ends at another
+abbrev pub marks_from : Bars → RuleLine → Neighbour → Neighbour → ℕ → ℕ → ℕ → List Column → List Mark
+marks_from bars line above below column from to [] = last_mark (sign_over line column) from to ∷ []
+marks_from bars line above below column from to (c ∷ []) = last_mark (sign_over line column) from to ∷ []
+marks_from bars line above below column from to (c ∷ d ∷ columns) =
+    let count = met_behind bars line above below column in
+    let at = bar_place count c d in
+    let is_on = goes_on line column in
+    if is_on && count == 0 then marks_from bars line above below (suc column) from to (d ∷ columns)
+    else mark_behind (sign_over line column) is_on from count at (bars_end c d)
+    ∷ marks_from bars line above below (suc column) (if is_on then at + count else bars_end c d) to (d ∷ columns)
+
+-- all that it draws
+abbrev pub rule_marks : Sheet → RuleLine → Neighbour → Neighbour → List Mark
+rule_marks s line above below =
+    let left = met_at_edge s.bars line above below 0 in
+    let right = met_at_edge s.bars line above below (length s.columns) in
+    edge_mark line 0 left
+    ∷ marks_from s.bars line above below 0 (rule_from line left s.columns) (rule_to line (s.width - right) s.columns) s.columns
+    ++ edge_mark line (s.width - right) right ∷ []
+
+abbrev pub rule_line : Sheet → RuleLine → Neighbour → Neighbour → List ℕ
+rule_line s line above below = codes "\\&" ++ (drawn 0 (rule_marks s line above below) ++ newline ∷ [])
+
+-- rows of rule keys, and a line behind them
+abbrev pub behind_rules : List FormatRow → Neighbour → Neighbour
+behind_rules [] line = line
+behind_rules (format ∷ formats) line = OfRules format (behind_rules formats line)
+
+-- the lines of rows of rule keys, between one line and another
+abbrev pub rule_lines : Sheet → Neighbour → List FormatRow → Neighbour → List ℕ
+rule_lines s above [] below = []
+rule_lines s above (format ∷ formats) below =
+    rule_line s (OfKeys format) above (behind_rules formats below) ++ rule_lines s (OfRules format above) formats below
+
+-- the line below: commands pass between the lines of the picture
+abbrev pub line_below : List Element → Neighbour
+line_below [] = NoRow
+line_below (Row rules format fields ∷ elements) = behind_rules rules (OfRow true format fields)
+line_below (Rule sign ∷ elements) = NoRow
+line_below (Command bytes ∷ elements) = line_below elements
+
+-- a rule in front of a row behind another row, between which none stands, also none of rule keys
+abbrev pub rule_in_front : Bool → List FormatRow → List Element
+rule_in_front true [] = Rule Single ∷ []
+rule_in_front behind_row rules = []
+
+abbrev pub ruled_between : Bool → List Element → List Element
+ruled_between behind_row [] = []
+ruled_between behind_row (Row rules format fields ∷ elements) =
+    rule_in_front behind_row rules ++ Row rules format fields ∷ ruled_between true elements
+ruled_between behind_row (Rule sign ∷ elements) = Rule sign ∷ ruled_between false elements
+ruled_between behind_row (Command bytes ∷ elements) = Command bytes ∷ ruled_between behind_row elements
+
+-- the rules that a box adds inside, and above and below: a double box has double ones
+abbrev pub ruled_inside : Boxing → Bool → List Element → List Element
+ruled_inside boxing behind_row elements = if boxing.is_inside then ruled_between behind_row elements else elements
+
+abbrev pub frame_sign : ℕ → RuleSign
+frame_sign bars = if nat_lt 1 bars then Double else Single
+
+abbrev pub frame_rules : Boxing → List Element
+frame_rules boxing = if boxing.bars == 0 then [] else Rule (frame_sign boxing.bars) ∷ []
+
+-- what stands in a table, with the rules that its box adds
+abbrev pub boxed : Boxing → List Element → List Element
+boxed boxing elements = frame_rules boxing ++ (ruled_inside boxing false elements ++ frame_rules boxing)
+
+-- the lines of a picture from elements on, with the commands between them, behind a line of it
+abbrev pub lines_behind : Sheet → Neighbour → List Element → List ℕ
+lines_behind s above [] = []
+lines_behind s above (Row rules format fields ∷ elements) =
+    let cells = row_cells s format fields in
+    rule_lines s above rules (OfRow true format fields)
+    ++ (lines_from 0 (height cells) cells ++ lines_behind s (OfRow (height cells == 1) format fields) elements)
+lines_behind s above (Rule sign ∷ elements) =
+    rule_line s (Whole sign) above (line_below elements) ++ lines_behind s NoRow elements
+lines_behind s above (Command bytes ∷ elements) = bytes ++ newline ∷ lines_behind s above elements
+
+-- the lines of a table's picture
+abbrev pub picture_lines : Sheet → List Element → List ℕ
+picture_lines s elements = lines_behind s NoRow (boxed s.bars.boxing elements)

@@ -1,0 +1,109 @@
+-- The pictures of small tables, by the lines of their data.
+use Rattle.std.specs.Prelude.{ℕ, true, false, not, List, [], ◌∷◌, map, Option, ◌==◌}
+use Rattle.tbl_format.specs.Format.{FormatRow, nothing_asked, plain_key}
+use Rattle.tbl_format.specs.declared.format.Asked.{Asked}
+use Rattle.tbl_format.specs.declared.format.FormatKey.{FormatKey}
+use Rattle.tbl_format.specs.declared.format.Key.{Key}
+use Rattle.tbl_options.specs.declared.options.Boxing.{Boxing}
+use Rattle.tbl_layout.specs.Columns.{laid}
+use Rattle.tbl_layout.specs.Data.{fields}
+use Rattle.tbl_layout.specs.DataLines.{line_kind}
+use Rattle.tbl_layout.specs.Entries.{Command, Element, Row, Rule, content_read}
+use Rattle.tbl_layout.specs.declared.data_lines.LineKind.{LineKind}
+use Rattle.tbl_layout.specs.declared.data_lines.LineKind.TheVariants.{Command as CommandKind, Rule as RuleKind}
+use Rattle.tbl_layout.specs.declared.bars.Bars.{Bars}
+use Rattle.tbl_lines.specs.PictureLines.{picture_lines}
+
+-- a line of the data: a rule, a command, or a row whose fields are split at colons
+abbrev pub element_by : FormatRow → LineKind → List ℕ → Element
+element_by format (RuleKind sign) line = Rule sign
+element_by format CommandKind line = Command line
+element_by format kind line = Row [] format (map content_read (fields 58 line))
+
+abbrev pub elements_read : FormatRow → List (List ℕ) → List Element
+elements_read format lines = map (λ line. element_by format (line_kind line) line) lines
+
+-- the lines of a picture that is boxed so, with columns of which this is asked, and rows of such a format
+abbrev pub lines_laid_out : Bars → List Asked → FormatRow → List (List ℕ) → List ℕ
+lines_laid_out bars asked format lines =
+    let elements = elements_read format lines in
+    let table = laid bars false 65 asked elements in
+    picture_lines (record { bars = bars; width = table.width; columns = table.columns }) elements
+
+-- how a picture is boxed: not, by `box`, by `allbox`, by `doublebox`, and by both of these
+abbrev pub not_boxed : Boxing
+not_boxed = record { bars = 0; is_inside = false }
+
+abbrev pub around : Boxing
+around = record { bars = 1; is_inside = false }
+
+abbrev pub each_field : Boxing
+each_field = record { bars = 1; is_inside = true }
+
+abbrev pub double : Boxing
+double = record { bars = 2; is_inside = false }
+
+abbrev pub double_each : Boxing
+double_each = record { bars = 2; is_inside = true }
+
+-- of one that is boxed so, whose columns have these keys and are at least so wide
+abbrev pub lines_boxed : Boxing → Option ℕ → List Key → List (List ℕ) → List ℕ
+lines_boxed boxing least keys lines =
+    lines_laid_out (record { boxing = boxing; front = 0; has_any = not (boxing.bars == 0) })
+    (map (λ k. record nothing_asked { least = least }) keys) (record { keys = map (plain_key 0) keys; bars = 0 }) lines
+
+-- and of one that isn't boxed
+abbrev pub lines_of_data : Option ℕ → List Key → List (List ℕ) → List ℕ
+lines_of_data least keys lines = lines_boxed not_boxed least keys lines
+
+-- the bars in front of a row's first key, and behind each column, of which the last has so many behind it
+abbrev pub first_bars : List FormatKey → ℕ
+first_bars [] = 0
+first_bars (k ∷ keys) = k.bars
+
+abbrev pub bars_asked : List FormatKey → ℕ → List Asked
+bars_asked [] last = []
+bars_asked (k ∷ []) last = record nothing_asked { bars = last } ∷ []
+bars_asked (k ∷ l ∷ keys) last = record nothing_asked { bars = l.bars } ∷ bars_asked (l ∷ keys) last
+
+-- of one that may have bars and is boxed so, whose format asks for the bars of these keys, and rows of such a format
+abbrev pub lines_asking : Boxing → List FormatKey → ℕ → FormatRow → List (List ℕ) → List ℕ
+lines_asking boxing keys last format lines =
+    lines_laid_out (record { boxing = boxing; front = first_bars keys; has_any = true }) (bars_asked keys last) format lines
+
+-- of one whose format is this row; and of one that has such a row beside that of its rows, which has no bars
+abbrev pub lines_barred : Boxing → List FormatKey → ℕ → List (List ℕ) → List ℕ
+lines_barred boxing keys last lines = lines_asking boxing keys last (record { keys = keys; bars = last }) lines
+
+abbrev pub lines_without_bars : List FormatKey → ℕ → List (List ℕ) → List ℕ
+lines_without_bars keys last lines =
+    lines_asking not_boxed keys last (record { keys = map (λ (k : FormatKey). record k { bars = 0 }) keys; bars = 0 }) lines
+
+-- elements whose rows have these rows of rule keys in front of them
+abbrev pub with_rules : List (List FormatRow) → List Element → List Element
+with_rules [] elements = elements
+with_rules (rules ∷ further) [] = []
+with_rules (rules ∷ further) (Row none format fields ∷ elements) = Row rules format fields ∷ with_rules further elements
+with_rules (rules ∷ further) (Rule sign ∷ elements) = Rule sign ∷ with_rules (rules ∷ further) elements
+with_rules (rules ∷ further) (Command bytes ∷ elements) = Command bytes ∷ with_rules (rules ∷ further) elements
+
+-- a row of rule keys
+abbrev pub keys_alone : List Key → FormatRow
+keys_alone keys = record { keys = map (plain_key 0) keys; bars = 0 }
+
+-- the lines of a picture with these bars, whose format asks for the bars of these keys, and has such rows of rule keys in front of those
+-- of its rows
+abbrev pub lines_ruled_by : Bars → List FormatKey → ℕ → List (List FormatRow) → List (List ℕ) → List ℕ
+lines_ruled_by bars keys last rules lines =
+    let elements = with_rules rules (elements_read (record { keys = keys; bars = last }) lines) in
+    let table = laid bars false 65 (bars_asked keys last) elements in
+    picture_lines (record { bars = bars; width = table.width; columns = table.columns }) elements
+
+-- of one that may have bars and is boxed so, and of one that has none
+abbrev pub lines_ruled : Boxing → List FormatKey → ℕ → List (List FormatRow) → List (List ℕ) → List ℕ
+lines_ruled boxing keys last rules lines =
+    lines_ruled_by (record { boxing = boxing; front = first_bars keys; has_any = true }) keys last rules lines
+
+abbrev pub lines_ruled_alone : List Key → List (List FormatRow) → List (List ℕ) → List ℕ
+lines_ruled_alone keys rules lines =
+    lines_ruled_by (record { boxing = not_boxed; front = 0; has_any = false }) (map (plain_key 0) keys) 0 rules lines

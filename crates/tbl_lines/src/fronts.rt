@@ -1,0 +1,123 @@
+//! What stands in front of the columns of a row, and behind the last, in a picture that has bars
+//! (Lesk, "Tbl": Options, Format).
+
+ghost use Rattle.std.specs.Prelude.{◌≡◌, ℕ, suc, ◌-◌, ◌<◌, ◌^◌, ◌∷◌, length, drop};
+ghost use Rattle.tbl_lines.specs.RowsLeft.{cell_of_front, fronts_by, is_there};
+ghost use Rattle.tbl_lines.specs.RowsLeft.{joined_first, joined_kinds};
+ghost use Rattle.tbl_lines.specs.PictureLines.{bars_at, bars_by};
+ghost use Rattle.tbl_lines.specs.RowsWalked.{AreNarrow, HasBars, IsNarrow};
+ghost use Rattle.tbl_lines.specs.RowsLent.{lent_entries, lent_format};
+ghost use Rattle.tbl_layout.specs.KeptEntries.{all_entries};
+
+use crate::row_columns::{RowLent, is_ruled};
+use tbl_format::format::FormatKey;
+use tbl_layout::columns::{Column, bar_place};
+use tbl_layout::data_lines::RuleSign;
+use tbl_layout::entry::{Entry, EntryKind};
+use tbl_layout::rule_keys::entry_at;
+
+/// What stands in front of a column.
+#[derive(Clone, Copy)]
+pub enum Front {
+    /// Nothing.
+    Nothing,
+    /// Bars: the column of the page where they begin, and how many.
+    Bars(usize, u8),
+    /// The same of bars that two rules of the row cross on its first line, their sign, and where
+    /// the second one's column begins.
+    Crossed(usize, u8, RuleSign, usize),
+}
+
+/// What stands in front of a column, or behind the last.
+pub fn front_at(row: &RowLent<'_>, at: usize) -> Front
+    requires within { at < length (fronts_by row.now.bars row.now.width (lent_format row.now)
+        row.now.columns.now (lent_entries row.now)) }
+    requires narrow { AreNarrow row.now.columns.now }
+    ensures at { let all = fronts_by row.now.bars row.now.width (lent_format row.now)
+        row.now.columns.now (lent_entries row.now) in
+        drop at all ≡ cell_of_front result ∷ drop (suc at) all }
+    ensures some { HasBars result }
+{
+    if at == 0 {
+        return edge_front(0, row.edge_bars(0));
+    }
+    if at >= row.columns.len() {
+        let bars = row.edge_bars(row.columns.len());
+        return edge_front(row.width.saturating_sub(bars as usize), bars);
+    }
+    let bars = row.bars_between(at);
+    between(
+        bars,
+        joined_at(row.keys, row.entries, at - 1),
+        row.columns[at - 1],
+        row.columns[at],
+    )
+}
+
+/// So many bars at an edge, which begin at a column of the page.
+fn edge_front(place: usize, bars: u8) -> Front
+    ensures cell { cell_of_front result ≡ bars_at place bars }
+    ensures some { HasBars result }
+{
+    if bars == 0 {
+        Front::Nothing
+    } else {
+        Front::Bars(place, bars)
+    }
+}
+
+/// So many bars between a column and the next, which rules of this sign may cross.
+fn between(bars: u8, joined: Option<RuleSign>, column: Column, next: Column) -> Front
+    requires { IsNarrow column }
+    ensures cell { cell_of_front result ≡ bars_by joined bars column next }
+    ensures some { HasBars result }
+{
+    if bars == 0 {
+        return Front::Nothing;
+    }
+    let place = bar_place(bars, column, next);
+    match joined {
+        Some(sign) => Front::Crossed(place, bars, sign, next.start),
+        None => Front::Bars(place, bars),
+    }
+}
+
+/// The sign of the field of a column and the next, if they are the same rule, in a row that has
+/// these keys and these fields.
+pub fn joined_at(keys: &[FormatKey], entries: &[Entry], at: usize) -> Option<RuleSign>
+    requires { at < 2 ^ 64 - 1 }
+    ensures { (bars : ℕ) → result ≡ joined_first
+        (drop at (all_entries (record { keys = keys.now; bars = bars }) entries.now)) }
+{
+    let field = entry_at(keys, entries, at);
+    joined_kinds(field.kind, entry_at(keys, entries, at + 1).kind)
+}
+
+/// The sign of two fields, if they are the same rule.
+fn joined_kinds(kind: EntryKind, next: EntryKind) -> Option<RuleSign>
+    ensures { result ≡ joined_kinds kind next }
+{
+    match kind {
+        EntryKind::Ruled(sign) => {
+            if is_ruled(sign, next) {
+                Some(sign)
+            } else {
+                None
+            }
+        }
+        _ => None,
+    }
+}
+
+impl Front {
+    /// Whether something stands there.
+    pub fn is_some(self) -> bool
+        ensures { result ≡ is_there self }
+    {
+        match self {
+            Front::Nothing => false,
+            Front::Bars(_, _) => true,
+            Front::Crossed(_, _, _, _) => true,
+        }
+    }
+}

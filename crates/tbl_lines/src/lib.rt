@@ -1,0 +1,10 @@
+//! The lines of a table's picture, and the columns of a row that is given in them (Lesk, "Tbl - A
+//! Program to Format Tables").
+#![tactic(auto)]
+
+pub mod fronts;
+pub mod row_columns;
+pub mod worked_bars;
+pub mod worked_boxes;
+pub mod worked_rule_keys;
+pub mod worked_rules;

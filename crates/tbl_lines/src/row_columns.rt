@@ -1,0 +1,336 @@
+//! The columns of a row whose lines are given.
+
+ghost use Rattle.std.specs.Prelude.{◌≡◌, ℕ, suc, ◌+◌, ◌-◌, ◌<◌, ◌≤◌, ◌^◌, List, [], ◌∷◌, length, drop};
+ghost use Rattle.std.specs.Prelude.{map, get_or, true, false, if◌then◌else◌};
+ghost use Rattle.tbl_layout.specs.KeptEntries.{Lies};
+ghost use Rattle.tbl_lines.specs.RowsLeft.{begins_at, block_text, cell_left, first_of};
+ghost use Rattle.tbl_lines.specs.RowsLeft.{end_by, is_ruled_by, repeated_lines, row_columns};
+ghost use Rattle.tbl_lines.specs.RowsLeft.{rule_end_by, split_run};
+ghost use Rattle.tbl_lines.specs.PictureLines.{bars_among, bars_at_edge, bars_between, joint};
+ghost use Rattle.tbl_lines.specs.RowsWalked.{AreGlyphless, AreNarrow, HasGlyph};
+ghost use Rattle.tbl_lines.specs.RowsWalked.{IsNarrow, LastHasGlyph};
+ghost use Rattle.tbl_lines.specs.RowsLent.{CellsLie, lent_entries, lent_format, lent_row};
+ghost use Rattle.tbl_layout.specs.DataLines.{is_same_sign};
+ghost use Rattle.tbl_layout.specs.Entries.{block_line, up_to_last_glyph};
+ghost use Rattle.tbl_text.specs.BlockLines.{lines_of};
+ghost use Rattle.tbl_text.specs.BlockPlaces.{IsWithin, parts_at};
+
+use roff_escape::OpenEscapes;
+use tbl_format::format::{FormatKey, Key};
+use tbl_kept::rows::key_at;
+use tbl_layout::bars::{Bars, edge_bars, inner_bars};
+use tbl_layout::columns::{Column, bar_place};
+use tbl_layout::data_lines::{RuleSign, sign_byte};
+use tbl_layout::entry::{Entry, EntryKind, SplitEntry};
+use tbl_layout::rule_keys::entry_at;
+use tbl_text::block_parts::{BlockPart, BlockPlace, next_part};
+
+/// A row, lent.
+#[derive(Clone, Copy)]
+pub struct RowLent<'a> {
+    /// The bars of the table's picture.
+    pub bars: Bars,
+    /// How wide it is.
+    pub width: usize,
+    /// The table's bytes.
+    pub bytes: &'a [u8],
+    /// The keys of the row of the formats that serves it.
+    pub keys: &'a [FormatKey],
+    /// How many bars it has behind the last of them.
+    pub last_bars: u8,
+    /// The table's columns.
+    pub columns: &'a [Column],
+    /// The fields that it has: rule keys behind them rule their columns still.
+    pub entries: &'a [Entry],
+    /// How many lines it has.
+    pub height: u32,
+}
+
+/// A column of a row: its key, its field, and where the block or the rule that this is goes on or
+/// ends.
+#[derive(Clone, Copy)]
+pub struct RowColumn {
+    /// The column.
+    pub column: Column,
+    /// Its key.
+    pub key: Key,
+    /// Its field.
+    pub entry: Entry,
+    /// Where the block goes on.
+    pub place: BlockPlace,
+    /// The column of the page where the rule over the column ends, else 0.
+    pub end: usize,
+}
+
+/// A column of a row, whose blocks go on at these places.
+// It is called for each cell.
+#[inline(always)]
+pub fn column_at(row: &RowLent<'_>, places: &[BlockPlace], at: usize) -> RowColumn
+    requires entry { at < length (lent_entries row.now) }
+    requires column { length (lent_entries row.now) ≤ length row.now.columns.now }
+    requires place { at < length places.now }
+    requires narrow { AreNarrow row.now.columns.now }
+    ensures { let all = row_columns row.now.bars.boxing (lent_format row.now) 0 row.now.columns.now
+        (lent_entries row.now) places.now in
+        drop at all ≡ result ∷ drop (suc at) all }
+{
+    let column = row.columns[at];
+    let entry = entry_at(row.keys, row.entries, at);
+    RowColumn {
+        column,
+        key: key_at(row.keys, at),
+        entry,
+        place: places[at],
+        end: end_at(row, at, column, entry.kind),
+    }
+}
+
+/// The column of the page where a field of this kind ends in a column, if it is a rule over it,
+/// else 0.
+// It is called for each cell.
+#[inline(always)]
+fn end_at(row: &RowLent<'_>, at: usize, column: Column, kind: EntryKind) -> usize
+    requires entry { at < length (lent_entries row.now) }
+    requires column { length (lent_entries row.now) ≤ length row.now.columns.now }
+    requires narrow { IsNarrow column }
+    ensures { result ≡ end_by (bars_between row.now.bars.boxing (lent_format row.now) (suc at)) kind
+        column (drop (suc at) row.now.columns.now) (drop (suc at) (lent_entries row.now)) }
+{
+    match kind {
+        EntryKind::Ruled(sign) => rule_end(row, at, column, sign),
+        _ => 0,
+    }
+}
+
+/// Where a rule over a column ends: one that is drawn alike goes on with it.
+// Such a rule is rare.
+#[inline(never)]
+fn rule_end(row: &RowLent<'_>, at: usize, column: Column, sign: RuleSign) -> usize
+    requires entry { at < length (lent_entries row.now) }
+    requires column { length (lent_entries row.now) ≤ length row.now.columns.now }
+    requires narrow { IsNarrow column }
+    ensures { result ≡ rule_end_by (bars_between row.now.bars.boxing (lent_format row.now) (suc at))
+        sign column (drop (suc at) row.now.columns.now) (drop (suc at) (lent_entries row.now)) }
+{
+    let next = at + 1;
+    if next < row.columns.len() {
+        let is_joined = is_ruled(sign, entry_at(row.keys, row.entries, next).kind);
+        rule_end_before(row.bars_between(next), is_joined, column, row.columns[next])
+    } else {
+        column.start + column.width
+    }
+}
+
+/// Where it ends in front of another column, which a rule goes on with or not.
+fn rule_end_before(bars: u8, is_joined: bool, column: Column, next: Column) -> usize
+    requires { IsNarrow column }
+    ensures { result
+        ≡ (if is_joined then joint bars column next else column.start + column.width) }
+{
+    if is_joined {
+        joint(bars, column, next)
+    } else {
+        column.start + column.width
+    }
+}
+
+/// Where a rule over a column ends that goes on with the next one, with so many bars between them.
+fn joint(bars: u8, column: Column, next: Column) -> usize
+    requires { IsNarrow column }
+    ensures { result ≡ joint bars column next }
+{
+    if bars == 0 {
+        next.start
+    } else {
+        bar_place(bars, column, next)
+    }
+}
+
+/// How many bars stand in front of a key of a row, or behind the last, of which there are so many.
+pub fn bars_among(keys: &[FormatKey], last_bars: u8, at: usize) -> u8
+    ensures { result ≡ bars_among keys.now last_bars at }
+{
+    if at < keys.len() {
+        keys[at].bars
+    } else if at == keys.len() {
+        last_bars
+    } else {
+        0
+    }
+}
+
+impl RowLent<'_> {
+    /// How many bars stand in front of a column, or behind the last.
+    pub fn edge_bars(&self, at: usize) -> u8
+        ensures { result ≡ bars_at_edge self.now.bars.boxing (lent_format self.now) at }
+    {
+        edge_bars(self.bars.boxing, bars_among(self.keys, self.last_bars, at))
+    }
+
+    /// How many bars stand in front of a column that isn't the first.
+    pub fn bars_between(&self, at: usize) -> u8
+        ensures { result ≡ bars_between self.now.bars.boxing (lent_format self.now) at }
+    {
+        inner_bars(self.bars.boxing, bars_among(self.keys, self.last_bars, at))
+    }
+}
+
+/// Whether a field is a rule over its column that is drawn with this sign.
+pub fn is_ruled(sign: RuleSign, kind: EntryKind) -> bool
+    ensures { result ≡ is_ruled_by sign kind }
+{
+    match kind {
+        EntryKind::Ruled(other) => is_same_sign(sign, other),
+        _ => false,
+    }
+}
+
+/// The lines of a block.
+pub fn block_bytes(bytes: &[u8], entry: Entry) -> &[u8]
+    requires { Lies bytes.now entry }
+    ensures value { result.now ≡ block_text bytes.now entry }
+    ensures small { length result.now < 2 ^ 32 }
+{
+    if entry.from < entry.to {
+        &bytes[entry.from as usize + 1..entry.to as usize]
+    } else {
+        &[]
+    }
+}
+
+/// Whether two rules are drawn alike.
+pub fn is_same_sign(sign: RuleSign, other: RuleSign) -> bool
+    ensures { result ≡ is_same_sign sign other }
+{
+    match sign {
+        RuleSign::Single => match other {
+            RuleSign::Single => true,
+            RuleSign::Double => false,
+        },
+        RuleSign::Double => match other {
+            RuleSign::Single => false,
+            RuleSign::Double => true,
+        },
+    }
+}
+
+impl RowColumn {
+    /// How many columns of the page the rule over the column has.
+    pub fn rule_width(self) -> usize
+        ensures { result ≡ self.end - self.column.start }
+    {
+        self.end.saturating_sub(self.column.start)
+    }
+
+    /// The column of the page at which its field stands.
+    pub fn begins_at(self) -> usize
+        requires { IsNarrow self.column }
+        ensures value { result ≡ begins_at self }
+        ensures most { result < 2 ^ 40 }
+    {
+        match self.entry.kind {
+            EntryKind::Ruled(_) => self.column.start,
+            EntryKind::Short => self.column.start + self.column.place_of_rule(self.key),
+            EntryKind::Repeated(_) => self.column.start,
+            _ => self.column.start + self.column.place_of(self.key, self.entry.stands(self.key)),
+        }
+    }
+
+    /// Whether it has a glyph on a line of its row, where its block goes on at its place.
+    pub fn has_glyph(self, escapes: &mut OpenEscapes, bytes: &[u8], line: u32) -> bool
+        requires lies { Lies bytes.now self.entry }
+        requires within { IsWithin (block_text bytes.now self.entry) self.place }
+        ensures yes { result ≡ true → HasGlyph (first_of (cell_left bytes.now line self)) }
+        ensures no { result ≡ false
+            → up_to_last_glyph (first_of (cell_left bytes.now line self)) ≡ [] }
+        ensures room { escapes.new.room ≡ escapes.old.room }
+    {
+        let entry = self.entry;
+        match entry.kind {
+            EntryKind::Text(glyphs, _) => {
+                line == 0 && entry.from != entry.to && entry.from < glyphs.min(entry.to)
+            }
+            EntryKind::Split(split) => line == 0 && has_split_glyph(entry, split),
+            EntryKind::Block(_) => {
+                begins_with_word(escapes, block_bytes(bytes, entry), self.place)
+            }
+            EntryKind::Ruled(sign) => {
+                has_repeated_glyph(line, sign_byte(sign), self.rule_width())
+            }
+            EntryKind::Short => {
+                has_repeated_glyph(
+                    line,
+                    sign_byte(RuleSign::Single),
+                    self.column.needs.widest_entry(),
+                )
+            }
+            EntryKind::Repeated(byte) => has_repeated_glyph(line, byte, self.column.width),
+        }
+    }
+}
+
+/// Whether a byte that is repeated so often has a glyph on a line of its row.
+fn has_repeated_glyph(line: u32, byte: u8, count: usize) -> bool
+    ensures yes { result ≡ true → HasGlyph (get_or (repeated_lines line byte count) 0 []) }
+    ensures no { result ≡ false
+        → up_to_last_glyph (get_or (repeated_lines line byte count) 0 []) ≡ [] }
+{
+    line == 0 && count > 0 && byte != b' '
+}
+
+/// Whether a number that is split has a glyph.
+fn has_split_glyph(entry: Entry, split: SplitEntry) -> bool
+    ensures yes { (bytes : List ℕ) → Lies bytes entry → result ≡ true
+        → HasGlyph (split_run bytes entry split ∷ []) }
+    ensures no { (bytes : List ℕ) → Lies bytes entry → result ≡ false
+        → up_to_last_glyph (split_run bytes entry split ∷ []) ≡ [] }
+{
+    let glyphs = split.glyphs.min(entry.to);
+    entry.from < split.end.min(glyphs) || split.behind < glyphs
+}
+
+/// Whether a word comes next in a block.
+fn begins_with_word(escapes: &mut OpenEscapes, block: &[u8], place: BlockPlace) -> bool
+    requires small { length block.now < 2 ^ 32 }
+    requires within { IsWithin block.now place }
+    ensures yes { (measure : ℕ) → result ≡ true
+        → HasGlyph (get_or (map block_line (lines_of measure (parts_at block.now place))) 0 []) }
+    ensures no { (measure : ℕ) → result ≡ false → up_to_last_glyph
+        (get_or (map block_line (lines_of measure (parts_at block.now place))) 0 []) ≡ [] }
+    ensures room { escapes.new.room ≡ escapes.old.room }
+{
+    match next_part(escapes, block, place) {
+        Some((BlockPart::Word(_), _)) => true,
+        Some((BlockPart::EmptyLine, _)) => false,
+        None => false,
+    }
+}
+
+/// How many columns there are up to the last that has a glyph on a line.
+pub fn count_to_glyph(
+    escapes: &mut OpenEscapes,
+    row: &RowLent<'_>,
+    places: &[BlockPlace],
+    line: u32,
+) -> usize
+    requires cells { CellsLie (lent_row row.now) places.now }
+    ensures few { result ≤ length (lent_entries row.now) }
+    ensures last { LastHasGlyph result (map (cell_left row.now.bytes.now line)
+        (row_columns row.now.bars.boxing (lent_format row.now) 0 row.now.columns.now
+        (lent_entries row.now) places.now)) }
+    ensures behind { AreGlyphless (drop result (map (cell_left row.now.bytes.now line)
+        (row_columns row.now.bars.boxing (lent_format row.now) 0 row.now.columns.now
+        (lent_entries row.now) places.now))) }
+    ensures room { escapes.new.room ≡ escapes.old.room }
+{
+    let mut count = places.len();
+    while count > 0 {
+        let last = count - 1;
+        let column = column_at(row, places, last);
+        if column.has_glyph(escapes, row.bytes, line) {
+            return count;
+        }
+        count = last;
+    }
+    0
+}

@@ -1,0 +1,4 @@
+pub mod Messages
+pub mod Options
+pub mod OptionWords
+pub mod Notes

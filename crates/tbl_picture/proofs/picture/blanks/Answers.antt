@@ -1,6 +1,0 @@
-use Rattle.std.proofs.Common.{◌∙◌}
-use Rattle.tbl_format.proofs.Slices.{take-replicate}
-use Rattle.tbl_picture.proofs.picture.blanks.Goals as goal
-
-pub returns : goal.returns
-returns c = c.at_most.ensures ∙ take-replicate c.args.most 64 32

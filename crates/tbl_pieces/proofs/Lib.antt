@@ -1,0 +1,4 @@
+pub mod PieceBytes
+pub mod PiecesWithin
+pub mod PiecesLeft
+pub mod Adding
