@@ -10,3 +10,4 @@ pub mod RunsGiven
 pub mod WordRuns
 pub mod AllLaid
 pub mod AllEntries
+pub mod GivenFields

@@ -85,9 +85,7 @@ module _ (row : WalkedRow) (line : ℕ) (places : List BlockPlace) where
           (omega (arith, within, many-fields))) t found
 
       -- a field
-      pub odd-cell : (at i : ℕ) (r : RowColumn) → at ≡ 2 * i + 1 → i < length row.entries → drop i columns ≡ r ∷ drop (suc i) columns
-          → first_cell (drop at cells) ≡ cell_left row.bytes line r
-      odd-cell at i r place within is =
+      pub odd-cell : (at i : ℕ) → at ≡ 2 * i + 1 → i < length row.entries → first_cell (drop at cells) ≡ first_cell (drop i fields)
+      odd-cell at i place within =
           with-odd (fronts_of row line) fields at i (omega (arith, short, many-fields, many-fronts-now)) place
           (omega (arith, within, many-fields))
-          ∙ ap first_cell (map-at (cell_left row.bytes line) i columns r is)

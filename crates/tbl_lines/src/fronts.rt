@@ -89,23 +89,22 @@ pub fn joined_at(keys: &[FormatKey], entries: &[Entry], at: usize) -> Option<Rul
     ensures { (bars : ℕ) → result ≡ joined_first
         (drop at (all_entries (record { keys = keys.now; bars = bars }) entries.now)) }
 {
-    let field = entry_at(keys, entries, at);
-    joined_kinds(field.kind, entry_at(keys, entries, at + 1).kind)
+    match entry_at(keys, entries, at).kind {
+        EntryKind::Ruled(sign) => joined_with(sign, entry_at(keys, entries, at + 1).kind),
+        _ => None,
+    }
 }
 
-/// The sign of two fields, if they are the same rule.
-fn joined_kinds(kind: EntryKind, next: EntryKind) -> Option<RuleSign>
-    ensures { result ≡ joined_kinds kind next }
+/// This sign, if the next field is a rule that is drawn alike.
+// Such a rule is rare.
+#[inline(never)]
+fn joined_with(sign: RuleSign, next: EntryKind) -> Option<RuleSign>
+    ensures { result ≡ joined_kinds (EntryKind.Ruled sign) next }
 {
-    match kind {
-        EntryKind::Ruled(sign) => {
-            if is_ruled(sign, next) {
-                Some(sign)
-            } else {
-                None
-            }
-        }
-        _ => None,
+    if is_ruled(sign, next) {
+        Some(sign)
+    } else {
+        None
     }
 }
 

@@ -3,8 +3,8 @@
 ghost use Rattle.std.specs.Prelude.{◌≡◌, ℕ, suc, ◌+◌, ◌-◌, ◌<◌, ◌≤◌, ◌^◌, List, [], ◌∷◌, length, drop};
 ghost use Rattle.std.specs.Prelude.{map, get_or, true, false, if◌then◌else◌};
 ghost use Rattle.tbl_layout.specs.KeptEntries.{Lies};
-ghost use Rattle.tbl_lines.specs.RowsLeft.{begins_at, block_text, cell_left, first_of};
-ghost use Rattle.tbl_lines.specs.RowsLeft.{end_by, is_ruled_by, repeated_lines, row_columns};
+ghost use Rattle.tbl_lines.specs.RowsLeft.{begins_at, block_text, cell_left, first_cell};
+ghost use Rattle.tbl_lines.specs.RowsLeft.{end_by, first_of, is_ruled_by, repeated_lines, row_columns};
 ghost use Rattle.tbl_lines.specs.RowsLeft.{rule_end_by, split_run};
 ghost use Rattle.tbl_lines.specs.PictureLines.{bars_among, bars_at_edge, bars_between, joint};
 ghost use Rattle.tbl_lines.specs.RowsWalked.{AreGlyphless, AreNarrow, HasGlyph};
@@ -62,10 +62,33 @@ pub struct RowColumn {
     pub end: usize,
 }
 
-/// A column of a row, whose blocks go on at these places.
+/// A column of a row that has a field in it, whose blocks go on at these places.
 // It is called for each cell.
 #[inline(always)]
 pub fn column_at(row: &RowLent<'_>, places: &[BlockPlace], at: usize) -> RowColumn
+    requires given { at < length row.now.entries.now }
+    requires column { length (lent_entries row.now) ≤ length row.now.columns.now }
+    requires place { at < length places.now }
+    requires narrow { AreNarrow row.now.columns.now }
+    ensures { let all = row_columns row.now.bars.boxing (lent_format row.now) 0 row.now.columns.now
+        (lent_entries row.now) places.now in
+        drop at all ≡ result ∷ drop (suc at) all }
+{
+    let column = row.columns[at];
+    let entry = row.entries[at];
+    RowColumn {
+        column,
+        key: key_at(row.keys, at),
+        entry,
+        place: places[at],
+        end: end_at(row, at, column, entry.kind),
+    }
+}
+
+/// Any column of a row, also behind the last field.
+// A column behind the last field is rare.
+#[inline(never)]
+pub fn column_behind(row: &RowLent<'_>, places: &[BlockPlace], at: usize) -> RowColumn
     requires entry { at < length (lent_entries row.now) }
     requires column { length (lent_entries row.now) ≤ length row.now.columns.now }
     requires place { at < length places.now }
@@ -306,6 +329,33 @@ fn begins_with_word(escapes: &mut OpenEscapes, block: &[u8], place: BlockPlace) 
     }
 }
 
+/// Whether a column of a row has a glyph on a line, where its blocks go on at these places.
+// It is called for each cell.
+#[inline(always)]
+pub fn has_glyph_at(
+    escapes: &mut OpenEscapes,
+    row: &RowLent<'_>,
+    places: &[BlockPlace],
+    line: u32,
+    at: usize,
+) -> bool
+    requires cells { CellsLie (lent_row row.now) places.now }
+    requires within { at < length (lent_entries row.now) }
+    ensures yes { result ≡ true → HasGlyph (first_of (first_cell (drop at
+        (map (cell_left row.now.bytes.now line) (row_columns row.now.bars.boxing
+        (lent_format row.now) 0 row.now.columns.now (lent_entries row.now) places.now))))) }
+    ensures no { result ≡ false → up_to_last_glyph (first_of (first_cell (drop at
+        (map (cell_left row.now.bytes.now line) (row_columns row.now.bars.boxing
+        (lent_format row.now) 0 row.now.columns.now (lent_entries row.now) places.now))))) ≡ [] }
+    ensures room { escapes.new.room ≡ escapes.old.room }
+{
+    if at < row.entries.len() {
+        column_at(row, places, at).has_glyph(escapes, row.bytes, line)
+    } else {
+        column_behind(row, places, at).has_glyph(escapes, row.bytes, line)
+    }
+}
+
 /// How many columns there are up to the last that has a glyph on a line.
 pub fn count_to_glyph(
     escapes: &mut OpenEscapes,
@@ -326,8 +376,7 @@ pub fn count_to_glyph(
     let mut count = places.len();
     while count > 0 {
         let last = count - 1;
-        let column = column_at(row, places, last);
-        if column.has_glyph(escapes, row.bytes, line) {
+        if has_glyph_at(escapes, row, places, line, last) {
             return count;
         }
         count = last;

@@ -7,7 +7,7 @@ use Rattle.tbl_lines.specs.RowsLeft.{begins_at, behind_first, block_text, cell_l
 use Rattle.tbl_lines.specs.RowsWalked.{LastHasGlyph}
 use Rattle.tbl_picture.specs.Walks.{AtColumn, KeptWalk, RowSteps, WalkedRow, passed}
 use Rattle.tbl_lines.specs.declared.row_columns.RowColumn.{RowColumn}
-use Rattle.tbl_picture.specs.declared.walk.Next.TheVariants.{AtCell}
+use Rattle.tbl_picture.specs.Nexts.{AtCell}
 use Rattle.tbl_pieces.proofs.Adding.{adds-fewer, adds-none}
 use Rattle.tbl_lines.proofs.CellsGiven.{none-given, run-given}
 use Rattle.tbl_picture.proofs.ColumnSteps.{cell-passed, cells-first, cells_behind}

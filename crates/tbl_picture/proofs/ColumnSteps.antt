@@ -11,8 +11,7 @@ use Rattle.tbl_lines.specs.RowsLeft.{behind_first, block_text, cell_left, fronts
 use Rattle.tbl_lines.specs.RowsWalked.{LastHasGlyph, PlacesLie, StandsInFirst, StandsNext, front_count, most_steps, steps_of_cells, steps_of_columns}
 use Rattle.tbl_picture.specs.Walks.{AtColumn, InLine, IsOn, IsUnderWay, KeptWalk, OnLine, RowSteps, WalkedRow, at_word, cells_in_front, cells_left, columns_left, columns_walked, fields_left, fields_now, fronts_of, further_lines, next_column, passed, row_left, row_steps, steps_of_rest}
 use Rattle.tbl_lines.specs.declared.row_columns.RowColumn.{RowColumn}
-use Rattle.tbl_picture.specs.declared.walk.Next.{Next}
-use Rattle.tbl_picture.specs.declared.walk.Next.TheVariants.{AtCell, AtFront, AtWord}
+use Rattle.tbl_picture.specs.Nexts.{AtCell, AtFront, AtWord, Next}
 use Rattle.tbl_pieces.proofs.Adding.{adds-fitting}
 use Rattle.tbl_lines.proofs.FrontCells.{many-fronts, no-fronts}
 use Rattle.tbl_lines.proofs.RowColumns.{column-lies, length-places, places-push, row-column, row_columns-push, take-next}

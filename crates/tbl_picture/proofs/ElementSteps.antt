@@ -13,8 +13,7 @@ use Rattle.tbl_pieces.specs.PieceQueue.{Adds, AddsFitting, KeptPieces}
 use Rattle.tbl_pieces.specs.Pieces.{AreWithin}
 use Rattle.tbl_picture.specs.RulesWalked.{RuleBegins, RuleStands, above_by, above_rules, below_by, line_beside, line_of_first, line_walked, is_row, next_behind_rule, rows_at, rule_front, sheet_of}
 use Rattle.tbl_picture.specs.Walks.{BeforeLine, KeptWalk, row_begun, row_left, steps_of_rest, walked}
-use Rattle.tbl_picture.specs.declared.walk.Next.{Next}
-use Rattle.tbl_picture.specs.declared.walk.Next.TheVariants.{AtElement, AtLine, AtRule, AtRuleRow}
+use Rattle.tbl_picture.specs.Nexts.{AtElement, AtLine, AtRule, AtRuleRow, Next}
 use Rattle.tbl_picture.specs.declared.walk.beside.Beside.{Beside}
 use Rattle.tbl_picture.specs.declared.walk.beside.Beside.TheVariants.{Nothing as NoRowBeside}
 use Rattle.tbl_picture.specs.declared.walk.rules.RuleLine.{RuleLine as LineBegun}

@@ -13,8 +13,7 @@ use Rattle.tbl_pieces.specs.PieceQueue.{Adds, KeptPieces}
 use Rattle.tbl_lines.specs.RowsLeft.{cell_left, first_of, from_line, fronts_by, given, given_of, if_given, one_less, then_fronts}
 use Rattle.tbl_lines.specs.RowsWalked.{HasGlyph, LastHasGlyph, front_count, most_steps, steps_of_cells, steps_of_columns}
 use Rattle.tbl_picture.specs.Walks.{FrontStands, InFront, IsOn, IsUnderWay, KeptWalk, OnLine, RowSteps, WalkedRow, cells_in_front, cells_left, columns_left, columns_walked, fields_left, fronts_of, front_passed, further_lines, next_behind, row_left, row_steps, steps_of_rest}
-use Rattle.tbl_picture.specs.declared.walk.Next.{Next}
-use Rattle.tbl_picture.specs.declared.walk.Next.TheVariants.{AtCell, AtFront}
+use Rattle.tbl_picture.specs.Nexts.{AtCell, AtFront, Next}
 use Rattle.tbl_pieces.proofs.Adding.{adds-fewer, adds-fitting, adds-none}
 use Rattle.tbl_lines.proofs.CellsGiven.{none-given, repeated-last, run-given}
 use Rattle.tbl_picture.proofs.ColumnSteps.{steps-cells}

@@ -9,6 +9,7 @@ pub mod RuleLengths
 pub mod RuleLines
 pub mod BoxedElements
 pub mod RulesBegun
+pub mod ColumnRead
 pub mod StepsGiven
 pub mod LinesBegun
 pub mod ElementSteps

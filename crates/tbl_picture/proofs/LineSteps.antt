@@ -12,8 +12,7 @@ use Rattle.tbl_lines.specs.RowsLeft.{behind_first, cell_left, fronts_by, given, 
 use Rattle.tbl_lines.specs.RowsWalked.{AreGlyphless, LastHasGlyph, PlacesLie, front_count, most_steps, steps_of_cells, steps_of_columns}
 use Rattle.tbl_picture.specs.Walks.{BeforeLine, InLine, IsOn, IsUnderWay, KeptWalk, OnLine, RowEndsOrGoesOn, RowSteps, WalkedRow, cells_left, cells_now, columns_left, columns_walked, fields_now, fronts_of, further_lines, line_cells, next_column, row_left, row_steps, steps_of_rest}
 use Rattle.tbl_lines.specs.declared.row_columns.RowColumn.{RowColumn}
-use Rattle.tbl_picture.specs.declared.walk.Next.{Next}
-use Rattle.tbl_picture.specs.declared.walk.Next.TheVariants.{AtCell, AtFront, AtLine}
+use Rattle.tbl_picture.specs.Nexts.{AtCell, AtFront, AtLine, Next}
 use Rattle.tbl_pieces.proofs.Adding.{adds-fitting}
 use Rattle.tbl_picture.proofs.ColumnSteps.{steps-cells, then-none}
 use Rattle.tbl_lines.proofs.FrontCells.{front-count, fronts-next, map-fronts, no-fronts}

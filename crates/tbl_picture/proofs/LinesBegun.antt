@@ -11,9 +11,8 @@ use Rattle.tbl_layout.specs.declared.entry.Entry.{Entry}
 use Rattle.tbl_picture.specs.ElementsWalked.{IsKeysLine, StandsAt, behind_line_by, boxed_from, from_line_by, keys_front, lines_behind_rule, lines_with_rules, steps_behind_rule, steps_by, to_come_by}
 use Rattle.tbl_lines.specs.PictureLines.{Neighbour, OfKeys, OfRules, Sheet, bar, behind_rules, lines_behind, rule_from, rule_line}
 use Rattle.tbl_picture.specs.RulesWalked.{RuleLies, RuleStands, above_by, below_by, come_behind, line_of_first, line_walked, next_behind_rule, rows_at, rule_behind, rule_front, ruled_left, sheet_of}
-use Rattle.tbl_picture.specs.Walks.{KeptWalk, walked}
-use Rattle.tbl_picture.specs.declared.walk.Next.{Next}
-use Rattle.tbl_picture.specs.declared.walk.Next.TheVariants.{AtRule}
+use Rattle.tbl_picture.specs.Walks.{KeptWalk}
+use Rattle.tbl_picture.specs.Nexts.{AtRule, Next}
 use Rattle.tbl_picture.specs.declared.walk.beside.Beside.TheVariants.{Nothing as NoRowBeside}
 use Rattle.tbl_picture.specs.declared.walk.rules.RuleBegun.{RuleBegun}
 use Rattle.tbl_picture.specs.declared.walk.rules.RuleLine.{RuleLine as LineBegun}

@@ -17,8 +17,7 @@ use Rattle.tbl_pieces.specs.PieceQueue.{Adds, KeptPieces}
 use Rattle.tbl_pieces.specs.Pieces.{AreWithin}
 use Rattle.tbl_picture.specs.RulesWalked.{is_row, line_beside, sheet_of}
 use Rattle.tbl_picture.specs.Walks.{KeptWalk, row_begun}
-use Rattle.tbl_picture.specs.declared.walk.Next.{Next}
-use Rattle.tbl_picture.specs.declared.walk.Next.TheVariants.{AtElement, AtTop}
+use Rattle.tbl_picture.specs.Nexts.{AtElement, AtTop, Next}
 use Rattle.tbl_pieces.proofs.Adding.{adds-fewer, adds-fitting, adds-none}
 use Rattle.tbl_picture.proofs.BoxedElements.{boxed-between, boxed-command, boxed-none, boxed-row, boxed-rule, rule-lines}
 use Rattle.tbl_picture.proofs.ElementSteps.{row-starts, rule-comes, rules-come}

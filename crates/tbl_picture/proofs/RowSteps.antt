@@ -15,8 +15,7 @@ use Rattle.tbl_pieces.specs.PieceQueue.{KeptPieces}
 use Rattle.tbl_pieces.specs.Pieces.{AreWithin}
 use Rattle.tbl_picture.specs.RulesWalked.{AreServed, IsRowFirst, IsRowThere, line_of_first, sheet_of}
 use Rattle.tbl_picture.specs.Walks.{IsOn, IsUnderWay, KeptWalk, RowEnds, RowEndsOrGoesOn, RowSteps, Stays, WalkedRow, row_left, row_steps, walked}
-use Rattle.tbl_picture.specs.declared.walk.Next.{Next}
-use Rattle.tbl_picture.specs.declared.walk.Next.TheVariants.{AtCell, AtElement, AtEnd, AtFront, AtLine, AtRule, AtRuleRow, AtTop, AtWord}
+use Rattle.tbl_picture.specs.Nexts.{AtCell, AtElement, AtEnd, AtFront, AtLine, AtRule, AtRuleRow, AtTop, AtWord, Next}
 use Rattle.tbl_lines.proofs.AllLaid.{all-short}
 use Rattle.tbl_lines.proofs.RowColumns.{drop-next, drop-none}
 use Rattle.tbl_picture.proofs.RowsOn.{some-on, steps-on}

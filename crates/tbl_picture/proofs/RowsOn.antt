@@ -5,8 +5,7 @@ use Rattle.tbl_lines.specs.PictureLines.{lines_from}
 use Rattle.tbl_lines.specs.RowsLeft.{given, word_given}
 use Rattle.tbl_lines.specs.RowsWalked.{front_count, most_steps, steps_of_cells, steps_of_columns, steps_of_word}
 use Rattle.tbl_picture.specs.Walks.{IsOn, IsUnderWay, KeptWalk, WalkedRow, cells_in_front, cells_left, cells_now, columns_left, fronts_of, further_lines, row_left, row_steps, steps_of_rest}
-use Rattle.tbl_picture.specs.declared.walk.Next.{Next}
-use Rattle.tbl_picture.specs.declared.walk.Next.TheVariants.{AtCell, AtElement, AtEnd, AtFront, AtLine, AtRule, AtRuleRow, AtTop, AtWord}
+use Rattle.tbl_picture.specs.Nexts.{AtCell, AtElement, AtEnd, AtFront, AtLine, AtRule, AtRuleRow, AtTop, AtWord, Next}
 use Rattle.tbl_text.specs.declared.block_parts.BlockPlace.{BlockPlace}
 
 -- some of it is left

@@ -14,8 +14,7 @@ use Rattle.tbl_pieces.specs.PieceQueue.{Adds, KeptPieces}
 use Rattle.tbl_pieces.specs.Pieces.{AreWithin}
 use Rattle.tbl_picture.specs.RulesWalked.{Crosses, Ends, FirstBegins, IsRuleOf, KeysEnded, LineEnded, RuleCrosses, RuleDoes, RuleRowNext, RuleStands, StandsBelow, above_by, below_by, come_behind, line_beside, line_of_first, line_walked, rows_at, rule_behind, rule_left, sheet_of}
 use Rattle.tbl_picture.specs.Walks.{KeptWalk, row_begun}
-use Rattle.tbl_picture.specs.declared.walk.Next.{Next}
-use Rattle.tbl_picture.specs.declared.walk.Next.TheVariants.{AtRule, AtRuleRow}
+use Rattle.tbl_picture.specs.Nexts.{AtRule, AtRuleRow, Next}
 use Rattle.tbl_picture.specs.declared.walk.rules.RuleBegun.{RuleBegun}
 use Rattle.tbl_picture.specs.declared.walk.rules.RuleLine.{RuleLine as LineBegun}
 use Rattle.tbl_picture.specs.declared.walk.rules.RuleLine.TheVariants.{OfKeys as KeysBegun, Whole as WholeBegun}

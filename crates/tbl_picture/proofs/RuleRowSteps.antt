@@ -14,7 +14,7 @@ use Rattle.tbl_lines.specs.PictureLines.{Neighbour, OfKeys, OfRules, Whole, behi
 use Rattle.tbl_lines.specs.RowsWalked.{AreNarrow}
 use Rattle.tbl_picture.specs.RulesWalked.{AreServed, IsBelow, IsRowFirst, IsRowThere, IsRuleOf, IsServed, LastIs, LengthsAre, RowServed, RuleRowNext, RuleStands, ShownThrough, above_of, above_rules, below_by, first_below, line_beside, line_of_first, line_walked, rows_at, rows_of, rules_beside, rules_first, rules_first_beside}
 use Rattle.tbl_picture.specs.Walks.{KeptWalk}
-use Rattle.tbl_picture.specs.declared.walk.Next.TheVariants.{AtRule, AtRuleRow}
+use Rattle.tbl_picture.specs.Nexts.{AtRule, AtRuleRow}
 use Rattle.tbl_picture.specs.declared.walk.beside.Beside.{Beside}
 use Rattle.tbl_picture.specs.declared.walk.beside.Beside.TheVariants.{Row as RowBeside}
 use Rattle.tbl_picture.specs.declared.walk.beside.Lengths.{Lengths}

@@ -12,7 +12,7 @@ use Rattle.tbl_lines.specs.RowsWalked.{IsNarrow}
 use Rattle.tbl_pieces.specs.PieceQueue.{Adds, KeptPieces}
 use Rattle.tbl_picture.specs.RulesWalked.{AreServed, IsAmong, LengthsAre, RuleCrosses, RuleLies, RuleStands, StandsBelow, above_by, below_by, bytes_at, come_behind, first_below, line_beside, line_of_first, line_walked, mark_given, met_there, place_behind, rule_behind, rule_left, rows_at, rows_of, ruled_left, rules_first_beside, sheet_of, shown_through}
 use Rattle.tbl_picture.specs.Walks.{KeptWalk}
-use Rattle.tbl_picture.specs.declared.walk.Next.{Next}
+use Rattle.tbl_picture.specs.Nexts.{Next}
 use Rattle.tbl_picture.specs.declared.walk.beside.Beside.{Beside}
 use Rattle.tbl_picture.specs.declared.walk.beside.Lengths.{Lengths}
 use Rattle.tbl_picture.specs.declared.walk.rules.RuleBegun.{RuleBegun}

@@ -10,8 +10,7 @@ use Rattle.tbl_lines.specs.RowsLeft.{begins_at, block_text, cell_left, first_of,
 use Rattle.tbl_lines.specs.RowsWalked.{IsBlock, steps_of_word}
 use Rattle.tbl_picture.specs.Walks.{AtColumn, KeptWalk, RowSteps, WalkedRow, at_word, further_lines, passed, row_left, row_steps}
 use Rattle.tbl_lines.specs.declared.row_columns.RowColumn.{RowColumn}
-use Rattle.tbl_picture.specs.declared.walk.Next.{Next}
-use Rattle.tbl_picture.specs.declared.walk.Next.TheVariants.{AtCell, AtWord}
+use Rattle.tbl_picture.specs.Nexts.{AtCell, AtWord, Next}
 use Rattle.tbl_lines.proofs.BlockColumns.{lines-empty, lines-word, word-glyph}
 use Rattle.tbl_picture.proofs.CellSteps.{none-steps}
 use Rattle.tbl_picture.proofs.ColumnSteps.{cells-first, cells_behind, columns_behind, fronts_behind, steps-cell, steps-word, steps_behind}

@@ -10,8 +10,7 @@ use Rattle.tbl_lines.specs.RowsLeft.{begins_at, block_text, end_given, given, gi
 use Rattle.tbl_lines.specs.RowsWalked.{StandsInFirst, StandsNext, steps_of_word}
 use Rattle.tbl_picture.specs.Walks.{AtColumn, InWord, KeptWalk, RowSteps, WalkedRow, at_word, further_lines, passed, row_left, row_steps}
 use Rattle.tbl_lines.specs.declared.row_columns.RowColumn.{RowColumn}
-use Rattle.tbl_picture.specs.declared.walk.Next.{Next}
-use Rattle.tbl_picture.specs.declared.walk.Next.TheVariants.{AtWord}
+use Rattle.tbl_picture.specs.Nexts.{AtWord, Next}
 use Rattle.tbl_lines.proofs.BlockColumns.{word-glyph}
 use Rattle.tbl_picture.proofs.ColumnSteps.{cells_behind, fronts_behind, steps-passed, steps-word, steps_behind}
 use Rattle.tbl_lines.proofs.RunsGiven.{given-last, given-two, last_given}

@@ -1,5 +1,5 @@
 -- A walk over the elements of a table's picture, and the rules that its box adds: what is to come, and what a step does.
-use Rattle.std.specs.Prelude.{◌≡◌, ℕ, suc, ◌+◌, ◌-◌, ◌*◌, ◌≤◌, ◌<◌, max, ◌&&◌, Bool, true, false, List, [], ◌∷◌, ◌++◌, drop, length, map, codes, replicate, if◌then◌else◌, ◌==◌}
+use Rattle.std.specs.Prelude.{◌≡◌, ℕ, suc, ◌+◌, ◌-◌, ◌*◌, ◌≤◌, ◌<◌, max, ◌&&◌, Bool, true, false, List, [], ◌∷◌, ◌++◌, drop, length, codes, replicate, if◌then◌else◌, ◌==◌}
 use Rattle.roff_source.specs.Bytes.{newline}
 use Rattle.tbl_format.specs.Format.{FormatRow}
 use Rattle.tbl_format.specs.RowsServed.{row_at}
@@ -13,7 +13,7 @@ use Rattle.tbl_layout.specs.declared.columns.Column.{Column}
 use Rattle.tbl_layout.specs.declared.data_lines.RuleSign.{RuleSign}
 use Rattle.tbl_layout.specs.declared.data_lines.RuleSign.TheVariants.{Single}
 use Rattle.tbl_layout.specs.declared.entry.Entry.{Entry}
-use Rattle.tbl_lines.specs.PictureLines.{Neighbour, NoRow, OfRow, OfRules, Sheet, Whole, bar, frame_rules, frame_sign, lines_behind, rule_line, ruled_inside}
+use Rattle.tbl_lines.specs.PictureLines.{Neighbour, NoRow, OfRow, OfRules, Sheet, bar, frame_rules, frame_sign, lines_behind, rule_line, ruled_inside}
 use Rattle.tbl_pieces.specs.PieceQueue.{Adds, KeptPieces, bytes_left}
 use Rattle.tbl_pieces.specs.Pieces.{AreWithin}
 use Rattle.tbl_lines.specs.RowsWalked.{AreNarrow, front_count, most_steps, steps_of_columns, steps_of_lines}
@@ -23,8 +23,7 @@ use Rattle.tbl_picture.specs.declared.walk.rules.RuleLine.{RuleLine as LineBegun
 use Rattle.tbl_picture.specs.declared.walk.rules.RuleLine.TheVariants.{OfKeys as KeysBegun, Whole as WholeBegun}
 use Rattle.tbl_layout.specs.LayoutLaws.{first_start}
 use Rattle.tbl_picture.specs.Walks.{IsUnderWay, KeptWalk, row_begun, row_left, row_steps, walked}
-use Rattle.tbl_picture.specs.declared.walk.Next.{Next}
-use Rattle.tbl_picture.specs.declared.walk.Next.TheVariants.{AtCell, AtElement, AtEnd, AtFront, AtLine, AtRule, AtRuleRow, AtTop, AtWord}
+use Rattle.tbl_picture.specs.Nexts.{AtCell, AtElement, AtEnd, AtFront, AtLine, AtRule, AtRuleRow, AtTop, AtWord, Next}
 use Rattle.tbl_picture.specs.declared.walk.beside.Beside.TheVariants.{Nothing as NoRowBeside, Row as RowBeside}
 
 -- elements, the first of them behind a row or not, with the rules that the box adds between and behind them

@@ -1,4 +1,5 @@
 pub mod Frame
+pub mod Nexts
 pub mod Walks
 pub mod RulesWalked
 pub mod ElementsWalked

@@ -15,8 +15,7 @@ use Rattle.tbl_lines.specs.PictureLines.{Mark, Neighbour, NoRow, OfKeys, OfRow, 
 use Rattle.tbl_pieces.specs.PieceQueue.{Adds, KeptPieces}
 use Rattle.tbl_lines.specs.RowsWalked.{AreNarrow}
 use Rattle.tbl_picture.specs.Walks.{KeptWalk, row_begun}
-use Rattle.tbl_picture.specs.declared.walk.Next.{Next}
-use Rattle.tbl_picture.specs.declared.walk.Next.TheVariants.{AtElement, AtEnd, AtRule, AtRuleRow}
+use Rattle.tbl_picture.specs.Nexts.{AtElement, AtEnd, AtRule, AtRuleRow, Next}
 use Rattle.tbl_picture.specs.declared.walk.beside.Beside.{Beside}
 use Rattle.tbl_picture.specs.declared.walk.beside.Beside.TheVariants.{Nothing as NoRowBeside, Row as RowBeside}
 use Rattle.tbl_picture.specs.declared.walk.beside.Lengths.{Lengths}

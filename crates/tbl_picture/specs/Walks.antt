@@ -11,8 +11,7 @@ use Rattle.tbl_lines.specs.RowsLeft.{behind_first, block_text, cell_left, from_l
 pub use Rattle.tbl_lines.specs.RowsLent.{CellsLie, WalkedRow, first_place, fronts_of, lent_entries, lent_format, lent_row, line_cells, walked}
 use Rattle.tbl_lines.specs.RowsWalked.{AreNarrow, IsNarrow, LastHasGlyph, PlacesLie, StandsInFirst, front_count, most_steps, steps_of_cells, steps_of_columns, steps_of_lines, steps_of_word}
 use Rattle.tbl_lines.specs.declared.row_columns.RowColumn.{RowColumn}
-use Rattle.tbl_picture.specs.declared.walk.Next.{Next}
-use Rattle.tbl_picture.specs.declared.walk.Next.TheVariants.{AtCell, AtElement, AtEnd, AtFront, AtLine, AtRule, AtRuleRow, AtTop, AtWord}
+use Rattle.tbl_picture.specs.Nexts.{AtCell, AtElement, AtEnd, AtFront, AtLine, AtRule, AtRuleRow, AtTop, AtWord, Next, next_by}
 use Rattle.tbl_picture.specs.declared.walk.Walk.TheInside.{Inside}
 use Rattle.tbl_picture.specs.declared.walk.beside.Beside.{Beside}
 use Rattle.tbl_text.specs.BlockPlaces.{IsWithin}
@@ -41,7 +40,7 @@ kept_by a = record {
   line = a.line;
   count = a.count;
   place = a.place + a.width;
-  next = a.next;
+  next = next_by a.next a.rule;
   places = a.places.items;
   behind = a.behind.items;
   above = a.above;

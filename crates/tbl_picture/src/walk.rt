@@ -6,6 +6,7 @@ ghost use Rattle.tbl_format.specs.Format.{FormatRow};
 ghost use Rattle.tbl_format.specs.RowsServed.{all_rows};
 ghost use Rattle.tbl_kept.specs.Rows.{KeptRows, RowsLaid, elements_of};
 ghost use Rattle.tbl_picture.specs.ElementsWalked.{first_next};
+ghost use Rattle.tbl_picture.specs.Nexts.{next_by};
 ghost use Rattle.tbl_lines.specs.PictureLines.{picture_lines};
 ghost use Rattle.std.specs.Prelude.{◌++◌, map, vec_capacity, vec_len};
 ghost use Rattle.tbl_pieces.specs.Pieces.{AreWithin};
@@ -50,9 +51,9 @@ pub enum Next {
     /// An element, or a rule that the box adds in front of it, or the rule behind all.
     AtElement,
     /// A line of a row of rule keys, which stands in front of the row that comes next.
-    AtRuleRow(RuleBegun),
+    AtRuleRow,
     /// A column on a line of rules, and the boundary behind it, or the line's end.
-    AtRule(RuleBegun),
+    AtRule,
     /// A line of a row.
     AtLine,
     /// What stands in front of a column of the row, or behind the last, where the picture is boxed.
@@ -79,6 +80,8 @@ pub struct Walk {
     /// How many columns it has.
     width: usize,
     next: Next,
+    /// The line of rules on which the walk stands, if it does.
+    rule: RuleBegun,
     /// For each column of the row where its block goes on, on this line.
     places: Vec<BlockPlace>,
     /// Where it goes on behind this line, for the columns of which this line was given.
@@ -118,6 +121,7 @@ impl Walk {
             place: 0,
             width: 0,
             next: Next::AtElement,
+            rule: RuleBegun::NOTHING,
             places: Vec::with_capacity(alloc, columns)?,
             behind: Vec::with_capacity(alloc, columns)?,
             above: Beside::Nothing,
@@ -169,11 +173,13 @@ impl Walk {
                 true
             }
             Next::AtElement => self.step_at_element(pieces, rows, format),
-            Next::AtRuleRow(rule) => {
+            Next::AtRuleRow => {
+                let rule = self.rule;
                 self.begin_rule_row(pieces, rule);
                 true
             }
-            Next::AtRule(rule) => {
+            Next::AtRule => {
+                let rule = self.rule;
                 self.step_in_rule(pieces, rows, format, rule);
                 true
             }
@@ -260,7 +266,7 @@ impl Walk {
 
 /// What comes first of a picture.
 fn first_next(boxing: Boxing) -> Next
-    ensures { result ≡ first_next boxing }
+    ensures { (rule : RuleBegun) → next_by result rule ≡ first_next boxing }
 {
     if boxing.bars == 0 {
         Next::AtElement

@@ -62,6 +62,14 @@ pub struct Side {
     pub rules: Option<Lengths>,
 }
 
+impl Side {
+    /// Nothing stands there.
+    pub const NOTHING: Side = Side {
+        line: Beside::Nothing,
+        rules: None,
+    };
+}
+
 /// What stands below the line in front of an element.
 pub(super) fn row_below(rows: &TableRows, element: usize) -> Beside
     requires { element ≤ length rows.now.elements }
@@ -294,9 +302,12 @@ fn shown_behind(
         Beside::Nothing => 0,
         Beside::Row(element) => match rows.element(element) {
             Lent::Row(keys, _, height, entries) => {
-                let joined = joined_at(format.row_of_all(keys), entries, column);
                 let bars = inner_bars(boxing, format_bars(format, keys, column + 1));
-                bars_if(is_bar(is_first_line(is_below, height), joined), bars)
+                if bars == 0 || !is_first_line(is_below, height) {
+                    return bars;
+                }
+                let joined = joined_at(format.row_of_all(keys), entries, column);
+                bars_if(joined.is_none(), bars)
             }
             _ => 0,
         },
@@ -323,15 +334,4 @@ fn is_first_line(is_below: bool, height: u32) -> bool
     ensures { result ≡ (is_below || height == 1) }
 {
     is_below || height == 1
-}
-
-/// Whether a bar between two fields isn't crossed on a line of their row, the first or not, where
-/// they are the same rule, which has this sign, or aren't.
-fn is_bar(is_first: bool, joined: Option<RuleSign>) -> bool
-    ensures { result ≡ not (is_first && is_some joined) }
-{
-    match joined {
-        Some(_) => !is_first,
-        None => true,
-    }
 }

@@ -1,20 +1,20 @@
 //! The cells of a line, as a walk gives them.
 
 ghost use Rattle.std.specs.Prelude.{◌≡◌, ℕ, suc, ◌+◌, ◌-◌, ◌<◌, ◌≤◌, List, [], ◌∷◌, ◌++◌};
-ghost use Rattle.std.specs.Prelude.{length, min};
+ghost use Rattle.std.specs.Prelude.{false, length, min, true};
 ghost use Rattle.tbl_layout.specs.declared.entry.EntryKind.TheVariants.{Split, Text};
 ghost use Rattle.tbl_pieces.specs.Pieces.{bytes_of, piece_len};
 ghost use Rattle.tbl_pieces.specs.PieceQueue.{Adds, KeptPieces};
 ghost use Rattle.tbl_lines.specs.RowsLeft.{end_given, if_given};
 ghost use Rattle.tbl_lines.specs.RowsWalked.{IsBlock, IsEmptyOn, Repeats};
+ghost use Rattle.tbl_picture.specs.Nexts.{AtCell, AtLine};
 
 use super::fronts::{count_given, next_column};
 use super::{Next, Walk};
 use roff_escape::OpenEscapes;
 use tbl_layout::data_lines::{RuleSign, sign_byte};
 use tbl_layout::entry::{EntryKind, SplitEntry};
-use tbl_layout::rule_keys::entry_at;
-use tbl_lines::row_columns::{RowColumn, RowLent, block_bytes, column_at};
+use tbl_lines::row_columns::{RowColumn, RowLent, block_bytes, column_at, column_behind};
 use tbl_pieces::piece_queue::PieceQueue;
 use tbl_pieces::pieces::Piece;
 use tbl_text::block_parts::{BlockPart, BlockPlace, next_part};
@@ -50,7 +50,7 @@ impl Walk {
         escapes: &mut OpenEscapes,
         row: &RowLent<'_>,
     )
-        requires next { self.old.next ≡ Next.AtLine }
+        requires next { self.old.next ≡ AtLine }
         requires before { BeforeLine (lent_row row.now) self.old }
         requires room { pieces.old.taken + 4 ≤ pieces.old.room }
         ensures steps { (frame : List ℕ)
@@ -87,25 +87,45 @@ impl Walk {
         at.saturating_sub(self.place).saturating_sub(self.width)
     }
 
-    /// The column at which the walk stands.
+    /// The column at which the walk stands, which has a field in it.
     // It is called for each cell.
     #[inline(always)]
     pub(super) fn column(&self, row: &RowLent<'_>) -> RowColumn
         requires line { InLine (lent_row row.now) self.now }
-        requires left { length self.now.behind < length (lent_entries row.now) }
+        requires given { length self.now.behind < length row.now.entries.now }
         ensures { AtColumn (lent_row row.now) self.now result }
     {
         column_at(row, self.places.as_slice(), self.behind.len())
     }
 
-    /// What the field of that column is.
+    /// The column at which the walk stands, also behind the last field.
+    fn any_column(&self, row: &RowLent<'_>) -> RowColumn
+        requires line { InLine (lent_row row.now) self.now }
+        requires left { length self.now.behind < length (lent_entries row.now) }
+        ensures { AtColumn (lent_row row.now) self.now result }
+    {
+        column_behind(row, self.places.as_slice(), self.behind.len())
+    }
+
+    /// Whether that column has a field in it.
+    // It is called for each cell.
+    #[inline(always)]
+    fn has_field(&self, row: &RowLent<'_>) -> bool
+        ensures yes { result ≡ true → length self.now.behind < length row.now.entries.now }
+        ensures no { result ≡ false → length row.now.entries.now ≤ length self.now.behind }
+    {
+        self.behind.len() < row.entries.len()
+    }
+
+    /// What that field is.
     // It is called for each cell.
     #[inline(always)]
     fn kind(&self, row: &RowLent<'_>) -> EntryKind
+        requires given { length self.now.behind < length row.now.entries.now }
         ensures { (held : RowColumn) → AtColumn (lent_row row.now) self.now held
             → result ≡ held.entry.kind }
     {
-        entry_at(row.keys, row.entries, self.behind.len()).kind
+        row.entries[self.behind.len()].kind
     }
 
     /// A cell of the line.
@@ -115,7 +135,7 @@ impl Walk {
         escapes: &mut OpenEscapes,
         row: &RowLent<'_>,
     )
-        requires next { self.old.next ≡ Next.AtCell }
+        requires next { self.old.next ≡ AtCell }
         requires line { InLine (lent_row row.now) self.old }
         requires left { length self.old.behind < length (lent_entries row.now) }
         requires room { pieces.old.taken + 4 ≤ pieces.old.room }
@@ -123,6 +143,9 @@ impl Walk {
             → RowSteps frame (lent_row row.now) self.old self.new pieces.old pieces.new }
         ensures escapes { escapes.new.room ≡ escapes.old.room }
     {
+        if !self.has_field(row) {
+            return self.give_unfilled(pieces, row);
+        }
         match self.kind(row) {
             EntryKind::Text(glyphs, width) => self.give_text(pieces, row, glyphs, width),
             EntryKind::Split(split) => self.give_split(pieces, row, split),
@@ -143,9 +166,30 @@ impl Walk {
         }
     }
 
+    /// A cell of the line behind the last field: the rule of a rule key, or nothing.
+    // Such a cell is rare.
+    #[inline(never)]
+    fn give_unfilled(&mut self, pieces: &mut PieceQueue, row: &RowLent<'_>)
+        requires next { self.old.next ≡ AtCell }
+        requires line { InLine (lent_row row.now) self.old }
+        requires left { length self.old.behind < length (lent_entries row.now) }
+        requires unfilled { length row.now.entries.now ≤ length self.old.behind }
+        requires room { pieces.old.taken + 4 ≤ pieces.old.room }
+        ensures { (frame : List ℕ)
+            → RowSteps frame (lent_row row.now) self.old self.new pieces.old pieces.new }
+    {
+        let held = self.any_column(row);
+        match held.entry.kind {
+            EntryKind::Ruled(sign) => {
+                self.give_repeated(pieces, row, held, sign_byte(sign), held.rule_width());
+            }
+            _ => self.pass_empty(row),
+        }
+    }
+
     /// Nothing of a column's field stands on the line.
     fn pass_empty(&mut self, row: &RowLent<'_>)
-        requires next { self.old.next ≡ Next.AtCell }
+        requires next { self.old.next ≡ AtCell }
         requires line { InLine (lent_row row.now) self.old }
         requires left { length self.old.behind < length (lent_entries row.now) }
         requires empty { (held : RowColumn) → AtColumn (lent_row row.now) self.old held
@@ -159,9 +203,9 @@ impl Walk {
 
     /// A text.
     fn give_text(&mut self, pieces: &mut PieceQueue, row: &RowLent<'_>, glyphs: u32, width: u32)
-        requires next { self.old.next ≡ Next.AtCell }
+        requires next { self.old.next ≡ AtCell }
         requires line { InLine (lent_row row.now) self.old }
-        requires left { length self.old.behind < length (lent_entries row.now) }
+        requires given { length self.old.behind < length row.now.entries.now }
         requires kind { (held : RowColumn) → AtColumn (lent_row row.now) self.old held
             → held.entry.kind ≡ Text glyphs width }
         requires room { pieces.old.taken + 4 ≤ pieces.old.room }
@@ -185,9 +229,9 @@ impl Walk {
 
     /// A number that is split.
     fn give_split(&mut self, pieces: &mut PieceQueue, row: &RowLent<'_>, split: SplitEntry)
-        requires next { self.old.next ≡ Next.AtCell }
+        requires next { self.old.next ≡ AtCell }
         requires line { InLine (lent_row row.now) self.old }
-        requires left { length self.old.behind < length (lent_entries row.now) }
+        requires given { length self.old.behind < length row.now.entries.now }
         requires kind { (held : RowColumn) → AtColumn (lent_row row.now) self.old held
             → held.entry.kind ≡ Split split }
         requires room { pieces.old.taken + 4 ≤ pieces.old.room }
@@ -223,7 +267,7 @@ impl Walk {
         byte: u8,
         count: usize,
     )
-        requires next { self.old.next ≡ Next.AtCell }
+        requires next { self.old.next ≡ AtCell }
         requires at { AtColumn (lent_row row.now) self.old held }
         requires repeats { Repeats byte count held }
         requires room { pieces.old.taken + 4 ≤ pieces.old.room }
@@ -246,9 +290,9 @@ impl Walk {
         escapes: &mut OpenEscapes,
         row: &RowLent<'_>,
     )
-        requires next { self.old.next ≡ Next.AtCell }
+        requires next { self.old.next ≡ AtCell }
         requires line { InLine (lent_row row.now) self.old }
-        requires left { length self.old.behind < length (lent_entries row.now) }
+        requires given { length self.old.behind < length row.now.entries.now }
         requires kind { (held : RowColumn) → AtColumn (lent_row row.now) self.old held
             → IsBlock held.entry.kind }
         requires room { pieces.old.taken + 4 ≤ pieces.old.room }

@@ -3,6 +3,7 @@
 ghost use Rattle.std.specs.Prelude.{◌≡◌, ℕ, ◌+◌, ◌-◌, ◌<◌, ◌≤◌, ◌^◌, List, true, drop, length};
 ghost use Rattle.tbl_format.specs.RowsServed.{all_rows};
 ghost use Rattle.tbl_pieces.specs.Pieces.{AreWithin};
+ghost use Rattle.tbl_picture.specs.Nexts.{AtElement};
 ghost use Rattle.tbl_picture.specs.RulesWalked.{AreServed, IsRowThere};
 
 use super::beside::{Beside, RuleRows};
@@ -42,7 +43,7 @@ impl Walk {
         rows: &TableRows,
         format: &FormatRows,
     ) -> bool
-        requires next { self.old.next ≡ Next.AtElement }
+        requires next { self.old.next ≡ AtElement }
         requires element { self.old.element ≤ length rows.now.elements }
         requires served { AreServed (all_rows format.now.format) rows.now.elements }
         requires above { IsRowThere rows.now.elements self.old.above }
@@ -89,7 +90,7 @@ impl Walk {
         rows: &TableRows,
         format: &FormatRows,
     ) -> bool
-        requires next { self.old.next ≡ Next.AtElement }
+        requires next { self.old.next ≡ AtElement }
         requires element { self.old.element ≡ length rows.now.elements }
         requires served { AreServed (all_rows format.now.format) rows.now.elements }
         requires above { IsRowThere rows.now.elements self.old.above }

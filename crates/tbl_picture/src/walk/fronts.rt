@@ -7,6 +7,8 @@ ghost use Rattle.tbl_layout.specs.Entries.{up_to_last_glyph};
 ghost use Rattle.tbl_lines.specs.RowsLeft.{first_cell, first_of};
 ghost use Rattle.tbl_lines.specs.RowsWalked.{AreGlyphless, HasGlyph};
 ghost use Rattle.tbl_lines.specs.RowsWalked.{LastHasGlyph};
+ghost use Rattle.tbl_picture.specs.Nexts.{AtFront, next_by};
+ghost use Rattle.tbl_picture.specs.declared.walk.rules.RuleBegun.{RuleBegun};
 ghost use Rattle.tbl_picture.specs.Walks.{CellsLie, lent_row, line_cells, next_behind};
 ghost use Rattle.tbl_picture.specs.Walks.{next_column};
 
@@ -15,7 +17,7 @@ use super::{Next, Walk};
 use roff_escape::OpenEscapes;
 use tbl_layout::data_lines::{RuleSign, sign_byte};
 use tbl_lines::fronts::{Front, front_at};
-use tbl_lines::row_columns::{RowLent, column_at, count_to_glyph};
+use tbl_lines::row_columns::{RowLent, count_to_glyph, has_glyph_at};
 use tbl_pieces::piece_queue::PieceQueue;
 use tbl_pieces::pieces::Piece;
 use tbl_text::block_parts::BlockPlace;
@@ -92,12 +94,12 @@ fn has_mark(
     if at % 2 == 0 {
         return front_at(row, at / 2).is_some();
     }
-    column_at(row, places, at / 2).has_glyph(escapes, row.bytes, line)
+    has_glyph_at(escapes, row, places, line, at / 2)
 }
 
 /// What comes next in front of a column.
 pub(super) fn next_column(has_bars: bool, column: usize) -> Next
-    ensures { result ≡ next_column has_bars column }
+    ensures { (rule : RuleBegun) → next_by result rule ≡ next_column has_bars column }
 {
     if has_bars {
         Next::AtFront(column)
@@ -112,7 +114,7 @@ impl Walk {
 
     /// What stands in front of a column, or behind the last.
     pub(super) fn give_front(&mut self, pieces: &mut PieceQueue, row: &RowLent<'_>, at: usize)
-        requires next { self.old.next ≡ Next.AtFront at }
+        requires next { self.old.next ≡ AtFront at }
         requires front { InFront (lent_row row.now) at self.old }
         requires room { pieces.old.taken + 4 ≤ pieces.old.room }
         ensures { (frame : List ℕ)
@@ -140,7 +142,7 @@ impl Walk {
         place: usize,
         bars: u8,
     )
-        requires next { self.old.next ≡ Next.AtFront at }
+        requires next { self.old.next ≡ AtFront at }
         requires front { FrontStands (lent_row row.now) at (bars_at place bars) self.old }
         requires some { 0 < bars }
         requires room { pieces.old.taken + 4 ≤ pieces.old.room }
@@ -164,7 +166,7 @@ impl Walk {
         sign: RuleSign,
         end: usize,
     )
-        requires next { self.old.next ≡ Next.AtFront at }
+        requires next { self.old.next ≡ AtFront at }
         requires front { FrontStands (lent_row row.now) at (crossed_at place bars sign end)
             self.old }
         requires some { 0 < bars }
@@ -199,7 +201,7 @@ impl Walk {
 /// What comes next behind what stands in front of a column.
 fn next_behind(is_field: bool, is_inner: bool, at: usize) -> Next
     requires { is_inner ≡ true → at < 2 ^ 64 - 1 }
-    ensures { result ≡ next_behind is_field is_inner at }
+    ensures { (rule : RuleBegun) → next_by result rule ≡ next_behind is_field is_inner at }
 {
     if is_field || !is_inner {
         Next::AtCell

@@ -1,6 +1,7 @@
 //! The words of a block's line, and the ends of lines, as a walk gives them.
 
 ghost use Rattle.std.specs.Prelude.{◌≡◌, ℕ, ◌+◌, ◌<◌, ◌^◌, ◌≤◌, List, [], length};
+ghost use Rattle.tbl_picture.specs.Nexts.{AtCell, AtWord};
 
 use super::cells::{end_given, give};
 use super::{Next, Walk};
@@ -27,7 +28,7 @@ impl Walk {
         width: u64,
         place: BlockPlace,
     )
-        requires next { self.old.next ≡ Next.AtWord word width place }
+        requires next { self.old.next ≡ AtWord word width place }
         requires word { InWord (lent_row row.now) word width place self.old }
         requires room { pieces.old.taken + 4 ≤ pieces.old.room }
         ensures steps { (frame : List ℕ)
@@ -58,7 +59,7 @@ impl Walk {
 
     /// The line ends. Answers whether it was the row's last.
     pub(super) fn end_line(&mut self, pieces: &mut PieceQueue, row: &RowLent<'_>) -> bool
-        requires next { self.old.next ≡ Next.AtCell }
+        requires next { self.old.next ≡ AtCell }
         requires line { InLine (lent_row row.now) self.old }
         requires all { length self.old.behind ≡ length (lent_entries row.now) }
         requires small { row.now.height < 2 ^ 32 }

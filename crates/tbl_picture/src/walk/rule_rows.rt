@@ -103,7 +103,7 @@ impl Walk {
         pieces.add(Piece::Repeated(CROSSING, left as usize));
         self.place = left as usize;
         self.width = 0;
-        self.next = Next::AtRule(RuleBegun {
+        self.rule = RuleBegun {
             line: RuleLine::Whole(sign, is_last),
             column: 0,
             from: left as usize,
@@ -117,7 +117,8 @@ impl Walk {
             },
             left,
             right,
-        });
+        };
+        self.next = Next::AtRule;
     }
 
     /// The first of the rows of rule keys comes next that stand in front of the row that is the
@@ -143,7 +144,7 @@ impl Walk {
             first: rules.first + 1,
             count: rules.count - 1,
         };
-        self.next = Next::AtRuleRow(RuleBegun {
+        self.rule = RuleBegun {
             line: RuleLine::OfKeys(rules.first, behind.count),
             column: 0,
             from: first_start(rows.columns(), left),
@@ -157,7 +158,8 @@ impl Walk {
             },
             left,
             right: self.met_at_edge(rows, format, below, rules, rows.columns().len()),
-        });
+        };
+        self.next = Next::AtRuleRow;
     }
 
     /// The line of a row of rule keys begins.
@@ -171,7 +173,8 @@ impl Walk {
         pieces.add(Piece::Repeated(BAR, rule.left as usize));
         self.place = rule.left as usize;
         self.width = 0;
-        self.next = Next::AtRule(rule);
+        self.rule = rule;
+        self.next = Next::AtRule;
     }
 
     /// How many bars meet at an edge of the picture, on a line of rules above these rows of rule
@@ -223,8 +226,8 @@ impl Walk {
             self.new }
     {
         if left > 0 {
-            let next = rule_row_behind(format, rows.columns(), rule, row, left);
-            self.next = Next::AtRuleRow(next);
+            self.rule = rule_row_behind(format, rows.columns(), rule, row, left);
+            self.next = Next::AtRuleRow;
         } else if let Lent::Row(keys, _, _, entries) = rows.element(self.element) {
             self.begin_row(format.row_of_all(keys), entries);
         }

@@ -8,6 +8,7 @@ ghost use Rattle.tbl_format.specs.RowsServed.{all_rows};
 ghost use Rattle.tbl_layout.specs.DataLines.{sign_byte};
 ghost use Rattle.tbl_picture.specs.ElementsWalked.{FirstFits};
 ghost use Rattle.tbl_lines.specs.PictureLines.{frame_sign};
+ghost use Rattle.tbl_picture.specs.Nexts.{AtRule, next_by};
 ghost use Rattle.tbl_picture.specs.RulesWalked.{AreServed, LineEnded, RuleCrosses, RuleDoes};
 ghost use Rattle.tbl_picture.specs.RulesWalked.{RuleEnds, RuleLies, RuleStands, is_row};
 ghost use Rattle.tbl_picture.specs.RulesWalked.{come_behind, next_behind_rule, rule_behind};
@@ -52,6 +53,19 @@ pub struct RuleBegun {
     pub right: u8,
 }
 
+impl RuleBegun {
+    /// A line beside which nothing stands.
+    pub const NOTHING: RuleBegun = RuleBegun {
+        line: RuleLine::Whole(RuleSign::Single, false),
+        column: 0,
+        from: 0,
+        above: Side::NOTHING,
+        below: Side::NOTHING,
+        left: 0,
+        right: 0,
+    };
+}
+
 /// What is drawn where a rule crosses a bar.
 pub(super) const CROSSING: u8 = b'+';
 
@@ -81,7 +95,7 @@ fn is_row(beside: Beside) -> bool
 
 /// What comes next behind a rule line, which was the picture's last line or not.
 pub(super) fn next_behind_rule(is_last: bool) -> Next
-    ensures { result ≡ next_behind_rule is_last }
+    ensures { (rule : RuleBegun) → next_by result rule ≡ next_behind_rule is_last }
 {
     if is_last {
         Next::AtEnd
@@ -109,22 +123,6 @@ fn draws_nothing(is_on: bool, count: u8) -> bool
     is_on && count == 0
 }
 
-/// What comes next behind a column, where the rule over the next one begins at a place.
-fn next_boundary(rule: RuleBegun, from: usize) -> Next
-    requires { rule.column < 2 ^ 64 - 1 }
-    ensures { result ≡ Next.AtRule (rule_behind rule from) }
-{
-    Next::AtRule(RuleBegun {
-        line: rule.line,
-        column: rule.column + 1,
-        from,
-        above: rule.above,
-        below: rule.below,
-        left: rule.left,
-        right: rule.right,
-    })
-}
-
 impl Walk {
     /// Whether a rule is to be given between the row above and the row that comes next.
     pub(super) fn rules_between(&self) -> bool
@@ -142,6 +140,7 @@ impl Walk {
         format: &FormatRows,
         rule: RuleBegun,
     )
+        requires next { self.old.next ≡ AtRule rule }
         requires served { AreServed (all_rows format.now.format) rows.now.elements }
         requires lies { RuleLies (all_rows format.now.format) rows.now rule self.old
             (drop self.old.element rows.now.elements) }
@@ -171,6 +170,7 @@ impl Walk {
         format: &FormatRows,
         rule: RuleBegun,
     )
+        requires next { self.old.next ≡ AtRule rule }
         requires served { AreServed (all_rows format.now.format) rows.now.elements }
         requires within { rule.column + 1 < length rows.now.columns }
         requires lies { RuleLies (all_rows format.now.format) rows.now rule self.old
@@ -185,7 +185,7 @@ impl Walk {
         let count = self.met_behind(rows, format, rule);
         let is_on = goes_on(format, rule.line, rule.column);
         if draws_nothing(is_on, count) {
-            self.pass_column(rule);
+            self.go_over(rule, rule.from);
             return;
         }
         let column = columns[rule.column];
@@ -194,24 +194,18 @@ impl Walk {
         let end = end_behind(is_on, at + count as usize, column, next);
         let sign = sign_over(format, rule.line, rule.column);
         self.give_behind(pieces, sign, rule.from, at, count, end);
-        let behind = next_boundary(rule, end);
-        self.come_to(behind);
+        self.go_over(rule, end);
     }
 
-    /// The rule over a column goes on over the next one.
-    fn pass_column(&mut self, rule: RuleBegun)
-        requires { rule.column < 2 ^ 64 - 1 }
-        ensures { self.new ≡ come_behind rule rule.from self.old.place self.old }
+    /// The line of rules goes on behind a column, where the rule over the next one begins at a
+    /// place.
+    fn go_over(&mut self, rule: RuleBegun, from: usize)
+        requires next { self.old.next ≡ AtRule rule }
+        requires small { rule.column < 2 ^ 64 - 1 }
+        ensures { self.new ≡ record self.old { next = AtRule (rule_behind rule from) } }
     {
-        let same = next_boundary(rule, rule.from);
-        self.come_to(same);
-    }
-
-    /// This comes next.
-    fn come_to(&mut self, next: Next)
-        ensures { self.new ≡ record self.old { next = next } }
-    {
-        self.next = next;
+        self.rule.column = rule.column + 1;
+        self.rule.from = from;
     }
 
     /// The rule over the last column.
@@ -222,6 +216,7 @@ impl Walk {
         format: &FormatRows,
         rule: RuleBegun,
     )
+        requires next { self.old.next ≡ AtRule rule }
         requires served { AreServed (all_rows format.now.format) rows.now.elements }
         requires lies { RuleLies (all_rows format.now.format) rows.now rule self.old
             (drop self.old.element rows.now.elements) }
@@ -237,8 +232,7 @@ impl Walk {
         let to = rule_to(rule.line, right, rows.columns());
         let sign = sign_over(format, rule.line, rule.column);
         self.give_over(pieces, sign, rule.from, to);
-        let behind = next_boundary(rule, to);
-        self.come_to(behind);
+        self.go_over(rule, to);
     }
 
     /// A line of rules ends.

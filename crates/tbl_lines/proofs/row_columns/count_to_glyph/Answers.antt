@@ -1,8 +1,9 @@
-use Rattle.std.proofs.Common.{◌≡◌, ℕ, suc, ◌-◌, length, drop, map, refl, sym, subst, ◌∙◌, arith}
+use Rattle.std.proofs.Common.{◌≡◌, ℕ, suc, ◌-◌, ◌<◌, length, drop, map, refl, sym, subst, ◌∙◌, arith}
 use Rattle.std.proofs.lemmas.List.{drop_all, length-map}
-use Rattle.tbl_lines.specs.RowsLeft.{cell_left, row_columns}
+use Rattle.tbl_lines.specs.RowsLeft.{cell_left, first_cell, row_columns}
 use Rattle.tbl_lines.specs.RowsWalked.{AreGlyphless, LastHasGlyph}
-use Rattle.tbl_lines.proofs.RowColumns.{column-lies, length-places, length-row_columns, map-at}
+use Rattle.tbl_lines.proofs.GivenFields.{first-left}
+use Rattle.tbl_lines.proofs.RowColumns.{length-places, length-row_columns}
 use Rattle.tbl_lines.proofs.RunsGiven.{glyphless-more, last-at, last-none}
 use Rattle.tbl_lines.specs.RowsLent.{lent_entries, lent_format}
 use Rattle.tbl_lines.proofs.row_columns.count_to_glyph.Goals as goal
@@ -23,57 +24,34 @@ loop-count-init c =
       room = refl;
     }
 
-pub column_at-column-requires-clause-place : goal.column_at-column-requires-clause-place
-column_at-column-requires-clause-place c =
-    omega (
-      arith,
-      c.loop-count-test.true,
-      c.loop-count.invariant.few,
-      length-places c.args.row.now.bytes.now (lent_entries c.args.row.now) c.args.places.now c.requires.cells.places,
-    )
-
-pub has_glyph-requires-clause-lies : goal.has_glyph-requires-clause-lies
-has_glyph-requires-clause-lies c =
+pub returns-then-has_glyph_at-clause-last : goal.returns-then-has_glyph_at-clause-last
+returns-then-has_glyph_at-clause-last c =
     let row = c.args.row.now in
     let places = c.args.places.now in
     let n = c.loop-count.count - 1 in
     let all = row_columns row.bars.boxing (lent_format row) 0 row.columns.now (lent_entries row) places in
-    (column-lies row.bytes.now row.bars.boxing (lent_format row) 0 n row.columns.now (lent_entries row) places c.column_at-column.result (drop (suc n) all)
-    c.column_at-column.ensures c.requires.cells.lie c.requires.cells.narrow c.requires.cells.places).lies
-
-pub has_glyph-requires-clause-within : goal.has_glyph-requires-clause-within
-has_glyph-requires-clause-within c =
-    let row = c.args.row.now in
-    let places = c.args.places.now in
-    let n = c.loop-count.count - 1 in
-    let all = row_columns row.bars.boxing (lent_format row) 0 row.columns.now (lent_entries row) places in
-    (column-lies row.bytes.now row.bars.boxing (lent_format row) 0 n row.columns.now (lent_entries row) places c.column_at-column.result (drop (suc n) all)
-    c.column_at-column.ensures c.requires.cells.lie c.requires.cells.narrow c.requires.cells.places).within
-
-pub returns-then-has_glyph-clause-last : goal.returns-then-has_glyph-clause-last
-returns-then-has_glyph-clause-last c =
-    let row = c.args.row.now in
-    let n = c.loop-count.count - 1 in
-    let all = row_columns row.bars.boxing (lent_format row) 0 row.columns.now (lent_entries row) c.args.places.now in
-    let f = cell_left row.bytes.now c.args.line in
-    let held = c.column_at-column.result in
+    let cells = map (cell_left row.bytes.now c.args.line) all in
+    let many = length-row_columns row.bars.boxing (lent_format row) row.bytes.now 0 row.columns.now (lent_entries row) places c.requires.cells.short c.requires.cells.places in
+    let few : n < length cells = omega (arith, c.loop-count-test.true, c.loop-count.invariant.few, many, length-map all (cell_left row.bytes.now c.args.line)) in
     let same : suc n ≡ c.loop-count.count = omega (arith, c.loop-count-test.true) in
-    subst (λ (k : ℕ). LastHasGlyph k (map f all)) same
-    (last-at n (map f all) (f held) (drop (suc n) (map f all)) (map-at f n all held c.column_at-column.ensures) (c.has_glyph.ensures.yes c.if-has_glyph.true))
+    subst (λ (k : ℕ). LastHasGlyph k cells) same
+    (last-at n cells (first_cell (drop n cells)) (drop (suc n) cells) (first-left n cells few) (c.has_glyph_at.ensures.yes c.if-has_glyph_at.true))
 
 pub loop-count-preserved : goal.loop-count-preserved
 loop-count-preserved c =
     let row = c.args.row.now in
+    let places = c.args.places.now in
     let n = c.loop-count.count - 1 in
-    let all = row_columns row.bars.boxing (lent_format row) 0 row.columns.now (lent_entries row) c.args.places.now in
-    let f = cell_left row.bytes.now c.args.line in
-    let held = c.column_at-column.result in
+    let all = row_columns row.bars.boxing (lent_format row) 0 row.columns.now (lent_entries row) places in
+    let cells = map (cell_left row.bytes.now c.args.line) all in
+    let many = length-row_columns row.bars.boxing (lent_format row) row.bytes.now 0 row.columns.now (lent_entries row) places c.requires.cells.short c.requires.cells.places in
+    let few : n < length cells = omega (arith, c.loop-count-test.true, c.loop-count.invariant.few, many, length-map all (cell_left row.bytes.now c.args.line)) in
     let same : c.loop-count.count ≡ suc n = omega (arith, c.loop-count-test.true) in
     record {
       few = omega (arith, c.loop-count.invariant.few);
-      behind = glyphless-more n (map f all) (f held) (map-at f n all held c.column_at-column.ensures) (c.has_glyph.ensures.no c.if-has_glyph.false)
-          (subst (λ (k : ℕ). AreGlyphless (drop k (map f all))) same c.loop-count.invariant.behind);
-      room = c.has_glyph.ensures.room ∙ c.loop-count.invariant.room;
+      behind = glyphless-more n cells (first_cell (drop n cells)) (first-left n cells few) (c.has_glyph_at.ensures.no c.if-has_glyph_at.false)
+          (subst (λ (k : ℕ). AreGlyphless (drop k cells)) same c.loop-count.invariant.behind);
+      room = c.has_glyph_at.ensures.room ∙ c.loop-count.invariant.room;
     }
 
 pub returns-clause-last : goal.returns-clause-last

@@ -5,7 +5,7 @@ use Rattle.tbl_picture.specs.Walks.{BeforeLine, KeptWalk, RowSteps, kept_by, len
 use Rattle.tbl_pieces.proofs.Adding.{adds-fewer}
 use Rattle.tbl_picture.proofs.LineSteps.{begun-line}
 use Rattle.tbl_picture.proofs.walk.Walk.begin_line.Goals as goal
-use Rattle.tbl_picture.specs.declared.walk.Next.{Next}
+use Rattle.tbl_picture.specs.Nexts.{Next, next_by}
 use Rattle.tbl_text.specs.declared.block_parts.BlockPlace.{BlockPlace}
 
 pub returns-clause-steps : goal.returns-clause-steps
@@ -25,6 +25,6 @@ returns-clause-steps c = λ frame.
     (subst (λ (ps : List BlockPlace). AreGlyphless (drop count (cells ps))) places found.behind)
     (adds-fewer row.bytes frame 1 4 before after (codes "\\&") (omega arith) (c.add.ensures.adds row.bytes frame refl)) in
     let new : Next → List BlockPlace → KeptWalk = λ next behind. record w { count = count; place = 0; next = next; behind = behind } in
-    subst (λ (k : KeptWalk). RowSteps frame row k (new c.next_column-self-inside.result c.clear.new.self.items) before after) view
-    (subst (λ (next : Next). RowSteps frame row w (new next c.clear.new.self.items) before after) (sym c.next_column-self-inside.ensures)
+    subst (λ (k : KeptWalk). RowSteps frame row k (new (next_by c.next_column-self-inside.result c.self.inside.rule) c.clear.new.self.items) before after) view
+    (subst (λ (next : Next). RowSteps frame row w (new next c.clear.new.self.items) before after) (sym (c.next_column-self-inside.ensures c.self.inside.rule))
     (subst (λ (behind : List BlockPlace). RowSteps frame row w (new (next_column row.bars.has_any 0) behind) before after) (sym c.clear.ensures.items) steps))

@@ -1,11 +1,11 @@
-use Rattle.std.proofs.Common.{◌≡◌, ℕ, ◌+◌, ◌++◌, false, true, drop, length, codes, replicate, List, refl, sym, ap, subst, ◌∙◌, arith}
+use Rattle.std.proofs.Common.{◌≡◌, ℕ, ◌+◌, ◌++◌, false, true, length, codes, replicate, List, refl, sym, ap, subst, ◌∙◌, arith}
 use Rattle.std.proofs.lemmas.List.{length-replicate}
 use Rattle.tbl_format.specs.RowsServed.{all_rows}
 use Rattle.tbl_layout.specs.declared.columns.Column.{Column}
 use Rattle.tbl_lines.specs.PictureLines.{Whole, behind_rules, crossing, met_at_edge}
 use Rattle.tbl_picture.specs.RulesWalked.{IsRowThere, RuleBegins, line_beside, rows_of}
 use Rattle.tbl_picture.specs.Walks.{KeptWalk, kept_by}
-use Rattle.tbl_picture.specs.declared.walk.Next.TheVariants.{AtRule}
+use Rattle.tbl_picture.specs.Nexts.{AtRule}
 use Rattle.tbl_pieces.proofs.Adding.{adds-fewer, adds-more}
 use Rattle.tbl_picture.proofs.RuleRowSteps.{whole-stands, whole_rule}
 use Rattle.tbl_picture.proofs.walk.Walk.begin_rule.Goals as goal

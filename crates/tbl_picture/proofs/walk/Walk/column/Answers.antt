@@ -1,13 +1,16 @@
-use Rattle.std.proofs.Common.{◌≡◌, ◌<◌, ℕ, suc, List, ◌∷◌, length, drop, sym, ap, subst, arith}
-use Rattle.tbl_lines.specs.RowsLeft.{row_columns}
-use Rattle.tbl_picture.specs.Walks.{AtColumn, InLine, KeptWalk, kept_by, lent_row}
-use Rattle.tbl_picture.proofs.ColumnSteps.{at-column, column-there}
+use Rattle.std.proofs.Common.{◌≡◌, ◌<◌, length, sym, ap, subst, arith}
+use Rattle.tbl_picture.specs.Walks.{AtColumn, InLine, KeptWalk, kept_by, lent_format, lent_row}
+use Rattle.tbl_picture.proofs.ColumnSteps.{column-there}
+use Rattle.tbl_picture.proofs.ColumnRead.{column-read}
+use Rattle.tbl_lines.proofs.GivenFields.{given-within}
 use Rattle.tbl_picture.proofs.walk.Walk.column.Goals as goal
-use Rattle.tbl_text.specs.declared.block_parts.BlockPlace.{BlockPlace}
 
 pub column_at-requires-clause-place : goal.column_at-requires-clause-place
 column_at-requires-clause-place c =
-    let there = column-there (lent_row c.args.row.now) c.args.self.now c.requires.line c.requires.left in
+    let row = c.args.row.now in
+    let w = c.args.self.now in
+    let left = given-within (lent_format row) row.entries.now (length w.behind) c.requires.given in
+    let there = column-there (lent_row row) w c.requires.line left in
     let at = ap (λ (k : KeptWalk). length k.behind) c.self.view_is in
     let all = ap (λ (k : KeptWalk). length k.places) c.self.view_is in
     omega (arith, there.few, at, all, c.len.ensures, c.self.inside.behind.ok.0, ap length c.as_slice.ensures.value)
@@ -18,9 +21,8 @@ returns c =
     let w = kept_by c.self.inside in
     let r = c.column_at.result in
     let line : InLine row w = subst (λ (k : KeptWalk). InLine row k) (sym c.self.view_is) c.requires.line in
-    let left : length w.behind < length row.entries = subst (λ (k : KeptWalk). length k.behind < length row.entries) (sym c.self.view_is) c.requires.left in
+    let within = given-within (lent_format c.args.row.now) c.args.row.now.entries.now (length c.args.self.now.behind) c.requires.given in
+    let left : length w.behind < length row.entries = subst (λ (k : KeptWalk). length k.behind < length row.entries) (sym c.self.view_is) within in
     let same : c.len.result ≡ length w.behind = omega (arith, c.len.ensures, c.self.inside.behind.ok.0) in
-    let all : List BlockPlace → ℕ → Type 0 = λ places n.
-    drop n (row_columns row.bars.boxing row.format 0 row.columns row.entries places) ≡ r ∷ drop (suc n) (row_columns row.bars.boxing row.format 0 row.columns row.entries places) in
-    let first = subst (λ (n : ℕ). all w.places n) same (subst (λ (places : List BlockPlace). all places c.len.result) c.as_slice.ensures.value c.column_at.ensures) in
-    subst (λ (k : KeptWalk). AtColumn row k r) c.self.view_is (at-column row w r line left first)
+    subst (λ (k : KeptWalk). AtColumn row k r) c.self.view_is
+    (column-read row w r c.as_slice.result.now c.len.result line left same c.as_slice.ensures.value c.column_at.ensures)

@@ -3,9 +3,9 @@ use Rattle.tbl_format.specs.RowsServed.{all_rows}
 use Rattle.tbl_layout.specs.Columns.{bar_place, bars_end}
 use Rattle.tbl_layout.specs.declared.columns.Column.{Column}
 use Rattle.tbl_lines.specs.PictureLines.{mark_behind}
-use Rattle.tbl_picture.specs.RulesWalked.{RuleCrosses, come_behind, place_behind}
+use Rattle.tbl_picture.specs.RulesWalked.{RuleCrosses, come_behind, place_behind, rule_behind}
 use Rattle.tbl_picture.specs.Walks.{KeptWalk}
-use Rattle.tbl_picture.specs.declared.walk.Next.{Next}
+use Rattle.tbl_picture.specs.Nexts.{AtRule}
 use Rattle.tbl_picture.proofs.RuleSteps.{crosses-none, crosses-some, rule-among}
 use Rattle.tbl_picture.proofs.walk.Walk.come_behind.Goals as goal
 
@@ -25,7 +25,7 @@ returns-then-draws_nothing c = λ bytes frame stands.
     let w = c.args.self.now in
     let before = c.args.pieces.now in
     let no_column : Column = record { needs = record { alone = 0; strip = 0; left = 0; right = 0; split = 0 }; measure = 0; bars = 0; width = 0; start = 0 } in
-    subst (λ (k : KeptWalk). RuleCrosses bytes frame formats rows rule w k before before) (sym c.pass_column.ensures)
+    subst (λ (k : KeptWalk). RuleCrosses bytes frame formats rows rule w k before before) (sym c.go_over.ensures)
     (crosses-none bytes frame formats rows rule w before before no_column c.requires.within c.requires.lies c.goes_on-is_on.result
     c.met_behind-count.result c.goes_on-is_on.ensures (c.met_behind-count.ensures bytes stands) (sym c.draws_nothing.ensures ∙ c.if-draws_nothing.true))
 
@@ -49,10 +49,8 @@ returns c = λ bytes frame stands.
     ∙ ap (λ (cs : List Column). bar_place n (get_or cs rule.column no_column) (get_or cs (rule.column + 1) no_column)) columns in
     let end_is = c.end_behind-end.ensures
     ∙ ap (λ (cs : List Column). if is_on then at + n else bars_end (get_or cs rule.column no_column) (get_or cs (rule.column + 1) no_column)) columns in
-    let next : c.come_to.new.self ≡ come_behind rule end (place_behind mark w.place) w =
-    c.come_to.ensures
-    ∙ ap (λ (k : KeptWalk). record k { next = c.next_boundary-behind.result }) c.give_behind.ensures.walk
-    ∙ ap (λ (m : Next). record w { place = place_behind mark w.place; next = m }) c.next_boundary-behind.ensures in
+    let next : c.go_over-2.new.self ≡ come_behind rule end (place_behind mark w.place) w =
+    c.go_over-2.ensures ∙ ap (λ (k : KeptWalk). record k { next = AtRule (rule_behind rule end) }) c.give_behind.ensures.walk in
     subst (λ (k : KeptWalk). RuleCrosses bytes frame formats rows rule w k before after) (sym next)
     (crosses-some bytes frame formats rows rule w before after no_column c.requires.within c.requires.lies sign is_on n at end
     c.sign_over-sign.ensures c.goes_on-is_on.ensures (c.met_behind-count.ensures bytes stands) at_is end_is (omega arith)

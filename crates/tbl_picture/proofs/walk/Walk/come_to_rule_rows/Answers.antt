@@ -7,7 +7,7 @@ use Rattle.tbl_picture.specs.ElementsWalked.{RulesCome}
 use Rattle.tbl_lines.specs.PictureLines.{Whole, behind_rules, met_at_edge}
 use Rattle.tbl_picture.specs.RulesWalked.{IsRowThere, LastIs, LengthsAre, line_beside, rows_at, rows_of, rules_first}
 use Rattle.tbl_picture.specs.Walks.{KeptWalk, kept_by}
-use Rattle.tbl_picture.specs.declared.walk.Next.TheVariants.{AtRuleRow}
+use Rattle.tbl_picture.specs.Nexts.{AtRuleRow}
 use Rattle.tbl_picture.specs.declared.walk.beside.Beside.TheVariants.{Row as RowBeside}
 use Rattle.tbl_picture.specs.declared.walk.rules.RuleBegun.{RuleBegun}
 use Rattle.tbl_picture.specs.declared.walk.rules.RuleLine.TheVariants.{OfKeys as KeysBegun}

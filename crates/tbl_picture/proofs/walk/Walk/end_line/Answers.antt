@@ -2,7 +2,7 @@ use Rattle.std.proofs.Common.{◌≡◌, List, refl, sym, ap, subst, ◌∙◌, 
 use Rattle.std.specs.Prelude.{nat_eq}
 use Rattle.roff_source.specs.Bytes.{newline}
 use Rattle.tbl_picture.specs.Walks.{InLine, KeptWalk, RowEndsOrGoesOn, kept_by, lent_row}
-use Rattle.tbl_picture.specs.declared.walk.Next.TheVariants.{AtLine}
+use Rattle.tbl_picture.specs.Nexts.{AtLine}
 use Rattle.tbl_text.specs.declared.block_parts.BlockPlace.{BlockPlace}
 use Rattle.tbl_pieces.proofs.Adding.{adds-fewer}
 use Rattle.tbl_picture.proofs.LineSteps.{ended-by}

@@ -1,9 +1,9 @@
 use Rattle.std.proofs.Common.{◌≡◌, ◌-◌, sym, ap, subst, ◌∙◌, arith}
 use Rattle.tbl_format.specs.RowsServed.{all_rows}
 use Rattle.tbl_lines.specs.PictureLines.{last_mark, rule_to}
-use Rattle.tbl_picture.specs.RulesWalked.{RuleCrosses, come_behind, line_walked, mark_given, place_behind}
+use Rattle.tbl_picture.specs.RulesWalked.{RuleCrosses, come_behind, line_walked, mark_given, place_behind, rule_behind}
 use Rattle.tbl_picture.specs.Walks.{KeptWalk}
-use Rattle.tbl_picture.specs.declared.walk.Next.{Next}
+use Rattle.tbl_picture.specs.Nexts.{AtRule}
 use Rattle.tbl_pieces.proofs.Adding.{adds-fewer}
 use Rattle.tbl_picture.proofs.RuleSteps.{crosses-last, rule-among}
 use Rattle.tbl_picture.proofs.walk.Walk.give_last.Goals as goal
@@ -26,10 +26,8 @@ returns c = λ bytes frame stands.
     let mark = last_mark sign rule.from to in
     let right_is : right ≡ w.picture_width - rule.right = c.saturating_sub-right.ensures ∙ ap (λ (k : KeptWalk). k.picture_width - rule.right) c.self.view_is in
     let to_is = c.rule_to-to.ensures formats ∙ ap (rule_to (line_walked formats rule.line) right) c.columns.ensures in
-    let next : c.come_to.new.self ≡ come_behind rule to (place_behind mark w.place) w =
-    c.come_to.ensures
-    ∙ ap (λ (k : KeptWalk). record k { next = c.next_boundary-behind.result }) c.give_over.ensures.walk
-    ∙ ap (λ (m : Next). record w { place = place_behind mark w.place; next = m }) c.next_boundary-behind.ensures in
+    let next : c.go_over.new.self ≡ come_behind rule to (place_behind mark w.place) w =
+    c.go_over.ensures ∙ ap (λ (k : KeptWalk). record k { next = AtRule (rule_behind rule to) }) c.give_over.ensures.walk in
     subst (λ (k : KeptWalk). RuleCrosses bytes frame formats rows rule w k before after) (sym next)
     (crosses-last bytes frame formats rows rule w before after sign right to c.sign_over-sign.ensures right_is to_is c.requires.last c.requires.within
     c.requires.lies (adds-fewer bytes frame 2 4 before after (mark_given mark w.place) (omega arith) (c.give_over.ensures.adds bytes frame)))

@@ -6,7 +6,11 @@ use Rattle.tbl_lines.specs.RowsLeft.{block_text, given, if_given, one_less}
 use Rattle.tbl_picture.specs.Walks.{AtColumn, InWord, KeptWalk, RowSteps, at_word, columns_walked, kept_by, lent_row, passed}
 use Rattle.tbl_pieces.proofs.Adding.{adds-fewer, adds-more}
 use Rattle.tbl_picture.proofs.CellSteps.{end-within}
-use Rattle.tbl_picture.proofs.ColumnSteps.{cells_behind}
+use Rattle.tbl_layout.specs.KeptEntries.{no_entry}
+use Rattle.tbl_layout.specs.declared.entry.Entry.{Entry}
+use Rattle.tbl_lines.specs.RowsWalked.{IsBlock}
+use Rattle.tbl_picture.proofs.ColumnSteps.{cells_behind, column-there, entry-there}
+use Rattle.tbl_lines.proofs.GivenFields.{block-given}
 use Rattle.tbl_lines.proofs.RowColumns.{length-row_columns}
 use Rattle.tbl_picture.proofs.WordsGiven.{end-some, ends-steps, joins-steps, some-left, stands-at, word-in, word-last, word-within}
 use Rattle.tbl_picture.proofs.walk.Walk.give_word.Goals as goal
@@ -15,16 +19,19 @@ use Rattle.tbl_text.specs.BlockLines.{behind_rest, rest_of_line}
 use Rattle.tbl_text.specs.BlockPlaces.{IsWithin, LiesBehind, left_at, parts_at, word_at}
 use Rattle.tbl_text.specs.BlockWords.{OneWord}
 
-pub column-held-requires-clause-left : goal.column-held-requires-clause-left
-column-held-requires-clause-left c =
-    let row = lent_row c.args.row.now in
+pub column-held-requires-clause-given : goal.column-held-requires-clause-given
+column-held-requires-clause-given c =
+    let lent = c.args.row.now in
+    let row = lent_row lent in
     let w = c.args.self.now in
     let b = c.requires.word.line.on.before in
-    omega (
-      arith,
-      some-left row.bytes c.args.word c.args.width c.args.place (length w.behind) (columns_walked row w) c.requires.word.next,
-      length-row_columns row.bars.boxing row.format row.bytes 0 row.columns row.entries w.places b.short b.places,
-    )
+    let many = length-row_columns row.bars.boxing row.format row.bytes 0 row.columns row.entries w.places b.short b.places in
+    let some = some-left row.bytes c.args.word c.args.width c.args.place (length w.behind) (columns_walked row w) c.requires.word.next in
+    let there = column-there row w c.requires.word.line (omega (arith, some, many)) in
+    let stands = stands-at row w there.column c.args.word c.args.width c.args.place there.at c.requires.word in
+    let block = subst (λ (e : Entry). IsBlock e.kind) (sym (entry-there row w there.column no_entry there.at)) stands.block in
+    let within = block-given lent.keys.now lent.last_bars lent.entries.now (length w.behind) block in
+    omega (arith, within)
 
 pub returns-in-Joins-clause-steps : goal.returns-in-Joins-clause-steps
 returns-in-Joins-clause-steps c = λ frame.

@@ -1,17 +1,18 @@
-use Rattle.std.proofs.Common.{◌≡◌, ℕ, get_or, length, ap, ◌∙◌, arith}
+use Rattle.std.proofs.Common.{◌≡◌, ℕ, get_or, length, sym, ap, ◌∙◌, arith}
 use Rattle.tbl_layout.specs.KeptEntries.{no_entry}
 use Rattle.tbl_layout.specs.declared.entry.Entry.{Entry}
-use Rattle.tbl_picture.specs.Walks.{KeptWalk, lent_row}
+use Rattle.tbl_picture.specs.Walks.{KeptWalk, lent_format, lent_row}
 use Rattle.tbl_picture.proofs.ColumnSteps.{entry-there}
+use Rattle.tbl_lines.proofs.GivenFields.{given-there}
 use Rattle.tbl_picture.proofs.walk.Walk.kind.Goals as goal
 
 pub returns : goal.returns
 returns c = λ held at.
-    let row = lent_row c.args.row.now in
+    let lent = c.args.row.now in
     let w = c.args.self.now in
     let view = ap (λ (k : KeptWalk). length k.behind) c.self.view_is in
     let same : c.len.result ≡ length w.behind = omega (arith, c.len.ensures, c.self.inside.behind.ok.0, view) in
     ap (λ (e : Entry). e.kind)
-    (c.entry_at.ensures row.format.bars
-    ∙ ap (λ (n : ℕ). get_or row.entries n no_entry) same
-    ∙ entry-there row w held no_entry at)
+    (ap (λ (n : ℕ). get_or lent.entries.now n no_entry) same
+    ∙ sym (given-there (lent_format lent) lent.entries.now (length w.behind) c.requires.given no_entry)
+    ∙ entry-there (lent_row lent) w held no_entry at)

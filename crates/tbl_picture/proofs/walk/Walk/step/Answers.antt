@@ -3,10 +3,10 @@ use Rattle.tbl_format.specs.RowsServed.{all_rows}
 use Rattle.tbl_layout.specs.declared.data_lines.RuleSign.{RuleSign}
 use Rattle.tbl_picture.specs.ElementsWalked.{RuleAtElement, StandsAt, Steps}
 use Rattle.tbl_lines.specs.PictureLines.{frame_sign}
-use Rattle.tbl_picture.specs.RulesWalked.{RuleLies, RuleStands}
+use Rattle.tbl_picture.specs.RulesWalked.{RuleStands}
 use Rattle.tbl_picture.specs.Walks.{KeptWalk}
-use Rattle.tbl_picture.specs.declared.walk.Next.{Next}
-use Rattle.tbl_picture.specs.declared.walk.Next.TheVariants.{AtRule, AtRuleRow}
+use Rattle.tbl_picture.specs.Nexts.{AtRule, AtRuleRow, Next, next_by}
+use Rattle.tbl_picture.specs.declared.walk.Next.{Next as KeptNext}
 use Rattle.tbl_picture.proofs.PictureSteps.{top-comes}
 use Rattle.tbl_picture.proofs.RuleLinesWalked.{keys-begin, rule-by}
 use Rattle.tbl_picture.proofs.RowSteps.{first-fits, rows-served}
@@ -32,14 +32,18 @@ pub step_in_rule-requires-clause-fits : goal.step_in_rule-requires-clause-fits
 step_in_rule-requires-clause-fits c =
     first-fits c.args.bytes.now (all_rows c.args.format.now.format) c.args.rows.now c.args.self.now c.requires.can
 
+pub step_in_rule-requires-clause-next : goal.step_in_rule-requires-clause-next
+step_in_rule-requires-clause-next c =
+    ap (λ (k : KeptWalk). k.next) (sym c.self.view_is) ∙ ap (λ (n : KeptNext). next_by n c.self.inside.rule) c.in-AtRule.is
+
 pub step_in_rule-requires-clause-lies : goal.step_in_rule-requires-clause-lies
 step_in_rule-requires-clause-lies c =
     let bytes = c.args.bytes.now in
     let formats = all_rows c.args.format.now.format in
     let rows = c.args.rows.now in
     let w = c.args.self.now in
-    let rule = c.in-AtRule.rule in
-    let next : w.next ≡ AtRule rule = ap (λ (k : KeptWalk). k.next) (sym c.self.view_is) ∙ c.in-AtRule.is in
+    let rule = c.self.inside.rule in
+    let next : w.next ≡ AtRule rule = ap (λ (k : KeptWalk). k.next) (sym c.self.view_is) ∙ ap (λ (n : KeptNext). next_by n rule) c.in-AtRule.is in
     let elements = drop w.element rows.elements in
     let stands : RuleStands bytes formats rows rule w elements =
     subst (λ (n : Next). StandsAt n bytes formats rows w elements) next c.requires.can.next in
@@ -55,7 +59,7 @@ returns-in-AtTop-clause-step c = λ frame within.
     let after = c.step_at_rule.new.pieces in
     let new = c.step_at_rule.new.self in
     let sign_is = c.frame_sign-sign.ensures ∙ ap (λ (k : KeptWalk). frame_sign k.bars.boxing.bars) c.self.view_is in
-    top-comes bytes frame formats rows w c.requires.can before after within new (ap (λ (k : KeptWalk). k.next) (sym c.self.view_is) ∙ c.in-AtTop.is)
+    top-comes bytes frame formats rows w c.requires.can before after within new (ap (λ (k : KeptWalk). k.next) (sym c.self.view_is) ∙ ap (λ (n : KeptNext). next_by n c.self.inside.rule) c.in-AtTop.is)
     (subst (λ (sign : RuleSign). RuleAtElement bytes frame formats rows sign false w new before after) sign_is
     (c.step_at_rule.ensures bytes frame c.requires.can.narrow))
 
@@ -67,8 +71,8 @@ returns-in-AtRuleRow-clause-step c = λ frame within.
     let w = c.args.self.now in
     let before = c.args.pieces.now in
     let after = c.begin_rule_row.new.pieces in
-    let rule = c.in-AtRuleRow.rule in
-    let next : w.next ≡ AtRuleRow rule = ap (λ (k : KeptWalk). k.next) (sym c.self.view_is) ∙ c.in-AtRuleRow.is in
+    let rule = c.self.inside.rule in
+    let next : w.next ≡ AtRuleRow rule = ap (λ (k : KeptWalk). k.next) (sym c.self.view_is) ∙ ap (λ (n : KeptNext). next_by n rule) c.in-AtRuleRow.is in
     subst (λ (k : KeptWalk). Steps bytes frame formats rows w k before after) (sym c.begin_rule_row.ensures.walk)
     (keys-begin bytes frame formats rows w c.requires.can before after within rule next (c.begin_rule_row.ensures.adds bytes frame))
 
@@ -78,8 +82,8 @@ returns-in-AtRule-clause-step c = λ frame within.
     let formats = all_rows c.args.format.now.format in
     let rows = c.args.rows.now in
     let w = c.args.self.now in
-    let rule = c.in-AtRule.rule in
-    let next : w.next ≡ AtRule rule = ap (λ (k : KeptWalk). k.next) (sym c.self.view_is) ∙ c.in-AtRule.is in
+    let rule = c.self.inside.rule in
+    let next : w.next ≡ AtRule rule = ap (λ (k : KeptWalk). k.next) (sym c.self.view_is) ∙ ap (λ (n : KeptNext). next_by n rule) c.in-AtRule.is in
     let elements = drop w.element rows.elements in
     let stands : RuleStands bytes formats rows rule w elements =
     subst (λ (n : Next). StandsAt n bytes formats rows w elements) next c.requires.can.next in

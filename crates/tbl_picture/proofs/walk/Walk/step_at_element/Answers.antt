@@ -5,7 +5,7 @@ use Rattle.tbl_format.specs.RowsServed.{all_rows}
 use Rattle.tbl_kept.specs.Rows.{Row}
 use Rattle.tbl_picture.specs.ElementsWalked.{CanWalk, Steps}
 use Rattle.tbl_picture.specs.Walks.{KeptWalk, kept_by}
-use Rattle.tbl_picture.specs.declared.walk.Next.TheVariants.{AtElement}
+use Rattle.tbl_picture.specs.Nexts.{AtElement}
 use Rattle.tbl_text.proofs.BlockSlices.{length-slice_range}
 use Rattle.tbl_pieces.proofs.Adding.{adds-fewer, adds-more}
 use Rattle.tbl_picture.proofs.PictureSteps.{command-lies, command-steps, row-at-element, rule-element}

@@ -1,7 +1,7 @@
 use Rattle.std.proofs.Common.{◌≡◌, length, sym, ap, subst, ◌∙◌, arith}
 use Rattle.tbl_picture.specs.Walks.{InLine, IsUnderWay, KeptWalk, WalkedRow, lent_row}
-use Rattle.tbl_picture.specs.declared.walk.Next.{Next}
-use Rattle.tbl_picture.specs.declared.walk.Next.TheVariants.{AtCell}
+use Rattle.tbl_picture.specs.Nexts.{AtCell, Next, next_by}
+use Rattle.tbl_picture.specs.declared.walk.Next.{Next as KeptNext}
 use Rattle.tbl_lines.proofs.RowColumns.{length-places}
 use Rattle.tbl_picture.proofs.walk.Walk.step_in_row.Goals as goal
 
@@ -13,7 +13,7 @@ pub end_line-requires-clause-all : goal.end_line-requires-clause-all
 end_line-requires-clause-all c =
     let row = lent_row c.args.row.now in
     let w = c.args.self.now in
-    let line = in-line row w (sym (ap (λ (k : KeptWalk). k.next) c.self.view_is) ∙ c.in-AtCell.is) c.requires.can in
+    let line = in-line row w (sym (ap (λ (k : KeptWalk). k.next) c.self.view_is) ∙ ap (λ (n : KeptNext). next_by n c.self.inside.rule) c.in-AtCell.is) c.requires.can in
     omega (
       arith,
       c.if-len.true,
@@ -30,7 +30,7 @@ pub give_cell-requires-clause-left : goal.give_cell-requires-clause-left
 give_cell-requires-clause-left c =
     let row = lent_row c.args.row.now in
     let w = c.args.self.now in
-    let line = in-line row w (sym (ap (λ (k : KeptWalk). k.next) c.self.view_is) ∙ c.in-AtCell.is) c.requires.can in
+    let line = in-line row w (sym (ap (λ (k : KeptWalk). k.next) c.self.view_is) ∙ ap (λ (n : KeptNext). next_by n c.self.inside.rule) c.in-AtCell.is) c.requires.can in
     omega (
       arith,
       c.if-len.false,

@@ -1,4 +1,4 @@
-use Rattle.std.proofs.Common.{◌≡◌, ℕ, suc, ◌+◌, ◌*◌, ◌-◌, ◌<◌, ◌≤◌, ◌/◌, ◌%◌, length, drop, refl, sym, ap, subst, ◌∙◌, arith}
+use Rattle.std.proofs.Common.{◌≡◌, ℕ, ◌+◌, ◌*◌, ◌-◌, ◌<◌, ◌≤◌, ◌/◌, ◌%◌, length, refl, sym, ap, subst, ◌∙◌, arith}
 use Rattle.std.proofs.Math.Nat.{div-add-mod, mod-lt}
 use Rattle.tbl_layout.specs.Entries.{up_to_last_glyph}
 use Rattle.tbl_lines.specs.PictureLines.{Cell}
@@ -6,8 +6,8 @@ use Rattle.tbl_lines.specs.RowsLeft.{first_of}
 use Rattle.tbl_lines.specs.RowsWalked.{HasGlyph}
 use Rattle.tbl_picture.specs.Walks.{lent_row}
 use Rattle.tbl_lines.proofs.FrontCells.{front-count}
-use Rattle.tbl_lines.proofs.RowColumns.{column-lies, length-places}
-use Rattle.tbl_lines.proofs.RowMarks.{columns, even-marks, many-cells, odd-cell, past-marks}
+use Rattle.tbl_lines.proofs.RowColumns.{length-places}
+use Rattle.tbl_lines.proofs.RowMarks.{even-marks, many-cells, odd-cell, past-marks}
 use Rattle.tbl_picture.proofs.walk.fronts.has_mark.Goals as goal
 
 -- a number by its half
@@ -66,45 +66,22 @@ returns-then-at-eq0 c =
     half.0 half.1 found.ensures.at found.ensures.some c.is_some-then-at-eq0.result c.is_some-then-at-eq0.ensures in
     record { yes = marks.yes; no = marks.no; room = refl }
 
-pub column_at-requires-clause-entry : goal.column_at-requires-clause-entry
-column_at-requires-clause-entry c =
+pub has_glyph_at-requires-clause-within : goal.has_glyph_at-requires-clause-within
+has_glyph_at-requires-clause-within c =
     let row = lent_row c.args.row.now in
     let given = length-places row.bytes row.entries c.args.places.now c.requires.cells.places in
     (odd-halves c.args.at (length row.entries) (omega (arith, c.if-at-fields.false, given)) c.if-at-eq0.false).1
-
-pub column_at-requires-clause-place : goal.column_at-requires-clause-place
-column_at-requires-clause-place c =
-    let row = lent_row c.args.row.now in
-    let given = length-places row.bytes row.entries c.args.places.now c.requires.cells.places in
-    let half = odd-halves c.args.at (length row.entries) (omega (arith, c.if-at-fields.false, given)) c.if-at-eq0.false in
-    omega (arith, half.1, given)
-
-pub has_glyph-requires-clause-lies : goal.has_glyph-requires-clause-lies
-has_glyph-requires-clause-lies c =
-    let row = lent_row c.args.row.now in
-    let places = c.args.places.now in
-    let i = c.args.at / 2 in
-    (column-lies row.bytes row.bars.boxing row.format 0 i row.columns row.entries places c.column_at.result
-    (drop (suc i) (columns row c.args.line places)) c.column_at.ensures c.requires.cells.lie c.requires.cells.narrow c.requires.cells.places).lies
-
-pub has_glyph-requires-clause-within : goal.has_glyph-requires-clause-within
-has_glyph-requires-clause-within c =
-    let row = lent_row c.args.row.now in
-    let places = c.args.places.now in
-    let i = c.args.at / 2 in
-    (column-lies row.bytes row.bars.boxing row.format 0 i row.columns row.entries places c.column_at.result
-    (drop (suc i) (columns row c.args.line places)) c.column_at.ensures c.requires.cells.lie c.requires.cells.narrow c.requires.cells.places).within
 
 pub returns : goal.returns
 returns c =
     let row = lent_row c.args.row.now in
     let at = c.args.at in
-    let given = length-places row.bytes row.entries c.args.places.now c.requires.cells.places in
+    let places = c.args.places.now in
+    let given = length-places row.bytes row.entries places c.requires.cells.places in
     let half = odd-halves at (length row.entries) (omega (arith, c.if-at-fields.false, given)) c.if-at-eq0.false in
-    let this = odd-cell row c.args.line c.args.places.now c.requires.cells.short c.requires.cells.places c.requires.any at (at / 2) c.column_at.result
-    half.0 half.1 c.column_at.ensures in
+    let this = odd-cell row c.args.line places c.requires.cells.short c.requires.cells.places c.requires.any at (at / 2) half.0 half.1 in
     record {
-      yes = λ yes. subst (λ (cell : Cell). HasGlyph (first_of cell)) (sym this) (c.has_glyph.ensures.yes yes);
-      no = λ no. ap (λ (cell : Cell). up_to_last_glyph (first_of cell)) this ∙ c.has_glyph.ensures.no no;
-      room = c.has_glyph.ensures.room;
+      yes = λ yes. subst (λ (cell : Cell). HasGlyph (first_of cell)) (sym this) (c.has_glyph_at.ensures.yes yes);
+      no = λ no. ap (λ (cell : Cell). up_to_last_glyph (first_of cell)) this ∙ c.has_glyph_at.ensures.no no;
+      room = c.has_glyph_at.ensures.room;
     }
