@@ -13,7 +13,7 @@ be. A long document may take no more than its share beside one of a quarter of i
 named for it, or by none, and some must begin as they are said to. Documents whose lines or spaces go far are formatted
 once: of their output, which is up to 200 megabytes, the beginning and the length are compared, and the line on which a
 limit stops them. Short documents that tell hundreds of megabytes are stopped by a limit on messages, and at once where that
-is small. Tables of rules, bars and rule keys are given room for four times as many, which may take 4.5 times as long. GNU
+is small. Tables of rules, bars, rule keys and spans are given room for four times as many, which may take 4.5 times as long. GNU
 time measures the memory. Four kinds are run at a time, and each is told as it ends, with the seconds that it took; what is
 wrong is told again behind them all. On four quiet cores it takes less than five minutes. The exit status is 1 if something
 is wrong.
@@ -637,6 +637,19 @@ TABLES = {
     "rule_key_and_a_field": (b".TS\n_.\n", rb"\nx", b"\n.TE\n", 250_000, (), None, PICTURE + b"\\&\n.if"),
     "rule_key_and_a_block": (b".TS\n_ l.\nT{\n", rb"\w'a" + b"\n", b"T}\ta\n.TE\n", 250_000, (), None, PICTURE + b"\\&   a\n"),
     "rule_key_and_blocks": (b".TS\n_ l.\n", b"T{\nb\nT}\ta\n", b".TE\n", 10 * 4_990, (), None, PICTURE + 9 * b"\\&   a\n"),
+    "columns_of_spans": (b".TS\n;l", b"s", b".\n.TE\n", 2_000, (), "columns", b".TS\n"),
+    "columns_of_spans_enough": (
+        b".TS\nl", b"s", b".\na\n.TE\n", 2_000, ("--columns=2000", "--width=9000"), None,
+        OF_ONE_CELL),
+    "rows_of_spans_of_a_format": (b".TS\n", b"lsss,", b"l.\na\n.TE\n", 262_000, (), None, OF_ONE_CELL),
+    "spans_that_pass_the_width": (
+        b".TS\nlw(4096)" + 39 * b"sw(4096)" + b".\n", b"a\n", b".TE\n", 2 * 4_999, (), "width",
+        b".TS\n"),
+    "span_and_surplus_fields": (
+        b".TS\nl" + 39 * b"s" + b".\na", b"\tx", b"\n.TE\n", 262_000, (), None, PICTURE + b"\&a\n"),
+    "spans_and_surplus_in_each_row": (
+        b".TS\nl" + 39 * b"s" + b".\n", b"a\tx\n", b".TE\n", 4 * 4_990, (), None,
+        PICTURE + 9 * b"\&a\n"),
     "rest_of_an_end": (b".TS\nl.\na\n.TE ", b".TS ", b"\n", 10 * MEGABYTE, (), None, OF_ONE_CELL[:-1] + b" .TS .TS"),
 }
 # Tables that tell much: what stands in front, what is repeated, what stands behind, how often, whether each repetition ends
@@ -665,6 +678,21 @@ BELOW, BELOW_AND_BARRED = 40 * b"l" + b".\na\n.TE\n", b"||" + 40 * b"l||" + b".\
 def rule_rows(lengths, key):
     """Rows of so many of this key each."""
     return b"".join(length * key + b"\n" for length in lengths)
+
+
+# A cell over 40 columns; cells that begin in the first column and end in each of the others, and
+# cells that begin in each and end in the last one.
+SPAN = b"l" + 39 * b"s"
+FROM_THE_FIRST = [b"l" + further * b"s" + (39 - further) * b"l" for further in range(1, 40)]
+UP_TO_THE_LAST = [(40 - further) * b"l" + further * b"s" for further in range(1, 40)]
+
+
+def wider_and_wider(rows):
+    """A further format of these rows of keys, and rows of the data with one text more that is so
+    wide that each column grows."""
+    fields = b"".join((row.index(b"s") - 1) * b"a\t" + 10 * (row.count(b"s") + 1) * b"x" + b"\n"
+                      for row in rows)
+    return b".T&\n" + b"\n".join(rows) + b".\n" + fields
 
 
 GROWING = {
@@ -698,8 +726,66 @@ GROWING = {
         b".TS\n", b"".join(b"l" + length * b"_" + b"\n" for length in LENGTHS if length < 40), BELOW, 125),
     "rules_of_fields": (b".TS\n" + 40 * b"l" + b".\n", 39 * b"_\t" + b"_\n", b".TE\n", 2_500),
     "rules_of_fields_that_take_turns": (b".TS\n" + 40 * b"l|" + b".\n", 19 * b"_\t=\t" + b"_\t\\_\n", b".TE\n", 2_500),
+    "spans": (b".TS\n" + SPAN + b".\n", b"a\n", b".TE\n", 5_000),
+    "spans_without_fields": (b".TS\n" + SPAN + b".\n", b"\n", b".TE\n", 5_000),
+    "spans_in_an_allbox": (b".TS\nallbox;\n" + SPAN + b".\n", b"a\n", b".TE\n", 5_000),
+    "spans_of_bars": (b".TS\n||l||" + 39 * b"s||" + b".\n", b"a\n", b".TE\n", 5_000),
+    "spans_of_short_rows": (b".TS\n" + 40 * b"l" + b"\nls.\n", b"a\n", b".TE\n", 5_000),
+    "spans_beside_each_other": (
+        b".TS\n" + 20 * b"ls" + b".\n", 19 * b"wide\t" + b"wide\n", b".TE\n", 2_500),
+    "spans_with_bars_between": (
+        b".TS\n" + 20 * b"l|s||" + b".\n", 19 * b"wide\t" + b"wide\n", b".TE\n", 2_500),
+    "spans_with_numbers_beside": (
+        b".TS\n" + 10 * b"nsan" + b".\n", 29 * b"1.5\t" + b"22\n", b".TE\n", 2_500),
+    "spans_expanded": (
+        b".TS\nexpand;\n" + 20 * b"ls" + b".\n", 19 * b"a\t" + b"a\n", b".TE\n", 2_500),
+    "spans_that_take_turns": (
+        b".TS\n" + 40 * b"l" + b".\n",
+        b".T&\n" + 20 * b"ls" + b"\nl" + 19 * b"ls" + b"l.\n"
+        + 19 * b"wider than it\t" + b"a\na" + 19 * b"\twider than it" + b"\n", b".TE\n", 625),
+    "spans_over_spans": (
+        b".TS\n" + 40 * b"l" + b".\n", wider_and_wider(FROM_THE_FIRST), b".TE\n", 64),
+    "spans_over_spans_up_to_the_last_column": (
+        b".TS\n" + 40 * b"l" + b".\n", wider_and_wider(UP_TO_THE_LAST), b".TE\n", 64),
+    "spans_of_rows_that_serve_no_row": (b".TS\n", SPAN + b"\n", b"l.\na\n.TE\n", 5_000),
+    "spans_of_rows_of_the_format": (
+        b".TS\n", b"\n".join(FROM_THE_FIRST + UP_TO_THE_LAST) + b"\n", BELOW, 64),
+    "spans_of_further_formats": (
+        b".TS\n" + 40 * b"l" + b".\n", b".T&\n" + SPAN + b".\na\n", b".TE\n", 2_500),
+    "spans_of_blocks": (
+        b".TS\nlw(2)" + 39 * b"sw(2)" + b".\n", b"T{\na b c\nT}\n", b".TE\n", 5_000),
+    "spans_of_blocks_without_widths": (
+        b".TS\n" + 20 * b"ls" + b".\n", 19 * b"T{\na b\nT}\t" + b"c\n", b".TE\n", 1_000),
+    "span_of_a_long_block": (
+        b".TS\nlw(2)" + 39 * b"sw(2)" + b".\nT{\n", b"words ", b"\nT}\n.TE\n", 40_000),
+    "span_of_a_title": (
+        b".TS\nc" + 39 * b"s" + b"\n" + 40 * b"l" + b".\n" + 400 * b"x" + b"\n",
+        39 * b"a\t" + b"a\n", b".TE\n", 2_500),
+    "span_of_a_title_between": (
+        b".TS\n" + 40 * b"l" + b".\n",
+        39 * b"a\t" + b"a\n.T&\nc" + 39 * b"s" + b"\n" + 40 * b"l" + b".\n" + 200 * b"x" + b"\n",
+        b".TE\n", 1_250),
+    "spans_of_wide_columns": (
+        b".TS\nlw(4096)" + 39 * b"sw(4096)" + b".\n", b"a\n", b".TE\n", 5_000),
+    "spans_of_blocks_over_wide_columns": (
+        b".TS\nlw(4096)" + 39 * b"sw(4096)" + b".\n", b"T{\na b c\nT}\n", b".TE\n", 5_000),
+    "rules_of_spans": (
+        b".TS\n" + 20 * b"ls" + b".\n", 19 * b"_\t" + b"_\n", b".TE\n", 2_500),
+    "rules_of_spans_that_take_turns": (
+        b".TS\n" + 20 * b"l|s||" + b".\n", 9 * b"_\t=\t" + b"\\Rx\t\\_\n", b".TE\n", 2_500),
+    "rule_keys_of_spans": (b".TS\n" + 20 * b"_s" + b".\n", b"\n", b".TE\n", 5_000),
+    "rule_lines_below_a_span": (
+        b".TS\nallbox;\n" + SPAN + b".\na\n", b"_\n", b".TE\n", 5_000),
+    "rule_lines_between_spans": (
+        b".TS\nallbox;\n" + 20 * b"ls" + b".\n", 19 * b"a\t" + b"a\n_\n", b".TE\n", 2_500),
+    "rule_rows_between_spans": (
+        b".TS\nallbox;\n" + SPAN + b".\na\n", b".T&\n" + 40 * b"_" + b"\n" + SPAN + b".\na\n",
+        b".TE\n", 2_500),
 }
-GROWING_OPTIONS = ("--rows=50000", "--text=4000000", "--width=%d" % WIDEST)
+# The widths that some of them are given.
+GROWING_WIDTHS = dict.fromkeys(
+    ("spans_of_wide_columns", "spans_of_blocks_over_wide_columns"), 40 * 4_099)
+GROWING_OPTIONS = ("--rows=50000", "--text=4000000")
 MOST_GROWTH = 4.5
 # Seconds that don't count there: beside other work on the machine the larger one is slowed more, as it needs more memory.
 CHANGE_OF_GROWTH = 0.02
@@ -718,6 +804,12 @@ FILLED = {
     "width_filled_by_rule_keys": (
         b".TS\n||" + 39 * b"_||" + b"_w(%d)||.\na\n.TE\n" % (WIDEST - 6 - 39 * 4),
         b".TS\n||" + 39 * b"_||" + b"_w(%d)||.\na\n.TE\n" % (WIDEST - 5 - 39 * 4)),
+    "width_filled_by_a_span": (
+        b".TS\n||" + 39 * b"l|" + b"l||\n||" + SPAN + b"||.\n\n%s\n_\n.TE\n" % ((WIDEST - 6) * b"x"),
+        b".TS\n||" + 39 * b"l|" + b"l||\n||" + SPAN + b"||.\n\n%s\n_\n.TE\n" % ((WIDEST - 5) * b"x")),
+    "width_filled_by_a_block_of_a_span": (
+        b".TS\nl" + 39 * b"s" + b".\nT{\n%s\nT}\n_\n.TE\n" % (WIDEST * b"x"),
+        b".TS\nl" + 39 * b"s" + b".\nT{\n%s\nT}\n_\n.TE\n" % ((WIDEST + 1) * b"x")),
     "width_filled_by_expand": (b".TS\nexpand allbox;\nl l.\na\tb\n.TE\n", b".TS\nexpand allbox;\nlw(4090) l.\na\tb\n.TE\n"),
 }
 
@@ -725,6 +817,12 @@ FILLED = {
 FAR_TABLES = {
     "columns_far_apart": (b".TS\nl40000000 l.\na\tb\n.TE\n", {"tbl": None, "both": "line"}),
     "bars_far_apart": (b".TS\nl40000000 | l.\na\tb\n.TE\n", {"tbl": None, "both": "line"}),
+    "rules_of_a_span_far": (
+        b".TS\n_w(4096)" + 39 * b"sw(4096)" + b".\n" + 1_000 * b"\n" + b".TE\n",
+        {"tbl": "output", "both": "line"}),
+    "span_far": (
+        b".TS\nlw(4096)" + 39 * b"rw(4096)" + b"\nr" + 39 * b"s" + b".\n\na\n.TE\n",
+        {"tbl": None, "both": "line"}),
     "rule_rows_far": (b".TS\n" + 100_000 * b"_\n" + b"lw(4000).\na\n.TE\n", {"tbl": "output", "both": "bytes"}),
     "columns_farthest_apart": (b".TS\nl999999990 l.\na\tb\n.TE\n", {"tbl": "output", "both": "bytes"}),
 }
@@ -959,6 +1057,7 @@ PIECES_OF_TABLES = (
     + [b"\n.TS\ntab(:);\nlw(5) n a.\n", b"T{\na b c\nT}", b":T{\n", b"\n.T&\nn a\nc.\n", b"expand ", b"w(3)", b"e", b"x", b"1.5", b"\\&"]
     + [rb"\fB", rb"\(em", rb"\nx", rb"\w'", rb"\*(", b"\\", b"'", b"\n.sp\n", b"\n.5\n"]
     + [b"_", b"=", b"-", b"_ =\n", b"_,", b"\n.TS\n_|=\nl l\n_\n=|-\nl|_.\n", b"\n.T&\n_ _,l _ l.\n"]
+    + [b"s", b" s", b"|s", b"_ s", b"\n.TS\nallbox tab(:);\nc s s\nl s l,_ l s.\n", b"\n.T&\nl s,l.\n"]
 )
 RANDOM_TABLES = {
     "random_bytes_in_a_table": [bytes([value]) for value in range(256)],
@@ -1162,13 +1261,14 @@ def check_growing(folder, name):
     """A table, and one of four times as many repetitions, by both commands."""
     front, text, behind, count = GROWING[name]
     sizes = {count: MOST_KILOBYTES_OF_TABLES, 4 * count: KILOBYTES_OF_GROWN_TABLES}
+    options = (*GROWING_OPTIONS, "--width=%d" % GROWING_WIDTHS.get(name, WIDEST))
     wrong = []
     for command in ("tbl", "both"):
         quickest = {}
         for rounds in range(1, MOST_ROUNDS + 1):
             for times in sizes:
                 (folder / "document").write_bytes(front + times * text + behind)
-                run = Run(folder, GROWING_OPTIONS, beginning_and_length, command)
+                run = Run(folder, options, beginning_and_length, command)
                 quickest[times] = min(quickest.get(times, run), run, key=lambda one: one.seconds)
             if rounds >= LEAST_ROUNDS and quickest[4 * count].seconds <= MOST_GROWTH * quickest[count].seconds + CHANGE_OF_GROWTH:
                 break

@@ -138,7 +138,8 @@ def is_measured_otherwise(table):
     """Whether groff gives a table other widths."""
     read = read_table(table)
     rows = [row for row in read.elements if isinstance(row, Row)]
-    blocks = [column for row in rows for column, cell in enumerate(row.cells) if isinstance(cell, list) and not row.is_ruled(column)]
+    blocks = [row.taking[number] for row in rows for number, field in enumerate(row.fields)
+              if isinstance(field, list) and row.keeps(number)]
     has_x = any(what.lower() == b"left out: x" for _, what in read.told)
     return has_x or any(column not in read.least for column in blocks) or any(b"a" in row.keys for row in rows)
 

@@ -12,14 +12,23 @@ RULES = {b"_": b"_", b"-": b"_", b"=": b"="}
 # How many bars stand at a boundary at most.
 BARS = 2
 
-# What isn't laid out yet: it is `bad format` where it stands. What comes to be laid out loses its line, or its place in one.
-NOT_YET = {
-    "options": (),
-    "keys": b"s^",
-    "letters": b"z",
-    "lines": (),
-    "fields": ("from above",),
-}
+# Which spans are laid out: `s` those over several columns, `^` those over several rows.
+BUILT = b"s"
+
+
+def not_yet(built):
+    """What isn't laid out where these spans are: it is `bad format` where it stands. What comes to
+    be laid out loses its line, or its place in one."""
+    return {
+        "options": (),
+        "keys": bytes(key for key in b"s^" if key not in built),
+        "letters": b"z",
+        "lines": (),
+        "fields": () if b"^" in built else ("from above",),
+    }
+
+
+NOT_YET = not_yet(BUILT)
 
 
 class Bad(Exception):
@@ -119,10 +128,11 @@ def end_of_digits(line, at):
 
 
 class FormatRow:
-    """A row of the format: its keys, and how many bars stand in front of the first one and behind each."""
+    """A row of the format: its keys, how many bars stand in front of the first one and behind each,
+    and the last letter `t` or `d` of each that has one."""
 
     def __init__(self):
-        self.keys, self.bars = b"", {}
+        self.keys, self.bars, self.sides = b"", {}, {}
 
     def bars_here(self):
         """How many bars stand behind its last key so far, or in front of the first one."""
@@ -141,8 +151,9 @@ class Format:
         self.separator, self.is_centred, self.is_expanded = TAB, False, False
         # How many bars the box has at its edges, and whether each inner boundary has one too.
         self.frame, self.has_all_bars = 0, False
-        # The rows of keys of the format in force, the one that is open, and how many keys the longest of all formats has.
-        self.formats, self.begun, self.keys = [], None, 0
+        # The rows of keys of the format in force, whether it is the first one, the row that is
+        # open, and how many keys the longest of all formats has.
+        self.formats, self.is_first, self.begun, self.keys = [], True, None, 0
         # What the keys of a column ask for: blanks behind it, columns at least, and the same width as others.
         self.apart, self.least, self.equal = {}, {}, set()
         # The most bars that a row of any format has at a boundary, by how many keys stand before it.
@@ -207,7 +218,7 @@ class Format:
             if byte in KEYS:
                 row.keys += byte
                 self.keys = max(self.keys, len(row.keys))
-                if byte in NOT_YET["keys"]:
+                if byte in NOT_YET["keys"] or self.spans_nothing(row):
                     raise Bad(number)
             elif byte == b"|":
                 self.bar(number, row)
@@ -216,6 +227,10 @@ class Format:
             else:
                 at = self.behind_key(number, line, at - 1)
         self.end_keys(number)
+
+    def spans_nothing(self, row):
+        """Whether its last key is an `s` in the first column, or a `^` in the table's first row."""
+        return row.keys == b"s" or row.keys.endswith(b"^") and self.is_first and not self.formats
 
     def bar(self, number, row):
         boundary, bars = len(row.keys), row.bars_here() + 1
@@ -254,7 +269,9 @@ class Format:
             return self.named(number, line, at, letter)
         elif small == b"x":
             self.tell(number, b"left out: " + letter)
-        elif small not in b"tdbiu":
+        elif small in b"td":
+            self.begun.sides[column] = small
+        elif small not in b"biu":
             raise Bad(number)
         return at
 

@@ -5,14 +5,41 @@ from table_items import BACKSLASH, BLANK, DOT, TAB
 
 
 class Row:
-    """A row of the data: the row of keys that serves it, its fields and the lines of its blocks, and whether a surplus was told."""
+    """A row of the data: the row of keys that serves it, its fields and the lines of its blocks,
+    and whether a surplus was told. So many columns were known as it was read: those take a field in
+    which a cell begins."""
 
-    def __init__(self, format_row):
-        self.keys, self.bars, self.cells, self.told = format_row.keys, format_row.bars, [], False
+    def __init__(self, format_row, columns):
+        self.keys, self.bars, self.sides = format_row.keys, format_row.bars, format_row.sides
+        self.fields, self.told = [], False
+        self.taking = [column for column in range(columns) if self.key(column) != b"s"]
 
-    def is_ruled(self, column):
-        """Whether a column has the key of a rule, which takes a field and ignores it."""
-        return self.keys[column:column + 1] in RULES
+    def key(self, column):
+        """The key of a column. A row goes on with `l` behind those that are written."""
+        return self.keys[column:column + 1] or b"l"
+
+    def keeps(self, number):
+        """Whether the field of this number is there, and not under `^` or the key of a rule, which
+        take a field and ignore it."""
+        return number < len(self.taking) and self.key(self.taking[number]) not in (b"^", *RULES)
+
+    def contents(self):
+        """The fields by their columns."""
+        return dict(zip(self.taking, self.fields))
+
+    def columns_from(self, column, columns):
+        """Of so many columns those of the cell that begins in this one: its own, and those of the
+        keys `s` behind it."""
+        end = column + 1
+        while end < columns and self.key(end) == b"s":
+            end += 1
+        return range(column, end)
+
+    def side(self, columns):
+        """Where in several rows a cell over these columns stands: `t` at their top, `d` at their
+        bottom, and else in their middle."""
+        sides = [self.sides[column] for column in columns if column in self.sides]
+        return sides[-1] if sides else None
 
 
 def kind_of(field):
@@ -102,12 +129,12 @@ class Table(Format):
             self.count += 1
             self.elements.append(Rule(b"-" if line == b"_" else b"="))
         elif kind_of_line(line) == "further format":
-            self.in_data, self.formats, self.next = False, [], 0
+            self.in_data, self.formats, self.is_first, self.next = False, [], False, 0
         elif kind_of_line(line) == "command":
             self.count += 1
             self.elements.append(line)
         else:
-            self.row = Row(self.next_keys())
+            self.row = Row(self.next_keys(), self.keys)
             self.fields(line, numbers, 0)
 
     def next_keys(self):
@@ -144,21 +171,21 @@ class Table(Format):
         opens = fields[-1].strip(BLANK) == b"T{"
         surplus = None
         for field in fields[:len(fields) - opens]:
-            column = len(self.row.cells)
-            if column < self.keys:
-                if kind_of(field) in NOT_YET["fields"] and not self.row.is_ruled(column):
+            place = len(self.row.fields)
+            if self.row.keeps(place):
+                if kind_of(field) in NOT_YET["fields"]:
                     self.refuse(numbers[at], not opens)
-                if kind_of(field) is None and not self.row.is_ruled(column):
+                if kind_of(field) is None:
                     self.notes(field, numbers, at)
-            elif surplus is None:
+            elif place >= len(self.row.taking) and surplus is None:
                 surplus = numbers[at - 1]
-            self.row.cells.append(field)
+            self.row.fields.append(field)
             at += len(field) + 1
         if opens:
-            if len(self.row.cells) == self.keys and surplus is None:
+            if len(self.row.fields) == len(self.row.taking) and surplus is None:
                 surplus = numbers[at - 1]
             self.block = []
-            self.row.cells.append(self.block)
+            self.row.fields.append(self.block)
         if surplus is not None and not self.row.told:
             self.tell(surplus, b"too many fields")
             self.row.told = True
@@ -167,7 +194,7 @@ class Table(Format):
 
     def notes(self, text, numbers, at):
         """What isn't measured of a text that is kept."""
-        if self.block is not None and (len(self.row.cells) > self.keys or self.row.is_ruled(len(self.row.cells) - 1)):
+        if self.block is not None and not self.row.keeps(len(self.row.fields) - 1):
             return
         for item in table_items.items(text):
             if item.note is not None:
@@ -176,7 +203,6 @@ class Table(Format):
 
     def end_row(self):
         self.count += 1
-        self.row.cells = self.row.cells[:self.keys]
         self.elements.append(self.row)
 
     def close(self):

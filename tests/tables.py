@@ -1,13 +1,17 @@
 #!/usr/bin/env python3
 """Makes documents with tables by chance, and compares what the built program makes of them with a plain model.
 
-    tests/tables.py [--program PROGRAM] [DOCUMENTS [FIRST]]      # 3000 documents from number 0 on, if nothing else is said
-    tests/tables.py [--program PROGRAM] --bytes                  # tables with each byte in many places
+    tests/tables.py [OPTIONS] [DOCUMENTS [FIRST]]   # 3000 documents from number 0 on, or so many
+    tests/tables.py [OPTIONS] --bytes               # tables with each byte in many places
+    tests/tables.py [OPTIONS] --shapes              # cells of every shape in three columns and rows
 
-PROGRAM is crates/roff/out/roff if none is given. The model (tests/table_model.py) is `roff tbl`: output, messages and status
-must be the same, also within small limits. `roff both` must be what `roff nroff` makes of the model's output. A document is
-the same in each run, by its number; in the tables of document N the byte N mod 256 may be the separator. Most documents ask
-for nothing that isn't laid out yet (`NOT_YET` in tests/table_format.py). The exit status is 1 if something differs.
+With `--program PROGRAM` this one is compared, and else crates/roff/out/roff. With `--built KEYS`
+the spans of these keys are laid out, of `s^`, and else those of `BUILT` in tests/table_format.py.
+The model (tests/table_model.py) is `roff tbl`: output, messages and status must be the same, also
+within small limits. `roff both` must be what `roff nroff` makes of the model's output. A document
+is the same in each run, by its number; in the tables of document N the byte N mod 256 may be the
+separator. Most documents ask for nothing that isn't laid out yet (`NOT_YET` in
+tests/table_format.py). The exit status is 1 if something differs.
 """
 import concurrent.futures
 import os
@@ -18,7 +22,8 @@ import sys
 import tempfile
 
 sys.dont_write_bytecode = True
-from table_format import NOT_YET
+import table_shapes
+from table_format import NOT_YET, not_yet
 from table_model import Model
 from table_reading import kind_of, kind_of_line
 
@@ -56,6 +61,9 @@ ODD_LETTERS = [b"z", b"|", b"|||", b"| 3", b"||e", b"s", b"^", b"_", b"-", b"=",
 FRONTS = [b" ", b"\t", b"3", b"|,", b"| | |", b"e", b","]
 # Bars before, between and behind keys.
 BARS = [b"|", b"|", b"||", b" | ", b" || ", b"| |", b"\t|", b"|\t|", b"|| "]
+# Texts that are wider than some columns together, and blocks.
+WIDE = [b"wider than both", b"wider than three columns are", b"1234567.125", b"12345\\&67890",
+        b"ab\\&", b"\\fBa heading\\fR over", b"x\\(em\\(emy and z", b"  between  ", b"longer-word-than-all"]
 LINES = [b"text\n", b".TS x\n", b".TSx\n", b".TE\n", b".ts\n", b" .TS\n", b".TS", b"\n", b".nf\n", b".\n", b"\\&.TS\n"]
 ENDS = 12 * [b".TE\n"] + [b".TE", b".TE \n", b".TE\tx\n", b".TEx\n.TE\n", b".T", b".", b"", b".TE .TS\n"]
 
@@ -65,6 +73,10 @@ AROUND = (b".TS\nl%.\na\n.TE\n", b".TS\n%l.\na\n.TE\n", b".TS\nl % r.\na\tb\n.TE
           b".TS\ntab(:);\nl l.\na\\(%m:\\(e%\n\\n%x:\\n(%x\n\\n\\%x:\\s%1\n\\w%a\\%b%c:\\h%1%x\n.TE\n", b".TS\n%;\nl.\n%\n%x\nx%\n%%\n.TE\n",
           b".TS\ntab(%);l l n.\na%b%1.5\n%\\%\nT{\na%b\n%\n.%\nT}%x\n.TE\n", b".TS\ntab(:);\nlw(7) l.\nT{\na% b.%\n%a %\\% c\\%\n\\%\nT}%:x\n.T&%\nl.\n.%\n\\R%:x\n.TE\n",
           b".TS\ntab %(:);tab(%%) l.\na\n.TE\n", b".TS\nl.\na\\\n%\\\n.TE%\nx\n.TE\n",
+          b".TS\nallbox tab(:);c s%l,l%s|s\nl l%,_ s l.\n"
+          b"%a:b\nx%y:%:z\n%T{\na%b c\nT}:%\n\\R%:%\n%\n.TE\n",
+          b".TS\nallbox tab(:);l l%l,^%s|^%\n^%l ^.\n"
+          b"a%b:b:c\n\\^%:\\^\n%:\\%^:%\n\\^:\\^:%T{\n%\nT}\n%\n\\^%:\\^:\\^\n.TE\n",
           b".TS\nbox tab(:);_%|_,l|l\n=%l%,_l.\na:b\n%:c%\n%T{\n%\n.%\nT}%:x:%\n.TE\n", b".TS\n%_%,|%|l||%.\na%b\nT{\n%a\nT}\tc\n.TE\n")
 
 
@@ -95,6 +107,8 @@ def field(chance, kinds):
     kind = chance.random()
     if kind < chance.odd:
         return chance.choice(some(chance, ODD_FIELDS))
+    if kind < chance.odd + chance.spans / 2:
+        return chance.choice(some(chance, WIDE + 4 * [b"\\^"]))
     if kind < 0.45:
         return chance.choice(some(chance, kinds))
     if kind < 0.7:
@@ -110,6 +124,8 @@ def block(chance):
 def row(chance, columns, separator, blocks):
     """A row: most often as many fields as there are columns, of which some are blocks."""
     count = columns if chance.random() < 0.75 else chance.randint(0, columns + 2)
+    # Where keys span columns, fewer fields are taken.
+    count = columns - len(chance.spanned) if chance.random() < chance.spans else count
     cells = []
     for column in range(count):
         # Where many fields are rules, many stand beside the same one.
@@ -142,8 +158,8 @@ def rows_of_keys(chance):
     return rows + chance.choice([[True], 2 * [True]]) if chance.random() < chance.rules / 4 else rows
 
 
-def keys_of_row(chance, columns, is_of_rules):
-    """The keys of a row with their numbers and letters."""
+def keys_of_row(chance, columns, is_of_rules, is_first):
+    """The keys of a row with their numbers and letters; whether it is the first one."""
     count = columns + chance.choice([0, 0, 0, -1, 1])
     if is_of_rules and chance.random() < 0.5:
         count = chance.randint(1, columns + 1)
@@ -153,19 +169,32 @@ def keys_of_row(chance, columns, is_of_rules):
         if chance.random() < 0.012:
             letters.append(chance.choice(ODD_LETTERS))
         is_rule = is_of_rules or column in chance.ruled or chance.random() < chance.rules / 8
-        keys.append(chance.choice(rules if is_rule else some(chance, KEYS, is_asked)) + b"".join(letters))
+        kinds = rules if is_rule else some(chance, KEYS, is_asked)
+        if chance.random() < (chance.spans / 8 if is_rule else 0.9):
+            kinds = some(chance, spans_here(chance, column, is_first), is_asked) or kinds
+        keys.append(chance.choice(kinds) + b"".join(letters))
     return keys
 
 
-def formats(chance, columns):
-    """Rows of keys, and the dot."""
+def spans_here(chance, column, is_first):
+    """The keys of spans that a column has, or none: most often where they can go on, and many as in
+    other rows."""
+    above = [b"^"] if not is_first and chance.random() < chance.spans else []
+    often = 0.8 if column in chance.spanned else chance.spans / 4
+    beside = [b"s", b"S"] if column and chance.random() < often else []
+    return beside or above
+
+
+def formats(chance, columns, is_first=False):
+    """Rows of keys, and the dot; whether they are the table's first."""
     out = b""
     for number, is_of_rules in enumerate(rows_of_keys(chance)):
         gap = chance.choice([b"", b" ", b" "])
         front = chance.choice(FRONTS) if chance.random() < 0.01 else b""
         out += (chance.choice([b"\n", b"\n", b",", b", "]) if number else b"") + front
+        keys = keys_of_row(chance, columns, is_of_rules, is_first and number == 0)
         out += b"".join(piece + (chance.choice(BARS) if chance.random() < chance.bars else gap)
-                        for piece in [b"", *keys_of_row(chance, columns, is_of_rules)])
+                        for piece in [b"", *keys])
     return out + chance.choice(40 * [b"."] + [b". x", b"\n.", b"", b",."])
 
 
@@ -184,10 +213,12 @@ def table(chance, separator_tried):
             if bare[:4].lower() == b"tab(" and bare[5:] == b")":
                 separator = bare[4:5]
         out += chance.choice([b" ", b",", b", ", b"\t"]).join(options) + b";" + chance.choice([b"\n", b"\n", b"", b" "])
-    columns, blocks = chance.randint(1, 4), chance.choice([0, 0, 0.1, 0.4])
+    columns, blocks = chance.randint(1, 4) + (chance.spans > 0.2), chance.choice([0, 0, 0.1, 0.4])
     # The columns that have rules in each row.
     chance.ruled = {column for column in range(columns) if chance.random() < chance.rules / 2}
-    out += formats(chance, columns) + b"\n"
+    # And those that many rows have within a cell.
+    chance.spanned = {column for column in range(1, columns) if chance.random() < chance.spans / 2}
+    out += formats(chance, columns, True) + b"\n"
     for _ in range(chance.randint(0, 6)):
         out += data_line(chance, columns, separator, blocks) + b"\n"
     if chance.random() < 0.06:
@@ -201,6 +232,7 @@ def document(chance, separator_tried):
     # In some documents many fields are rules, many boundaries have bars, and many keys are those of rules.
     chance.odd, chance.bars = chance.choice([0.03, 0.03, 0.4]), chance.choice([0, 0.1, 0.4, 0.8])
     chance.rules = chance.choice([0, 0.1, 0.4, 0.7])
+    chance.spans = chance.choice([0, 0.2, 0.5, 0.8])
     for _ in range(chance.choice([1, 1, 2, 3])):
         parts += chance.choices(LINES[:6] if chance.random() < 0.5 else LINES, k=chance.choice([0, 0, 1, 2]))
         parts.append(table(chance, separator_tried))
@@ -274,15 +306,30 @@ def check_byte(folder, number):
     return compared(folder / str(number), "byte %d in document %d" % (value, place), source, {}, 65)
 
 
+def check_shape(folder, number):
+    """A document with a table whose cells have one of all shapes, in one of all kinds."""
+    place, kind = divmod(number, len(table_shapes.KINDS))
+    cells = table_shapes.shapes(b"^" not in NOT_YET["keys"])[place]
+    source = table_shapes.table(cells, place + kind)
+    return compared(folder / str(number), "kind %d of shape %d" % (kind, place), source, {}, 30)
+
+
 def main():
     global PROGRAM
     words = sys.argv[1:]
-    if words[:1] == ["--program"]:
-        PROGRAM, words = pathlib.Path(words[1]).resolve(), words[2:]
+    while words[:1] in (["--program"], ["--built"]):
+        if words[0] == "--program":
+            PROGRAM = pathlib.Path(words[1]).resolve()
+        else:
+            NOT_YET.update(not_yet(words[1].encode()))
+        words = words[2:]
     if not PROGRAM.exists():
         raise SystemExit("tests/tables.py: %s is missing; ./roff --version builds it" % PROGRAM)
     if words == ["--bytes"]:
         numbers, checked = range(256 * len(AROUND)), check_byte
+    elif words == ["--shapes"]:
+        shapes = table_shapes.shapes(b"^" not in NOT_YET["keys"])
+        numbers, checked = range(len(shapes) * len(table_shapes.KINDS)), check_shape
     else:
         count, first = (list(map(int, words)) + [3000, 0][len(words):])[:2]
         numbers, checked = range(first, first + count), check

@@ -20,12 +20,15 @@ use Rattle.tbl_data.proofs.RowSteps.{block-last}
 use Rattle.tbl_format.specs.Format.{FormatRow}
 use Rattle.tbl_format.specs.RowsServed.{all_rows, row_at}
 use Rattle.tbl_format.specs.declared.format.Key.{Key}
+use Rattle.tbl_kept.proofs.KeptFields.{AreOpened-kept}
 use Rattle.tbl_kept.proofs.RowsKeeping.{RowBegunKept-block_end, contents-block_end}
 use Rattle.tbl_kept.specs.Rows.{AreKept, last_changed, with_block_end}
 use Rattle.tbl_kept.specs.RowsGrowing.{BlockGrows, with_line}
+use Rattle.tbl_kept.specs.RowsLaying.{AreOpened, IsOpenedKind}
 use Rattle.tbl_kept.specs.TableText.{KeptText, block_of}
 use Rattle.tbl_layout.specs.Entries.{Block, Content}
 use Rattle.tbl_layout.specs.KeptEntries.{IsKeptBy, IsOpened, block_lines, content_by, content_of, with_end}
+use Rattle.tbl_layout.specs.declared.entry.BlockEntry.{BlockEntry}
 use Rattle.tbl_layout.specs.declared.entry.Entry.{Entry}
 use Rattle.tbl_layout.specs.declared.entry.EntryKind.{EntryKind}
 use Rattle.tbl_layout.specs.declared.entry.EntryKind.TheVariants.{Block as BlockKind, Repeated as RepeatedKind, Ruled as RuledKind, Short as ShortKind, Split as SplitKind, Text as TextKind}
@@ -78,30 +81,39 @@ last-opened : (bytes : List ℕ) (format : FormatRow) (column : ℕ) (front : Li
 last-opened bytes format column [] e kept block = opened-by e.kind bytes _ e kept.0 block
 last-opened bytes format column (f ∷ front) e kept block = last-opened bytes format (suc column) front e kept.1 block
 
-content-block : (kind : EntryKind) (bytes : List ℕ) (from to : ℕ) → IsBlock kind → content_by kind bytes from to ≡ Block (block_lines bytes from to)
-content-block (TextKind glyphs width) bytes from to block = absurd block
-content-block (SplitKind s) bytes from to block = absurd block
-content-block (BlockKind b) bytes from to block = refl
-content-block (RuledKind sign) bytes from to block = absurd block
-content-block ShortKind bytes from to block = absurd block
-content-block (RepeatedKind b) bytes from to block = absurd block
+content-block : (kind : EntryKind) (bytes : List ℕ) (from to : ℕ) → IsBlock kind → IsOpenedKind kind
+    → content_by kind bytes from to ≡ Block 0 (block_lines bytes from to)
+content-block (TextKind glyphs width) bytes from to block opened = absurd block
+content-block (SplitKind s) bytes from to block opened = absurd block
+content-block (BlockKind b) bytes from to block opened = ap (λ (o : BlockEntry). Block o.measure (block_lines bytes from to)) opened
+content-block (RuledKind sign) bytes from to block opened = absurd block
+content-block ShortKind bytes from to block opened = absurd block
+content-block (RepeatedKind b) bytes from to block opened = absurd block
+
+-- the last of fields of which no block is filled
+last-unfilled : (front : List Entry) (e : Entry) → AreOpened (front ++ e ∷ []) → IsOpenedKind e.kind
+last-unfilled [] e opened = opened.0
+last-unfilled (f ∷ front) e opened = last-unfilled front e opened.1
 
 -- a row that ends in a block, by its fields
-module _ (bytes : List ℕ) (row : List Entry) (ends : EndsInBlock row) where
+module _ (bytes : List ℕ) (row : List Entry) (ends : EndsInBlock row) (opened : AreOpened row) where
   abbrev split : LastBlock row
   split = last-block row ends
 
   abbrev lines : List (List ℕ)
   lines = block_lines bytes split.last.from split.last.to
 
-  contents-split : map (content_of bytes) row ≡ map (content_of bytes) split.front ++ Block lines ∷ []
+  last-opened-kind : IsOpenedKind split.last.kind
+  last-opened-kind = last-unfilled split.front split.last (subst AreOpened split.is opened)
+
+  contents-split : map (content_of bytes) row ≡ map (content_of bytes) split.front ++ Block 0 lines ∷ []
   contents-split =
       ap (map (content_of bytes)) split.is
       ∙ map-append (content_of bytes) split.front (split.last ∷ [])
-      ∙ ap (λ (c : Content). map (content_of bytes) split.front ++ c ∷ []) (content-block split.last.kind bytes split.last.from split.last.to split.block)
+      ∙ ap (λ (c : Content). map (content_of bytes) split.front ++ c ∷ []) (content-block split.last.kind bytes split.last.from split.last.to split.block last-opened-kind)
 
   row-split : row_with_block (map (content_of bytes) row) ≡ record { fields = map (content_of bytes) split.front; block = Some lines; had_surplus = false }
-  row-split = ap row_with_block contents-split ∙ block-last (map (content_of bytes) split.front) lines
+  row-split = ap row_with_block contents-split ∙ block-last (map (content_of bytes) split.front) 0 lines
 
   pub kept-contents : fields_with_block (row_with_block (map (content_of bytes) row)) ≡ map (content_of bytes) row
   kept-contents = ap fields_with_block row-split ∙ sym contents-split
@@ -113,28 +125,32 @@ module _ (bytes : List ℕ) (row : List Entry) (ends : EndsInBlock row) where
   kept-surplus = ap (λ (r : RowBegun). r.had_surplus) row-split
 
 -- what a row is of which a block is open, when that ends
-pub begun-contents : (o : OpenBlock) (bytes : List ℕ) (row : List Entry) → OpenFits o row → o ≢ Nothing
+pub begun-contents : (o : OpenBlock) (bytes : List ℕ) (row : List Entry) → OpenFits o row → AreOpened row → o ≢ Nothing
     → fields_with_block (row_begun o (map (content_of bytes) row)) ≡ map (content_of bytes) row
-begun-contents Nothing bytes row fits some = absurd (some refl)
-begun-contents Kept bytes row fits some = kept-contents bytes row fits
-begun-contents (Dropped had) bytes row fits some = append-nil (map (content_of bytes) row)
+begun-contents Nothing bytes row fits opened some = absurd (some refl)
+begun-contents Kept bytes row fits opened some = kept-contents bytes row fits opened
+begun-contents (Dropped had) bytes row fits opened some = append-nil (map (content_of bytes) row)
 
-pub begun-surplus : (o : OpenBlock) (bytes : List ℕ) (row : List Entry) → OpenFits o row → o ≢ Nothing
+pub begun-surplus : (o : OpenBlock) (bytes : List ℕ) (row : List Entry) → OpenFits o row → AreOpened row → o ≢ Nothing
     → (row_begun o (map (content_of bytes) row)).had_surplus ≡ had_surplus o
-begun-surplus Nothing bytes row fits some = absurd (some refl)
-begun-surplus Kept bytes row fits some = kept-surplus bytes row fits
-begun-surplus (Dropped had) bytes row fits some = refl
+begun-surplus Nothing bytes row fits opened some = absurd (some refl)
+begun-surplus Kept bytes row fits opened some = kept-surplus bytes row fits opened
+begun-surplus (Dropped had) bytes row fits opened some = refl
 
-pub begun-kept : (o : OpenBlock) (bytes : List ℕ) (row : List Entry) → OpenFits o row → o ≡ Kept
+pub begun-kept : (o : OpenBlock) (bytes : List ℕ) (row : List Entry) → OpenFits o row → AreOpened row → o ≡ Kept
     → is_some (row_begun o (map (content_of bytes) row)).block ≡ true
-begun-kept Nothing bytes row fits is = absurd (cc)
-begun-kept Kept bytes row fits is = kept-some bytes row fits
-begun-kept (Dropped had) bytes row fits is = absurd (cc)
+begun-kept Nothing bytes row fits opened is = absurd (cc)
+begun-kept Kept bytes row fits opened is = kept-some bytes row fits opened
+begun-kept (Dropped had) bytes row fits opened is = absurd (cc)
 
 pub begun-some : (o : OpenBlock) (contents : List Content) → o ≢ Nothing → begun_by o contents ≡ Some (row_begun o contents)
 begun-some Nothing contents some = absurd (some refl)
 begun-some Kept contents some = refl
 begun-some (Dropped had) contents some = refl
+
+-- no block of the row is filled
+pub row-unfilled : (bytes : List ℕ) (d : TableData) → DataFits bytes d → AreOpened d.rows.row
+row-unfilled bytes d fits = AreOpened-kept bytes (row_at (all_rows d.format.format) d.keys) 0 d.rows.row fits.kept.row
 
 -- the block that is kept has a line more
 module _ (k : KeptText) (line : DataLine) (lies : LineLies (block_of k) line) (plain : All (λ b. (b == newline) ≡ false) (left_from k line line.from)) (d : TableData) (fits : DataFits (block_of k) d) where
@@ -147,6 +163,9 @@ module _ (k : KeptText) (line : DataLine) (lies : LineLies (block_of k) line) (p
 
     ends-block : EndsInBlock row
     ends-block = subst (λ (o : OpenBlock). OpenFits o row) open_is fits.block
+
+    unfilled : AreOpened row
+    unfilled = row-unfilled bytes d fits
 
     abbrev parts : LastBlock row
     parts = last-block row ends-block
@@ -190,10 +209,11 @@ module _ (k : KeptText) (line : DataLine) (lies : LineLies (block_of k) line) (p
       row-more : row_with_block (map (content_of bytes) (with_block_end line.to d.rows).row) ≡ with_text text (row_with_block (map (content_of bytes) row))
       row-more =
           ap row_with_block (contents-block_end bytes (all_rows d.format.format) d.rows parts.front parts.last line.to parts.is grows)
-          ∙ ap (λ (c : Content). row_with_block (contents ++ with_line (slice_range bytes (parts.last.to + 1) line.to) c ∷ [])) (content-block parts.last.kind bytes parts.last.from parts.last.to parts.block)
-          ∙ ap (λ (n : ℕ). row_with_block (contents ++ Block (old_lines ++ slice_range bytes n line.to ∷ []) ∷ [])) begins
-          ∙ block-last contents (old_lines ++ text ∷ [])
-          ∙ sym (ap (with_text text) (row-split bytes row ends-block))
+          ∙ ap (λ (c : Content). row_with_block (contents ++ with_line (slice_range bytes (parts.last.to + 1) line.to) c ∷ [])) (content-block parts.last.kind bytes parts.last.from parts.last.to parts.block
+          (last-opened-kind bytes row ends-block unfilled))
+          ∙ ap (λ (n : ℕ). row_with_block (contents ++ Block 0 (old_lines ++ slice_range bytes n line.to ∷ []) ∷ [])) begins
+          ∙ block-last contents 0 (old_lines ++ text ∷ [])
+          ∙ sym (ap (with_text text) (row-split bytes row ends-block unfilled))
 
       abbrev pub extended : TableData
       extended = record d { rows = with_block_end line.to d.rows }

@@ -9,8 +9,8 @@ use Rattle.tbl_format.specs.declared.format.Key.{Key}
 use Rattle.tbl_kept.specs.Joined.{line_at}
 use Rattle.tbl_layout.specs.DataLines.{ends_in_block, is_laid_out, kind_under, len_of_fields, opens_block, without_opening}
 use Rattle.tbl_layout.specs.Entries.{Content, content_under, key_at}
-use Rattle.tbl_data.specs.DataRead.{field_notes, keyed, notes_of_field, row_opened, serving, surplus_notes, with_fields, with_open_row, with_row}
-use Rattle.tbl_data.specs.TableRead.{TableRead, bad, columns, with_notes}
+use Rattle.tbl_data.specs.DataRead.{cells, field_notes, keyed, notes_of_field, row_opened, serving, surplus_notes, with_fields, with_open_row, with_row}
+use Rattle.tbl_data.specs.TableRead.{TableRead, bad, with_notes}
 
 -- whether a field is laid out under its key, and what it is
 abbrev pub is-laid : Key × List ℕ → Bool
@@ -25,7 +25,7 @@ outcome unbuilt fault opens contents has had line t =
     if unbuilt then bad fault t
     else with_open_row opens (has || had) contents (with_notes (surplus_notes (has && not had) line) t)
 
--- of those for which there is room, from a column on
+-- of those for which there is room, from a cell on
 module _ (ends : List (ℕ × ℕ)) (n : ℕ) (in_front : List Content) (had : Bool) (format : FormatRow) where
   abbrev pub within : ℕ → ℕ → ℕ → List (List ℕ) → List (List ℕ) → TableRead → TableRead
   within column room place all texts t =
@@ -36,7 +36,7 @@ module _ (ends : List (ℕ × ℕ)) (n : ℕ) (in_front : List Content) (had : B
 
 pub fields-within : (ends : List (ℕ × ℕ)) (n : ℕ) (in_front : List Content) (had : Bool) (place : ℕ) (all : List (List ℕ)) (t : TableRead)
     → with_fields ends n place all in_front had t
-    ≡ within ends n in_front had (serving t) (length in_front) (columns t - length in_front) place all (take (columns t - length in_front) (without_opening all)) t
+    ≡ within ends n in_front had (serving t) (length in_front) (cells t - length in_front) place all (take (cells t - length in_front) (without_opening all)) t
 fields-within ends n in_front had place all t = refl
 
 -- two tests that hold together are the same
@@ -105,17 +105,17 @@ module _ (ends : List (ℕ × ℕ)) (n place : ℕ) (field next : List ℕ) (res
       ∙ ap (λ (ts : List Told). outcome (nat_lt (length built) (length texts)) (line_at ends (behind + len_of_fields (take (length built) texts)) n) (ends_in_block more) ((in_front ++ content ∷ []) ++ map content-of fields)
       (nat_lt r (length more)) had (line_at ends (behind + len_of_fields texts - 1) n) (record t { notes = ts })) (sym (append_assoc t.notes told (field_notes ends n behind built)))
 
-  pub one-field : length in_front < columns t
+  pub one-field : length in_front < cells t
       → with_fields ends n place (field ∷ more) in_front had t ≡ with_fields ends n (place + length field + 1) more (in_front ++ content ∷ []) had (with_notes told t)
   one-field room =
-      let r = columns t - (length in_front + 1) in
+      let r = cells t - (length in_front + 1) in
       let next_column : suc column ≡ length (in_front ++ content ∷ []) = omega (arith, length-append in_front (content ∷ [])) in
-      let some : columns t - length in_front ≡ suc r = omega (arith, room) in
-      let behind : r ≡ columns t - length (in_front ++ content ∷ []) = omega (arith, length-append in_front (content ∷ [])) in
+      let some : cells t - length in_front ≡ suc r = omega (arith, room) in
+      let behind : r ≡ cells t - length (in_front ++ content ∷ []) = omega (arith, length-append in_front (content ∷ [])) in
       ap (λ (k : ℕ). within ends n in_front had format column k place (field ∷ more) (take k (without_opening (field ∷ more))) t) some
       ∙ within-front r (take r (without_opening more))
       ∙ ap (λ (k : ℕ). within ends n (in_front ++ content ∷ []) had format (suc column) k (place + length field + 1) more (take k (without_opening more)) (with_notes told t)) behind
-      ∙ ap (λ (c : ℕ). within ends n (in_front ++ content ∷ []) had format c (columns t - length (in_front ++ content ∷ [])) (place + length field + 1) more (take (columns t - length (in_front ++ content ∷ [])) (without_opening more)) (with_notes told t)) next_column
+      ∙ ap (λ (c : ℕ). within ends n (in_front ++ content ∷ []) had format c (cells t - length (in_front ++ content ∷ [])) (place + length field + 1) more (take (cells t - length (in_front ++ content ∷ [])) (without_opening more)) (with_notes told t)) next_column
 
 -- the last field, and a first one that isn't laid out
 module _ (ends : List (ℕ × ℕ)) (n place : ℕ) (in_front : List Content) (had : Bool) (t : TableRead) where
@@ -135,11 +135,11 @@ module _ (ends : List (ℕ × ℕ)) (n place : ℕ) (in_front : List Content) (h
   front-none = append-nil in_front
 
   -- without room they are surplus
-  pub no-room : (field : List ℕ) (rest : List (List ℕ)) → columns t ≤ length in_front
+  pub no-room : (field : List ℕ) (rest : List (List ℕ)) → cells t ≤ length in_front
       → with_fields ends n place (field ∷ rest) in_front had t
       ≡ with_open_row (ends_in_block (field ∷ rest)) true in_front (with_notes (surplus_notes (not had) (line_at ends (place - 1) n)) t)
   no-room field rest full =
-      let none : columns t - length in_front ≡ 0 = omega (arith, full) in
+      let none : cells t - length in_front ≡ 0 = omega (arith, full) in
       let all = field ∷ rest in
       let opens = ends_in_block all in
       let at : place + 0 ≡ place = omega arith in
@@ -149,11 +149,11 @@ module _ (ends : List (ℕ × ℕ)) (n place : ℕ) (in_front : List Content) (h
       ∙ ap (λ (u : TableRead). with_open_row opens true in_front (with_notes (surplus_notes (not had) (line_at ends (place + 0 - 1) n)) u)) (notes-none t)
       ∙ ap (λ (p : ℕ). with_open_row opens true in_front (with_notes (surplus_notes (not had) (line_at ends (p - 1) n)) t)) at
 
-  module _ (field : List ℕ) (room : length in_front < columns t) where
+  module _ (field : List ℕ) (room : length in_front < cells t) where
     abbrev left : ℕ
-    left = columns t - (length in_front + 1)
+    left = cells t - (length in_front + 1)
 
-    some-room : columns t - length in_front ≡ suc left
+    some-room : cells t - length in_front ≡ suc left
     some-room = omega (arith, room)
 
     within-room : (all : List (List ℕ)) → with_fields ends n place all in_front had t ≡ within ends n in_front had row next_column (suc left) place all (take (suc left) (without_opening all)) t

@@ -2,7 +2,7 @@
 use Rattle.std.proofs.Common.{◌≡◌, ℕ, ◌+◌, ◌-◌, ◌<◌, ◌≤◌, List, [], ◌∷◌, ◌++◌, length, Option, None, refl, sym, ap, subst, ◌∙◌, arith, append-nil, length-append}
 use Rattle.std.specs.List.{slice_range}
 use Rattle.tbl_data.specs.DataRead.{notes_of_field}
-use Rattle.tbl_data.specs.LineTaken.{RowFits, TakesField, contents_in, key_next, more_notes}
+use Rattle.tbl_data.specs.LineTaken.{RowFits, TakesField, cells_next, contents_in, key_next, more_notes}
 use Rattle.tbl_data.specs.TableData.{EntryEnds, begun_by, table_by}
 use Rattle.tbl_data.specs.TableRead.{RowBegun, with_notes}
 use Rattle.tbl_data.specs.declared.data_line.DataLine.{DataLine}
@@ -38,7 +38,7 @@ pub record IsField (k : KeptText) (line : DataLine) (at end : ℕ) (d : TableDat
   pub to : e.to ≡ end
   pub on_line : end ≤ line.to
   pub closed : d.open ≡ Nothing
-  pub column : length d.rows.row < length d.rows.columns
+  pub cell : length d.rows.row < cells_next d
   pub fits : RowFits (block_of k) d
 
 -- these messages are those of that part
@@ -85,13 +85,14 @@ module _ (k : KeptText) (line : DataLine) (at end : ℕ) (d : TableData) (e : En
     table = table-is;
     row = row-is;
     fits = record {
-      kept = RowBegunKept-entry bytes (all_rows d.format.format) d.rows d.keys e is.column is.kept is.fits.kept;
+      kept = RowBegunKept-entry bytes (all_rows d.format.format) d.rows d.keys e (omega (arith, is.cell, is.fits.columns)) is.kept is.fits.kept;
       columns = is.fits.columns;
       served = is.fits.served;
       small = is.fits.small;
       whole = is.fits.whole;
       notes = notes-within;
     };
+    cells = refl;
     closed = refl;
     settled = λ ends. record {
       elements = ends.elements;

@@ -2,10 +2,10 @@
 use Rattle.std.proofs.Common.{◌≡◌, ℕ, ◌+◌, ◌-◌, ◌<◌, ◌≤◌, Bool, true, false, not, List, [], ◌∷◌, ◌++◌, length, take, drop, Some, refl, sym, ap, subst, ◌∙◌, arith, length-append, if◌then◌else◌}
 use Rattle.std.specs.List.{slice_range}
 use Rattle.std.proofs.lemmas.List.{drop_all, drop_more, length-map, take_all}
-use Rattle.tbl_data.specs.DataRead.{notes_of_field, row_opened, serving, surplus_notes, with_fields, with_open_row, with_row}
-use Rattle.tbl_data.specs.LineTaken.{EndsRow, Grows, LineLies, Makes, OpensBlock, RowFits, TakesField, contents_in, fields_made, key_next, last_made, left_from, more_notes, surplus_kept}
+use Rattle.tbl_data.specs.DataRead.{cells, notes_of_field, row_opened, serving, surplus_notes, with_fields, with_open_row, with_row}
+use Rattle.tbl_data.specs.LineTaken.{EndsRow, Grows, LineLies, Makes, OpensBlock, RowFits, TakesField, cells_next, contents_in, fields_made, key_next, last_made, left_from, more_notes, surplus_kept}
 use Rattle.tbl_data.specs.TableData.{EndsBy, OpenEndsAt, SameRooms, Serves, table_by}
-use Rattle.tbl_data.specs.TableRead.{TableRead, bad, columns, with_notes}
+use Rattle.tbl_data.specs.TableRead.{TableRead, bad, with_notes}
 use Rattle.tbl_data.specs.declared.data_line.DataLine.{DataLine}
 use Rattle.tbl_data.specs.declared.phase.Phase.{Phase}
 use Rattle.tbl_data.specs.declared.phase.Phase.TheVariants.{InData}
@@ -14,7 +14,7 @@ use Rattle.tbl_data.specs.declared.table_data.OpenBlock.TheVariants.{Nothing}
 use Rattle.tbl_data.specs.declared.table_data.TableData.{TableData}
 use Rattle.tbl_data.proofs.FieldSteps.{laid-last, no-room, one-field, opening-last, unbuilt-field, unbuilt-last}
 use Rattle.tbl_data.proofs.EndsKept.{notes-end, within-append}
-use Rattle.tbl_data.proofs.RowSteps.{key-is, table-notes}
+use Rattle.tbl_data.proofs.RowSteps.{cells-is, key-is, table-notes}
 use Rattle.tbl_options.specs.Notes.{NotesWithin, told_of_all}
 use Rattle.tbl_options.specs.declared.message.Told.{Told}
 use Rattle.tbl_options.specs.declared.options.Options.{Options}
@@ -126,17 +126,24 @@ module _ (k : KeptText) (line : DataLine) (lies : LineLies (block_of k) line) (a
       ∙ ap (λ (rest : List ℕ). slice_range (block_of k) at (at + len) ∷ fields line.separator rest) (rest-part (block_of k) at line.to order lies.within (len + 1))
       ∙ ap (λ (n : ℕ). slice_range (block_of k) at (at + len) ∷ fields line.separator (left_from k line n)) one
 
+-- a cell that comes next is one of the table's
+cell-among : (k : KeptText) (d : TableData) → Serves d.format.format d.keys d.rules → length d.rows.row < cells_next d → (options : Options)
+    → length (contents_in k d) < cells (table_by InData options (block_of k) d)
+cell-among k d served cell options =
+    subst (λ (n : ℕ). length (contents_in k d) < n) (sym (cells-is InData options (block_of k) d served))
+    (omega (arith, cell, length-map d.rows.row (content_of (block_of k))))
+
 by-had : (had : Bool) → (if had then 0 else 1) ≤ 1
 by-had true = omega arith
 by-had false = omega arith
 
 -- the last field of a line
-module _ (k : KeptText) (line : DataLine) (at : ℕ) (had : Bool) (d : TableData) (column : length d.rows.row < length d.format.format.asked) (served : Serves d.format.format d.keys d.rules) where
+module _ (k : KeptText) (line : DataLine) (at : ℕ) (had : Bool) (d : TableData) (cell : length d.rows.row < cells_next d) (served : Serves d.format.format d.keys d.rules) where
   abbrev field : List ℕ
   field = left_from k line at
 
-  has-column : length (contents_in k d) < length d.format.format.asked
-  has-column = omega (arith, column, length-map d.rows.row (content_of (block_of k)))
+  has-cell : (options : Options) → length (contents_in k d) < cells (table_by InData options (block_of k) d)
+  has-cell options = cell-among k d served cell options
 
   abbrev ends : List (ℕ × ℕ)
   ends = ends_joined k.pending
@@ -153,7 +160,7 @@ module _ (k : KeptText) (line : DataLine) (at : ℕ) (had : Bool) (d : TableData
       let one : (if had then 0 else 1) ≤ 1 = by-had had in record {
         table = λ options is.
             block.table options
-            ∙ sym (opening-last ends line.number (at - line.from) (contents_in k d) had (table_by InData options (block_of k) d) field has-column opens
+            ∙ sym (opening-last ends line.number (at - line.from) (contents_in k d) had (table_by InData options (block_of k) d) field (has-cell options) opens
             ∙ ap (λ (x : Key). record (table_by InData options (block_of k) d) { begun = Some (row_opened had x (contents_in k d)) }) (same-key options));
         fits = block.fits;
         ends = end;
@@ -166,7 +173,7 @@ module _ (k : KeptText) (line : DataLine) (at : ℕ) (had : Bool) (d : TableData
       → Makes k line most (last_made k line at had d) phase d new
   last-unbuilt most phase new few opens unbuilt made =
       makes-as k line 1 most (bad (line_at ends (at - line.from) line.number)) (last_made k line at had d) phase d new few
-      (λ options is. sym (unbuilt-last ends line.number (at - line.from) (contents_in k d) had (table_by InData options (block_of k) d) field has-column opens
+      (λ options is. sym (unbuilt-last ends line.number (at - line.from) (contents_in k d) had (table_by InData options (block_of k) d) field (has-cell options) opens
       (ap (λ (x : Key). is_laid_out (kind_under x field)) (same-key options) ∙ unbuilt)))
       made
 
@@ -178,7 +185,7 @@ module _ (k : KeptText) (line : DataLine) (at : ℕ) (had : Bool) (d : TableData
         ended.table options
         ∙ ap (λ (contents : List Content). with_row contents (table_by InData options (block_of k) mid)) taken.row
         ∙ ap (λ (t : TableRead). with_row (contents_in k d ++ content_under key field ∷ []) t) (taken.table options)
-        ∙ sym (laid-last ends line.number (at - line.from) (contents_in k d) had (table_by InData options (block_of k) d) field has-column opens
+        ∙ sym (laid-last ends line.number (at - line.from) (contents_in k d) had (table_by InData options (block_of k) d) field (has-cell options) opens
         (ap (λ (x : Key). is_laid_out (kind_under x field)) (same-key options) ∙ laid)
         ∙ ap (λ (x : Key). with_row (contents_in k d ++ content_under x field ∷ []) (with_notes (notes_of_field x ends line.number (at - line.from) field) (table_by InData options (block_of k) d))) (same-key options));
     fits = ended.fits;
@@ -188,7 +195,7 @@ module _ (k : KeptText) (line : DataLine) (at : ℕ) (had : Bool) (d : TableData
   }
 
 -- surplus fields
-module _ (k : KeptText) (line : DataLine) (at : ℕ) (had : Bool) (d : TableData) (full : length d.format.format.asked ≤ length d.rows.row) (notes : KeptNotes) (told : notes ≡ more_notes (surplus_kept (not had) (line_at (ends_joined k.pending) (at - line.from - 1) line.number)) d.notes) where
+module _ (k : KeptText) (line : DataLine) (at : ℕ) (had : Bool) (d : TableData) (full : cells_next d ≤ length d.rows.row) (served : Serves d.format.format d.keys d.rules) (notes : KeptNotes) (told : notes ≡ more_notes (surplus_kept (not had) (line_at (ends_joined k.pending) (at - line.from - 1) line.number)) d.notes) where
   abbrev told_surplus : TableData
   told_surplus = record d { notes = notes }
 
@@ -240,7 +247,9 @@ module _ (k : KeptText) (line : DataLine) (at : ℕ) (had : Bool) (d : TableData
   surplus-law options =
       let some = some-fields line.separator (left_from k line at) in
       let t = table_by InData options (block_of k) d in
-      let all : columns t ≤ length (contents_in k d) = omega (arith, full, length-map d.rows.row (content_of (block_of k))) in
+      let all : cells t ≤ length (contents_in k d) =
+      subst (λ (n : ℕ). n ≤ length (contents_in k d)) (sym (cells-is InData options (block_of k) d served))
+      (omega (arith, full, length-map d.rows.row (content_of (block_of k)))) in
       ap (λ (fs : List (List ℕ)). with_fields (ends_joined k.pending) line.number (at - line.from) fs (contents_in k d) had t) some.is
       ∙ no-room (ends_joined k.pending) line.number (at - line.from) (contents_in k d) had t some.next some.rest all
       ∙ ap (λ (fs : List (List ℕ)). with_open_row (ends_in_block fs) true (contents_in k d) (told-table options)) (sym some.is)
@@ -295,6 +304,7 @@ pub record FieldsSoFar (k : KeptText) (line : DataLine) (first at : ℕ) (had : 
   pub grown : Grows (at - first) 0 old now
   pub order : first ≤ at
   pub within : at ≤ line.to
+  pub cells : cells_next now ≡ cells_next old
 
 module _ (k : KeptText) (line : DataLine) (first at : ℕ) (had : Bool) (old now : TableData) (so_far : FieldsSoFar k line first at had old now) where
   -- what is left makes of it what all do
@@ -314,7 +324,7 @@ module _ (k : KeptText) (line : DataLine) (first at : ℕ) (had : Bool) (old now
         (λ options same. sym (ap (λ (fs : List (List ℕ)). with_fields (ends_joined k.pending) line.number (at - line.from) fs (contents_in k now) had (table_by InData options (block_of k) now)) alone))
         made)
 
-    module _ (column : length now.rows.row < length now.format.format.asked) (more : at + len < line.to) where
+    module _ (cell : length now.rows.row < cells_next now) (more : at + len < line.to) where
       abbrev this : List ℕ
       this = slice_range (block_of k) at (at + len)
 
@@ -324,8 +334,8 @@ module _ (k : KeptText) (line : DataLine) (first at : ℕ) (had : Bool) (old now
       same-key-now : (options : Options) → key_at (serving (table_by InData options (block_of k) now)) (length (contents_in k now)) ≡ key_now
       same-key-now options = key-is InData options (block_of k) now so_far.fits.served
 
-      room : length (contents_in k now) < length now.format.format.asked
-      room = omega (arith, column, length-map now.rows.row (content_of (block_of k)))
+      room : (options : Options) → length (contents_in k now) < cells (table_by InData options (block_of k) now)
+      room options = cell-among k now so_far.fits.served cell options
 
       abbrev behind-it : Some-fields line.separator (left_from k line (at + len + 1))
       behind-it = some-fields line.separator (left_from k line (at + len + 1))
@@ -342,7 +352,7 @@ module _ (k : KeptText) (line : DataLine) (first at : ℕ) (had : Bool) (old now
       fields-unbuilt phase new unbuilt made =
           fields-end phase new
           (makes-as k line 1 (line.to - at + 1) (bad (line_at (ends_joined k.pending) (at - line.from) line.number)) (fields_made k line at had now) phase now new (omega arith)
-          (λ options is. sym (made-by options ∙ unbuilt-field (ends_joined k.pending) line.number (at - line.from) (contents_in k now) had (table_by InData options (block_of k) now) this room behind-it.next behind-it.rest
+          (λ options is. sym (made-by options ∙ unbuilt-field (ends_joined k.pending) line.number (at - line.from) (contents_in k now) had (table_by InData options (block_of k) now) this (room options) behind-it.next behind-it.rest
           (ap (λ (x : Key). is_laid_out (kind_under x this)) (same-key-now options) ∙ unbuilt)))
           made)
 
@@ -358,7 +368,7 @@ module _ (k : KeptText) (line : DataLine) (first at : ℕ) (had : Bool) (old now
             table = λ options.
                 let t = table_by InData options (block_of k) now in
                 sym (made-by options
-                ∙ one-field ends n (at - line.from) this next.next next.rest (contents_in k now) had t (ap (λ (x : Key). is_laid_out (kind_under x this)) (same-key-now options) ∙ laid) room
+                ∙ one-field ends n (at - line.from) this next.next next.rest (contents_in k now) had t (ap (λ (x : Key). is_laid_out (kind_under x this)) (same-key-now options) ∙ laid) (room options)
                 ∙ ap (λ (x : Key). with_fields ends n (at - line.from + length this + 1) (next.next ∷ next.rest) (contents_in k now ++ content_under x this ∷ []) had (with_notes (notes_of_field x ends n (at - line.from) this) t)) (same-key-now options)
                 ∙ ap (λ (fs : List (List ℕ)). with_fields ends n (at - line.from + length this + 1) fs (contents_in k now ++ content_under key_now this ∷ []) had (with_notes (notes_of_field key_now ends n (at - line.from) this) t)) (sym next.is)
                 ∙ ap (λ (p : ℕ). with_fields ends n p (fields line.separator (left_from k line (at + len + 1))) (contents_in k now ++ content_under key_now this ∷ []) had (with_notes (notes_of_field key_now ends n (at - line.from) this) t)) place
@@ -371,4 +381,5 @@ module _ (k : KeptText) (line : DataLine) (first at : ℕ) (had : Bool) (old now
             grown = grows-behind (at - first) (at + len - at + 1) 0 0 (at + len + 1 - first) old now new (omega (arith, so_far.order)) so_far.grown taken.grown;
             order = omega (arith, so_far.order);
             within = omega (arith, more);
+            cells = taken.cells ∙ so_far.cells;
           }

@@ -2,18 +2,18 @@
 use Rattle.std.proofs.Common.{◌≡◌, ◌≢◌, ℕ, ◌+◌, ◌-◌, ◌<◌, ◌≤◌, ◌^◌, Bool, true, false, List, [], ◌∷◌, ◌++◌, length, map, take, drop, Option, Some, refl, sym, ap, subst, ◌∙◌, arith, append-nil, length-append, if◌then◌else◌}
 use Rattle.std.specs.Prelude.{is_some, nat_lt, option_map, take_while}
 use Rattle.std.specs.List.{slice_range}
-use Rattle.tbl_data.specs.DataRead.{behind_block, closed_block, field_notes, fields_with_block, item_notes, keyed, serving, with_block_line, with_fields, with_line, with_row, with_text, with_whole}
+use Rattle.tbl_data.specs.DataRead.{behind_block, cells, closed_block, field_notes, fields_with_block, item_notes, keyed, serving, with_block_line, with_fields, with_line, with_row, with_text, with_whole}
 use Rattle.tbl_data.specs.LineTaken.{EndsRow, Grows, LineLies, Makes, RowFits, block_line_made, contents_in, fields_made, left_from, made_by, more_notes, notes_kept, row_begun, text_made}
 use Rattle.tbl_data.specs.OpenBlocks.{had_surplus, is_open}
 use Rattle.tbl_data.specs.TableData.{DataFits, ElementEnds, EndsBy, OpenEndsAt, OpenFits, SameRooms, begun_by, table_by}
-use Rattle.tbl_data.specs.TableRead.{RowBegun, TableRead, columns, with_notes}
+use Rattle.tbl_data.specs.TableRead.{RowBegun, TableRead, with_notes}
 use Rattle.tbl_data.specs.declared.data_line.DataLine.{DataLine}
 use Rattle.tbl_data.specs.declared.phase.Phase.{Phase}
 use Rattle.tbl_data.specs.declared.phase.Phase.TheVariants.{InData, InFormat}
 use Rattle.tbl_data.specs.declared.table_data.OpenBlock.{OpenBlock}
 use Rattle.tbl_data.specs.declared.table_data.OpenBlock.TheVariants.{Dropped, Kept, Nothing}
 use Rattle.tbl_data.specs.declared.table_data.TableData.{TableData}
-use Rattle.tbl_data.proofs.BlockSteps.{begun-contents, begun-kept, begun-some, begun-surplus}
+use Rattle.tbl_data.proofs.BlockSteps.{begun-contents, begun-kept, begun-some, begun-surplus, row-unfilled}
 use Rattle.tbl_data.proofs.EndsKept.{all-append, notes-end, within-append}
 use Rattle.tbl_data.proofs.FieldSteps.{content-of, is-laid, outcome}
 use Rattle.tbl_data.proofs.LineFields.{fields-alone, fields-first, makes-as, some-fields}
@@ -228,7 +228,7 @@ text-notes k line d options is fits =
     let ends = ends_joined k.pending in
     let row = row_begun d.open (contents_in k d) in
     let t = record (table_by InData options (block_of k) d) { begun = Some (with_text text row) } in
-    let some : is_some row.block ≡ true = begun-kept d.open (block_of k) d.rows.row fits.block is in
+    let some : is_some row.block ≡ true = begun-kept d.open (block_of k) d.rows.row fits.block (row-unfilled (block_of k) d fits) is in
     ap (λ (ts : List Told). with_notes ts t) (items-told ends line.number 0 (block_of k) (items text))
     ∙ sym (ap (λ (b : Bool). with_notes (if b then item_notes ends line.number 0 (items text) else []) t) some)
 
@@ -249,7 +249,7 @@ outcome-begun false false has had fault line contents t begun = refl
 fields-begun : (ends : List (ℕ × ℕ)) (n place : ℕ) (all : List (List ℕ)) (in_front : List Content) (had : Bool) (t : TableRead) (begun : Option RowBegun)
     → with_fields ends n place all in_front had (record t { begun = begun }) ≡ with_fields ends n place all in_front had t
 fields-begun ends n place all in_front had t begun =
-    let room = columns t - length in_front in
+    let room = cells t - length in_front in
     let texts = take room (without_opening all) in
     let fields = keyed (serving t) (length in_front) texts in
     let built = take_while is-laid fields in
@@ -276,10 +276,10 @@ module _ (k : KeptText) (line : DataLine) (lies : LineLies (block_of k) line) (d
   behind-end = rest-part (block_of k) line.from line.to lies.order lies.within 2
 
   same-contents : fields_with_block row_open ≡ contents_in k d
-  same-contents = begun-contents d.open (block_of k) d.rows.row fits.block some
+  same-contents = begun-contents d.open (block_of k) d.rows.row fits.block (row-unfilled (block_of k) d fits) some
 
   same-surplus : row_open.had_surplus ≡ had_surplus d.open
-  same-surplus = begun-surplus d.open (block_of k) d.rows.row fits.block some
+  same-surplus = begun-surplus d.open (block_of k) d.rows.row fits.block (row-unfilled (block_of k) d fits) some
 
   end-is : (options : Options) → options.separator ≡ line.separator
       → block_line_made End k line d (table_by InData options (block_of k) d)
@@ -350,5 +350,5 @@ pub closed-open : (bytes : List ℕ) (d : TableData) (t : TableRead) → DataFit
     → with_row (map (content_of bytes) d.rows.row) t ≡ closed_block (begun_by d.open (map (content_of bytes) d.rows.row)) t
 closed-open bytes d t fits some =
     let contents = map (content_of bytes) d.rows.row in
-    ap (λ (cs : List Content). with_row cs t) (sym (begun-contents d.open bytes d.rows.row fits.block some))
+    ap (λ (cs : List Content). with_row cs t) (sym (begun-contents d.open bytes d.rows.row fits.block (row-unfilled bytes d fits) some))
     ∙ sym (ap (λ (b : Option RowBegun). closed_block b t) (begun-some d.open contents some))

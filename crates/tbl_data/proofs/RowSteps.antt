@@ -1,12 +1,12 @@
 -- What is kept of a table behind a step of its data: a row that ends, a block that opens, messages.
-use Rattle.std.proofs.Common.{◌≡◌, ℕ, suc, ◌+◌, ◌-◌, ◌<◌, ◌≤◌, Bool, true, false, List, [], ◌∷◌, ◌++◌, length, map, take, drop, Option, None, Some, refl, sym, ap, ◌∙◌, arith, length-append, nat_lt, if◌then◌else◌}
+use Rattle.std.proofs.Common.{◌≡◌, ℕ, suc, ◌+◌, ◌-◌, ◌<◌, ◌≤◌, Bool, true, false, List, [], ◌∷◌, ◌++◌, length, map, take, drop, Option, None, Some, refl, sym, ap, subst, ◌∙◌, arith, length-append, nat_lt, if◌then◌else◌}
 use Rattle.std.specs.List.{slice_range}
 use Rattle.std.proofs.lemmas.Bool.{eq-eqb}
 use Rattle.std.proofs.lemmas.Bool.Decides.{nat_tests}
 use Rattle.std.proofs.lemmas.List.{length-drop, length-map, map-append}
 use Rattle.std.proofs.Math.Seq.{drop-append-add, get_or-append_right}
-use Rattle.tbl_data.specs.DataRead.{row_opened, row_opened_under, rules_in_front, rules_next, serving}
-use Rattle.tbl_data.specs.LineTaken.{EndsRow, Grows, OpensBlock, RowFits, key_next, more_notes}
+use Rattle.tbl_data.specs.DataRead.{cells, row_opened, row_opened_under, rules_in_front, rules_next, serving}
+use Rattle.tbl_data.specs.LineTaken.{EndsRow, Grows, OpensBlock, RowFits, cells_next, key_next, more_notes}
 use Rattle.tbl_data.specs.TableData.{ElementEnds, EndsBy, EndsInBlock, EntryEnds, LastEndsAt, Serves, row_with_block, table_by}
 use Rattle.tbl_data.specs.TableRead.{RowBegun, with_notes}
 use Rattle.tbl_data.specs.declared.phase.Phase.{Phase}
@@ -15,7 +15,9 @@ use Rattle.tbl_data.specs.declared.table_data.OpenBlock.TheVariants.{Dropped, Ke
 use Rattle.tbl_data.specs.declared.table_data.TableData.{TableData}
 use Rattle.tbl_data.proofs.EndsKept.{all-append}
 use Rattle.tbl_data.proofs.RuleRows.{rule_rows-fewer, rule_rows-last}
+use Rattle.tbl_format.specs.Cells.{cell_count}
 use Rattle.tbl_format.specs.Format.{Format, FormatRow}
+use Rattle.tbl_format.specs.FormatRows.{AreWithin}
 use Rattle.tbl_options.specs.Notes.{told_of, told_of_all}
 use Rattle.tbl_format.specs.RowsServed.{all_rows, next_of, no_keys, row_at}
 use Rattle.tbl_format.specs.declared.format.FormatKey.{FormatKey}
@@ -23,17 +25,18 @@ use Rattle.tbl_options.specs.declared.message.Told.{Told}
 use Rattle.tbl_options.specs.declared.notes.KeptNote.{KeptNote}
 use Rattle.tbl_options.specs.declared.options.Options.{Options}
 use Rattle.tbl_kept.proofs.RowsKeeping.{RowBegunKept-entry, RowBegunKept-first, RowsKept-row, contents-entry, elements_of-row}
+use Rattle.tbl_kept.proofs.RowsLaidOut.{length-held_by}
 use Rattle.tbl_kept.specs.RowsLaying.{AreOpened, IsOpenedKind}
 use Rattle.tbl_layout.specs.declared.entry.EntryKind.{EntryKind}
 use Rattle.tbl_layout.specs.declared.entry.EntryKind.TheVariants.{Block as BlockKind, Repeated as RepeatedKind, Ruled as RuledKind, Short as ShortKind, Split as SplitKind, Text as TextKind}
 use Rattle.tbl_format.specs.declared.format.Key.{Key}
-use Rattle.tbl_kept.specs.Rows.{AreKept, KeptElement, KeptRows, Row, elements_of, entries_in, holding, rows_in_front, with_entry, with_row as row_kept}
+use Rattle.tbl_kept.specs.Rows.{AreKept, KeptElement, KeptRows, Row, elements_of, entries_in, rows_in_front, with_entry, with_row as row_kept}
 use Rattle.tbl_kept.specs.TableNotes.{KeptNotes}
 use Rattle.tbl_layout.specs.Entries.{Block, Content, Element, Row as OneRow, completed, key_at}
-use Rattle.tbl_layout.specs.KeptEntries.{IsKeptBy, block_lines, content_of, not_filled, opened_at, rule_entry}
+use Rattle.tbl_layout.specs.Columns.{row_stands}
+use Rattle.tbl_layout.specs.KeptEntries.{IsKeptBy, block_lines, content_of, not_filled, opened_at, rule_entry, stands_of}
 use Rattle.tbl_layout.specs.RuleKeys.{rule_rows, rule_sign}
 use Rattle.tbl_layout.specs.declared.data_lines.RuleSign.{RuleSign}
-use Rattle.tbl_layout.specs.declared.columns.Column.{Column}
 use Rattle.tbl_layout.specs.declared.entry.Entry.{Entry}
 use Rattle.tbl_text.specs.BlockWords.{lines_in}
 
@@ -49,13 +52,6 @@ table-notes phase options bytes d notes new is =
 pub entries_in-append : (some more : List KeptElement) → entries_in (some ++ more) ≡ entries_in some + entries_in more
 entries_in-append [] more = omega arith
 entries_in-append (e ∷ some) more = omega (arith, entries_in-append some more)
-
--- as many columns as before
-pub holding-length : (format : FormatRow) (column : ℕ) (entries : List Entry) (columns : List Column)
-    → length (holding format column entries columns) ≡ length columns
-holding-length format column [] columns = refl
-holding-length format column (e ∷ entries) [] = refl
-holding-length format column (e ∷ entries) (c ∷ columns) = ap suc (holding-length format (suc column) entries columns)
 
 -- the row of the last format, by its place among all, and those from one on
 serving-at : (earlier rows : List FormatRow) (keys : ℕ) → length earlier ≤ keys → row_at (earlier ++ rows) keys ≡ row_at rows (keys - length earlier)
@@ -89,12 +85,18 @@ module _ (f : Format) (keys rules : ℕ) (served : Serves f keys rules) where
   row-is : row_at f.rows (first-left + rule_rows left) ≡ row_at (all_rows f) keys
   row-is = ap (λ (n : ℕ). row_at f.rows n) place-is ∙ sym (serving-at f.earlier f.rows keys (omega (arith, served.first)))
 
--- the key of the column that comes next
+-- the key of the cell that comes next
 pub key-is : (phase : Phase) (options : Options) (bytes : List ℕ) (d : TableData) → Serves d.format.format d.keys d.rules
     → key_at (serving (table_by phase options bytes d)) (length (map (content_of bytes) d.rows.row)) ≡ key_next d
 key-is phase options bytes d served =
     ap (λ (row : FormatRow). key_at row (length (map (content_of bytes) d.rows.row))) (row-is d.format.format d.keys d.rules served)
     ∙ ap (λ (n : ℕ). key_at (row_at (all_rows d.format.format) d.keys) n) (length-map d.rows.row (content_of bytes))
+
+-- and how many cells the row has
+pub cells-is : (phase : Phase) (options : Options) (bytes : List ℕ) (d : TableData) → Serves d.format.format d.keys d.rules
+    → cells (table_by phase options bytes d) ≡ cells_next d
+cells-is phase options bytes d served =
+    ap (λ (row : FormatRow). cell_count row.keys (length d.format.format.asked)) (row-is d.format.format d.keys d.rules served)
 
 -- another row serves the row of the data behind it
 pub record IsNext (f : Format) (keys next rules : ℕ) : Type 0 where
@@ -166,15 +168,15 @@ module _ (bytes : List ℕ) (d : TableData) where
   row_ended next rules =
       record d { keys = next; rules = rules; rows = row_kept d.keys d.rules (row_at formats d.keys) d.rows; «open» = Nothing }
 
-  pub row-ends : (next rules : ℕ) → IsNext d.format.format d.keys next rules → length (row_at formats d.keys).keys ≤ length d.format.format.asked
+  pub row-ends : (next rules : ℕ) → IsNext d.format.format d.keys next rules → AreWithin (length d.format.format.asked) (row_at formats d.keys).keys
       → RowFits bytes d → EndsRow bytes d (row_ended next rules)
-  row-ends next rules is few fits =
+  row-ends next rules is cells fits =
       let f = d.format.format in
       let contents = map (content_of bytes) d.rows.row in
       let body = elements_of bytes formats d.rows.elements in
       let served = fits.served in
       let before : d.rules ≤ d.keys = omega (arith, served.first) in
-      let within : length (row_at formats d.keys).keys ≤ length d.rows.columns = omega (arith, few, fits.columns) in
+      let within = subst (λ (n : ℕ). AreWithin n (row_at formats d.keys).keys) (sym fits.columns) cells in
       record {
         table = λ options.
             let t = table_by InData options bytes d in
@@ -188,7 +190,7 @@ module _ (bytes : List ℕ) (d : TableData) where
           kept = RowBegunKept-first bytes formats (row_kept d.keys d.rules (row_at formats d.keys) d.rows) next refl
               (RowsKept-row bytes formats d.rows d.keys d.rules served.serves before within fits.kept);
           block = refl;
-          columns = holding-length (row_at formats d.keys) 0 d.rows.row d.rows.columns ∙ fits.columns;
+          columns = length-held_by (row_stands stands_of 0 (row_at formats d.keys).keys d.rows.row) d.rows.columns ∙ fits.columns;
           served = is.served;
           whole = fits.whole;
           notes = fits.notes;
@@ -222,12 +224,12 @@ pub row-by : (keys rules : ℕ) (row : FormatRow) (ks : List FormatKey) (k new :
 row-by keys rules row ks k new is made = made row.bars ∙ ap (λ (xs : List FormatKey). row_kept keys rules (record { keys = xs; bars = row.bars }) k) is
 
 -- a block opens
-pub block-last : (contents : List Content) (lines : List (List ℕ))
-    → row_with_block (contents ++ Block lines ∷ []) ≡ record { fields = contents; block = Some lines; had_surplus = false }
-block-last [] lines = refl
-block-last (content ∷ []) lines = refl
-block-last (content ∷ next ∷ contents) lines =
-    ap (λ (row : RowBegun). record row { fields = content ∷ row.fields }) (block-last (next ∷ contents) lines)
+pub block-last : (contents : List Content) (measure : ℕ) (lines : List (List ℕ))
+    → row_with_block (contents ++ Block measure lines ∷ []) ≡ record { fields = contents; block = Some lines; had_surplus = false }
+block-last [] measure lines = refl
+block-last (content ∷ []) measure lines = refl
+block-last (content ∷ next ∷ contents) measure lines =
+    ap (λ (row : RowBegun). record row { fields = content ∷ row.fields }) (block-last (next ∷ contents) measure lines)
 
 pub ends-in-block : (row : List Entry) (to : ℕ) → EndsInBlock (row ++ opened_at to ∷ [])
 ends-in-block [] to = tt
@@ -239,22 +241,22 @@ ends-at [] to = refl
 ends-at (e ∷ []) to = refl
 ends-at (e ∷ next ∷ row) to = ends-at (next ∷ row) to
 
-pub opens-kept : (bytes : List ℕ) (d : TableData) (to : ℕ) → to ≤ length bytes → length d.rows.row < length d.rows.columns → rule_sign (key_next d) ≡ None
+pub opens-kept : (bytes : List ℕ) (d : TableData) (to : ℕ) → to ≤ length bytes → length d.rows.row < cells_next d → rule_sign (key_next d) ≡ None
     → RowFits bytes d → OpensBlock bytes false d (record d { rows = with_entry (opened_at to) d.rows; «open» = Kept })
-opens-kept bytes d to within column none fits =
+opens-kept bytes d to within cell none fits =
     let rows = with_entry (opened_at to) d.rows in
     let contents = map (content_of bytes) d.rows.row in
     let no-line : block_lines bytes to to ≡ [] = ap (λ (b : Bool). if b then [] else lines_in (slice_range bytes (to + 1) to)) (eq-eqb to to refl) in
     let block : row_with_block (map (content_of bytes) rows.row) ≡ row_opened false (key_next d) contents =
     ap row_with_block (contents-entry bytes (all_rows d.format.format) d.rows (opened_at to))
-    ∙ block-last contents (block_lines bytes to to)
+    ∙ block-last contents 0 (block_lines bytes to to)
     ∙ ap (λ (lines : List (List ℕ)). record { fields = contents; block = Some lines; had_surplus = false }) no-line
     ∙ sym (ap (λ (sign : Option RuleSign). row_opened_under sign contents) none) in
     let here : to ≤ to = omega arith in
     record {
       table = λ options. ap (λ (row : RowBegun). record (table_by InData options bytes d) { begun = Some row }) block;
       fits = record {
-        kept = RowBegunKept-entry bytes (all_rows d.format.format) d.rows d.keys (opened_at to) column
+        kept = RowBegunKept-entry bytes (all_rows d.format.format) d.rows d.keys (opened_at to) (omega (arith, cell, fits.columns))
             (record { lies = record { order = here; within = within }; is = refl }) fits.kept;
         block = ends-in-block d.rows.row to;
         columns = fits.columns;
@@ -265,10 +267,10 @@ opens-kept bytes d to within column none fits =
     }
 
 -- and under a rule key it is dropped
-pub opens-ruled : (bytes : List ℕ) (d : TableData) (to : ℕ) (sign : RuleSign) → to ≤ length bytes → length d.rows.row < length d.rows.columns
+pub opens-ruled : (bytes : List ℕ) (d : TableData) (to : ℕ) (sign : RuleSign) → to ≤ length bytes → length d.rows.row < cells_next d
     → rule_sign (key_next d) ≡ Some sign → RowFits bytes d
     → OpensBlock bytes false d (record d { rows = with_entry (rule_entry to 0 (RuledKind sign)) d.rows; «open» = Dropped false })
-opens-ruled bytes d to sign within column is fits =
+opens-ruled bytes d to sign within cell is fits =
     let e = rule_entry to 0 (RuledKind sign) in
     let contents = map (content_of bytes) d.rows.row in
     let row : record { fields = map (content_of bytes) (with_entry e d.rows).row; block = None; had_surplus = false } ≡ row_opened false (key_next d) contents =
@@ -277,7 +279,7 @@ opens-ruled bytes d to sign within column is fits =
     record {
       table = λ options. ap (λ (r : RowBegun). record (table_by InData options bytes d) { begun = Some r }) row;
       fits = record {
-        kept = RowBegunKept-entry bytes (all_rows d.format.format) d.rows d.keys e column
+        kept = RowBegunKept-entry bytes (all_rows d.format.format) d.rows d.keys e (omega (arith, cell, fits.columns))
             (record { order = omega arith; within = omega (arith, within) }) fits.kept;
         block = tt;
         columns = fits.columns;
@@ -295,7 +297,7 @@ ruled-settled d to sign ends = record {
   notes = ends.notes;
 }
 
--- and without a column
+-- and without a cell
 pub opens-surplus : (bytes : List ℕ) (d : TableData) → RowFits bytes d → OpensBlock bytes true d (record d { «open» = Dropped true })
 opens-surplus bytes d fits = record {
   table = λ options. refl;

@@ -2,7 +2,7 @@
 use Rattle.std.proofs.Common.{◌≡◌, ℕ, ◌-◌, ◌<◌, ◌≤◌, List, [], length, refl, sym, ap, subst, arith}
 use Rattle.std.specs.List.{slice_range}
 use Rattle.tbl_data.specs.DataRead.{notes_by_kind}
-use Rattle.tbl_data.specs.LineTaken.{KeepsRule, LineLies, RowFits, TakesField, key_next}
+use Rattle.tbl_data.specs.LineTaken.{KeepsRule, LineLies, RowFits, TakesField, cells_next, key_next}
 use Rattle.tbl_data.specs.declared.data_line.DataLine.{DataLine}
 use Rattle.tbl_data.specs.declared.table_data.OpenBlock.TheVariants.{Nothing}
 use Rattle.tbl_data.specs.declared.table_data.TableData.{TableData}
@@ -48,9 +48,9 @@ module _ (k : KeptText) (line : DataLine) (at end : ℕ) (d : TableData) (kept :
   abbrev field : List ℕ
   field = slice_range (block_of k) at end
 
-  pub takes-rule : KeepsRule (kind_under (key_next d) field) kept → RowFits (block_of k) d → d.open ≡ Nothing → length d.rows.row < length d.format.format.asked
+  pub takes-rule : KeepsRule (kind_under (key_next d) field) kept → RowFits (block_of k) d → d.open ≡ Nothing → length d.rows.row < cells_next d
       → TakesField k line at end d (record d { rows = with_entry (rule_entry at (end - at) kept) d.rows })
-  takes-rule keeps fits closed column =
+  takes-rule keeps fits closed cell =
       let e = rule_entry at (end - at) kept in
       let to : e.to ≡ end = omega (arith, order) in
       let lies-there : Lies (block_of k) e = record { order = omega arith; within = omega (arith, to, on-line, lies.within) } in
@@ -61,7 +61,7 @@ module _ (k : KeptText) (line : DataLine) (at end : ℕ) (d : TableData) (kept :
         to = to;
         on_line = on-line;
         closed = closed;
-        column = omega (arith, column, fits.columns);
+        cell = cell;
         fits = fits;
       }) d.notes [] (record {
         is = more-none d.notes;

@@ -2,7 +2,7 @@
 use Rattle.std.proofs.Common.{◌≡◌, ℕ, ◌+◌, ◌-◌, ◌<◌, ◌≤◌, Bool, true, false, List, [], ◌∷◌, length, Option, None, Some, refl, sym, ap, ◌∙◌, arith, if◌then◌else◌}
 use Rattle.std.specs.List.{slice_range}
 use Rattle.tbl_data.specs.DataRead.{notes_by_kind, notes_of_field}
-use Rattle.tbl_data.specs.LineTaken.{RowFits, TakesField, key_next, more_notes, notes_kept}
+use Rattle.tbl_data.specs.LineTaken.{RowFits, TakesField, cells_next, key_next, more_notes, notes_kept}
 use Rattle.tbl_data.specs.declared.data_line.DataLine.{DataLine}
 use Rattle.tbl_data.specs.declared.table_data.OpenBlock.TheVariants.{Nothing}
 use Rattle.tbl_data.specs.declared.table_data.TableData.{TableData}
@@ -113,15 +113,15 @@ module _ (k : KeptText) (line : DataLine) (at end : ℕ) (order : at ≤ end) (w
 
     pub takes-field : (notes : KeptNotes) → notes ≡ more_notes told d.notes → length notes.notes ≤ length d.notes.notes + (end - at)
         → (new : TableData) → new ≡ record d { rows = with_entry field_entry d.rows; notes = notes; escapes = new.escapes } → new.escapes.room ≡ d.escapes.room
-        → d.open ≡ Nothing → length d.rows.row < length d.rows.columns → RowFits bytes d → end ≤ line.to → TakesField k line at end d new
-    takes-field notes more few new made room closed column fits on-line =
+        → d.open ≡ Nothing → length d.rows.row < cells_next d → RowFits bytes d → end ≤ line.to → TakesField k line at end d new
+    takes-field notes more few new made room closed cell fits on-line =
         takes-entry k line at end d field_entry (record {
           content = content-is;
           kept = is-kept;
           to = ends-there;
           on_line = on-line;
           closed = closed;
-          column = column;
+          cell = cell;
           fits = fits;
         }) notes told (record {
           is = more;

@@ -3,6 +3,7 @@
 -- A line that is whole may be joined of several lines of the input: `ends` says where each of these ended but the last, which has
 -- the number `n`. A message names the line on which what it tells begins.
 use Rattle.std.specs.Prelude.{ℕ, suc, ◌+◌, ◌-◌, Bool, true, false, not, ◌&&◌, ◌||◌, List, [], ◌∷◌, ◌++◌, length, map, take, drop, take_while, nat_lt, Option, None, Some, is_some, option_map, option_to_list, if◌then◌else◌}
+use Rattle.tbl_format.specs.Cells.{cell_count}
 use Rattle.tbl_format.specs.Format.{FormatRow, further}
 use Rattle.tbl_options.specs.Notes.{told_at}
 use Rattle.tbl_format.specs.RowsServed.{next_of, row_at}
@@ -56,6 +57,10 @@ rules_in_front t = take (rules_next t) (drop t.next_row t.format.rows)
 abbrev pub serving : TableRead → FormatRow
 serving t = row_at t.format.rows (t.next_row + rules_next t)
 
+-- how many cells that has
+abbrev pub cells : TableRead → ℕ
+cells t = cell_count (serving t).keys (columns t)
+
 -- a row is whole that has these fields: the next row of the format comes next, and the last one serves all further rows of data
 abbrev pub with_row : List Content → TableRead → TableRead
 with_row contents t = record t {
@@ -64,12 +69,12 @@ with_row contents t = record t {
   body = t.body ++ OneRow (rules_in_front t) (serving t) (completed (serving t) contents) ∷ [];
 }
 
--- the row of which a text block opens behind some fields, in the column of a key: under a rule key it is dropped
+-- the row of which a text block opens behind some fields, in the cell of a key: under a rule key it is dropped
 abbrev pub row_opened_under : Option RuleSign → List Content → RowBegun
 row_opened_under None contents = record { fields = contents; block = Some []; had_surplus = false }
 row_opened_under (Some sign) contents = record { fields = contents ++ Ruled sign ∷ []; block = None; had_surplus = false }
 
--- and without a column
+-- and without a cell
 abbrev pub row_opened : Bool → Key → List Content → RowBegun
 row_opened true key contents = record { fields = contents; block = None; had_surplus = true }
 row_opened false key contents = row_opened_under (rule_sign key) contents
@@ -80,20 +85,20 @@ with_open_row true had_surplus contents t =
     record t { begun = Some (row_opened had_surplus (key_at (serving t) (length contents)) contents) }
 with_open_row false had_surplus contents t = with_row contents t
 
--- fields with their keys, from a column on
+-- fields with their keys, from a cell on
 abbrev pub keyed : FormatRow → ℕ → List (List ℕ) → List (Key × List ℕ)
-keyed format column [] = []
-keyed format column (field ∷ fields) = (key_at format column, field) ∷ keyed format (suc column) fields
+keyed format cell [] = []
+keyed format cell (field ∷ fields) = (key_at format cell, field) ∷ keyed format (suc cell) fields
 
 -- the message of surplus fields, once a row: it names the line of the separator in front of the first
 abbrev pub surplus_notes : Bool → ℕ → List Told
 surplus_notes is_first line = if is_first then told_at line TooManyFields ∷ [] else []
 
--- Fields from a place on, behind those that a row has: those are kept for which there is a column, up to one that isn't laid out.
+-- Fields from a place on, behind those that a row has: those are kept for which there is a cell, up to one that isn't laid out.
 -- The last of them may open a text block.
 abbrev pub with_fields : List (ℕ × ℕ) → ℕ → ℕ → List (List ℕ) → List Content → Bool → TableRead → TableRead
 with_fields ends n place all in_front had_surplus t =
-    let room = columns t - length in_front in
+    let room = cells t - length in_front in
     let texts = take room (without_opening all) in
     let keyed_texts = keyed (serving t) (length in_front) texts in
     let built = take_while (λ field. is_laid_out (kind_under field.0 field.1)) keyed_texts in
@@ -113,7 +118,7 @@ with_line Row ends n line t = with_fields ends n 0 (fields t.options.separator l
 
 -- the fields of a row whose block ends
 abbrev pub fields_with_block : RowBegun → List Content
-fields_with_block row = row.fields ++ option_to_list (option_map Block row.block)
+fields_with_block row = row.fields ++ option_to_list (option_map (Block 0) row.block)
 
 -- the fields of the line that ends a block, behind its `T}`: the first of them is none
 abbrev pub behind_block : List (ℕ × ℕ) → ℕ → List (List ℕ) → RowBegun → TableRead → TableRead

@@ -11,6 +11,7 @@ use Rattle.tbl_data.specs.declared.table_data.OpenBlock.{OpenBlock}
 use Rattle.tbl_data.specs.declared.table_data.OpenBlock.TheVariants.{Dropped, Kept, Nothing}
 use Rattle.tbl_data.specs.declared.table_data.TableData.{TableData}
 use Rattle.tbl_options.specs.Notes.{NotesWithin}
+use Rattle.tbl_format.specs.Cells.{cell_count}
 use Rattle.tbl_format.specs.RowsServed.{all_rows, row_at}
 use Rattle.tbl_format.specs.declared.format.Key.{Key}
 use Rattle.tbl_options.specs.declared.notes.Cause.TheVariants.{NotMeasured, TooManyFields}
@@ -92,7 +93,11 @@ KeepsRule Short kept = kept ≡ ShortKind
 KeepsRule (Repeated b) kept = kept ≡ RepeatedKind b
 KeepsRule kind kept = ⊥
 
--- the key of the column that comes next
+-- how many cells the row that is begun has
+abbrev pub cells_next : TableData → ℕ
+cells_next d = cell_count (row_at (all_rows d.format.format) d.keys).keys (length d.format.format.asked)
+
+-- the key of the cell that comes next
 abbrev pub key_next : TableData → Key
 key_next d = key_at (row_at (all_rows d.format.format) d.keys) (length d.rows.row)
 
@@ -103,6 +108,7 @@ pub record TakesField (k : KeptText) (line : DataLine) (at end : ℕ) (old new :
       (table_by InData options (block_of k) old)
   pub row : contents_in k new ≡ contents_in k old ++ content_under (key_next old) (slice_range (block_of k) at end) ∷ []
   pub fits : RowFits (block_of k) new
+  pub cells : cells_next new ≡ cells_next old
   pub closed : new.open ≡ old.open
   pub settled : EndsBy line.to old → EndsBy line.to new
   pub grown : Grows (end - at + 1) 0 old new
@@ -112,7 +118,7 @@ pub record EndsRow (bytes : List ℕ) (old new : TableData) : Type 0 where
   pub table : (options : Options) → table_by InData options bytes new ≡ with_row (map (content_of bytes) old.rows.row) (table_by InData options bytes old)
   pub fits : DataFits bytes new
 
--- a text block opens behind the fields of the row that is begun, in the column that comes next, or without one
+-- a text block opens behind the fields of the row that is begun, in the cell that comes next, or without one
 pub record OpensBlock (bytes : List ℕ) (had_surplus : Bool) (old new : TableData) : Type 0 where
   pub table : (options : Options) → table_by InData options bytes new
       ≡ record (table_by InData options bytes old) { begun = Some (row_opened had_surplus (key_next old) (map (content_of bytes) old.rows.row)) }

@@ -22,7 +22,7 @@ use Rattle.tbl_layout.specs.declared.entry.EntryKind.TheVariants.{Block as Block
 
 -- the row of which a block is open that isn't dropped: the block is the last of its fields
 abbrev pub with_content : Content → List Content → RowBegun
-with_content (Block lines) contents = record { fields = contents; block = Some lines; had_surplus = false }
+with_content (Block measure lines) contents = record { fields = contents; block = Some lines; had_surplus = false }
 with_content content contents = record { fields = contents; block = Some []; had_surplus = false }
 
 abbrev pub behind_field : Content → RowBegun → RowBegun

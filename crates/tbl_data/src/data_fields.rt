@@ -6,7 +6,7 @@ ghost use Rattle.std.specs.Prelude.{length, slice_range, true};
 ghost use Rattle.tbl_data.specs.LineTaken.{EndsRow, Grows, HasRoom, IsOnLine, KeepsRule};
 ghost use Rattle.tbl_data.specs.LineTaken.{LineLies, Makes};
 ghost use Rattle.tbl_data.specs.LineTaken.{OpensBlock, RowFits, TakesField, fields_made};
-ghost use Rattle.tbl_data.specs.LineTaken.{key_next, last_made};
+ghost use Rattle.tbl_data.specs.LineTaken.{cells_next, key_next, last_made};
 ghost use Rattle.tbl_data.specs.TableData.{EndsBy, OpenEndsAt};
 ghost use Rattle.tbl_data.specs.declared.phase.Phase.TheVariants.{InData};
 ghost use Rattle.tbl_data.specs.TableRead.{bad};
@@ -24,6 +24,7 @@ ghost use Rattle.tbl_layout.specs.declared.data_lines.FieldKind.TheVariants.{Tex
 use crate::data_line::{DataLine, tell, tell_items, tell_surplus};
 use crate::phase::Phase;
 use crate::table_data::{OpenBlock, TableData};
+use tbl_format::cells::cell_count;
 use tbl_format::format::Key;
 use tbl_kept::rows::key_at;
 use tbl_kept::table_text::TableText;
@@ -53,8 +54,9 @@ impl TableData {
         ensures made { Makes text.old line (line.to - first + 1)
             (fields_made text.old line first had_surplus self.old) result self.old self.new }
     {
+        let cells = self.cells_next();
         let mut at = first;
-        while self.rows.row_len() < self.format.columns() {
+        while self.rows.row_len() < cells {
             let end = at + field_len(line.separator, &text.block()[at..line.to]);
             if end == line.to {
                 return self.take_last(text, line, at, had_surplus);
@@ -68,7 +70,7 @@ impl TableData {
         self.take_surplus(text, line, at, had_surplus)
     }
 
-    /// The last field of a line, which has a column.
+    /// The last field of a line, which has a cell.
     fn take_last(
         &mut self,
         text: &mut TableText,
@@ -80,7 +82,7 @@ impl TableData {
         requires at { IsOnLine line at }
         requires closed { self.old.open ≡ Nothing }
         requires fits { RowFits (block_of text.old) self.old }
-        requires column { length self.old.rows.row < length self.old.format.format.asked }
+        requires cell { length self.old.rows.row < cells_next self.old }
         requires room { HasRoom (line.to - at + 1) self.old }
         ensures text { text.new ≡ text.old }
         ensures made { Makes text.old line (line.to - at + 1)
@@ -109,7 +111,7 @@ impl TableData {
         requires at { IsOnLine line at }
         requires closed { self.old.open ≡ Nothing }
         requires fits { RowFits (block_of text.old) self.old }
-        requires full { length self.old.format.format.asked ≤ length self.old.rows.row }
+        requires full { cells_next self.old ≤ length self.old.rows.row }
         requires room { HasRoom (line.to - at + 1) self.old }
         ensures text { text.new ≡ text.old }
         ensures made { Makes text.old line (line.to - at + 1)
@@ -123,7 +125,7 @@ impl TableData {
         }
     }
 
-    /// A field of a column, which lies there, is kept as what it is. Answers whether it is laid out.
+    /// A field of a cell, which lies there, is kept as what it is. Answers whether it is laid out.
     fn take_field(&mut self, text: &mut TableText, line: DataLine, at: usize, end: usize) -> bool
         requires lies { LineLies (block_of text.old) line }
         requires at { IsOnLine line at }
@@ -131,7 +133,7 @@ impl TableData {
         requires end { end ≤ line.to }
         requires fits { RowFits (block_of text.old) self.old }
         requires closed { self.old.open ≡ Nothing }
-        requires column { length self.old.rows.row < length self.old.format.format.asked }
+        requires cell { length self.old.rows.row < cells_next self.old }
         requires room { HasRoom (end - at + 1) self.old }
         ensures text { text.new ≡ text.old }
         ensures laid { result ≡ is_laid_out
@@ -161,7 +163,7 @@ impl TableData {
         }
     }
 
-    /// A rule of a column: nothing is told of it.
+    /// A rule of a cell: nothing is told of it.
     #[cold]
     fn take_rule_field(&mut self, at: usize, end: usize, kind: EntryKind)
         requires order { at ≤ end }
@@ -171,13 +173,13 @@ impl TableData {
             → end ≤ line.to
             → KeepsRule (kind_under (key_next self.old) (slice_range (block_of k) at end)) kind
             → RowFits (block_of k) self.old → self.old.open ≡ Nothing
-            → length self.old.rows.row < length self.old.format.format.asked
+            → length self.old.rows.row < cells_next self.old
             → TakesField k line at end self.old self.new }
     {
         self.rows.keep(Entry::of_rule(at, end - at, kind));
     }
 
-    /// A text of a column: it is kept, and what isn't measured of it is told.
+    /// A text of a cell: it is kept, and what isn't measured of it is told.
     fn take_text_field(
         &mut self,
         text: &mut TableText,
@@ -194,7 +196,7 @@ impl TableData {
         requires kind { kind_under key (slice_range (block_of text.old) at end) ≡ OneText }
         requires fits { RowFits (block_of text.old) self.old }
         requires closed { self.old.open ≡ Nothing }
-        requires column { length self.old.rows.row < length self.old.format.format.asked }
+        requires cell { length self.old.rows.row < cells_next self.old }
         requires room { HasRoom (end - at + 1) self.old }
         ensures text { text.new ≡ text.old }
         ensures taken { TakesField text.old line at end self.old self.new }
@@ -207,14 +209,14 @@ impl TableData {
     }
 
     /// A text block begins behind a line that ends there: as a field, or dropped under a rule key,
-    /// or without a column.
+    /// or without a cell.
     fn open_block(&mut self, line_end: usize, had_surplus: bool) -> Phase
         requires small { line_end < 2 ^ 32 }
         requires serves { self.old.keys < length (all_rows self.old.format.format) }
         requires room { had_surplus ≡ false → entries_of self.old.rows < self.old.rows.entry_room }
         ensures phase { result ≡ InData }
         ensures opens { (bytes : List ℕ) → line_end ≤ length bytes → (had_surplus ≡ false
-            → length self.old.rows.row < length self.old.rows.columns) → RowFits bytes self.old
+            → length self.old.rows.row < cells_next self.old) → RowFits bytes self.old
             → OpensBlock bytes had_surplus self.old self.new }
         ensures ends { OpenEndsAt line_end self.new.open self.new.rows.row }
         ensures settled { EndsBy line_end self.old → EndsBy line_end self.new }
@@ -239,7 +241,15 @@ impl TableData {
         Phase::InData
     }
 
-    /// The key of the column that comes next.
+    /// How many cells the row that is begun has.
+    fn cells_next(&self) -> usize
+        requires { self.now.keys < length (all_rows self.now.format.format) }
+        ensures { result ≡ cells_next self.now }
+    {
+        cell_count(self.format.row_of_all(self.keys), self.format.columns())
+    }
+
+    /// The key of the cell that comes next.
     fn key_next(&self) -> Key
         requires { self.now.keys < length (all_rows self.now.format.format) }
         ensures { result ≡ key_next self.now }
@@ -254,6 +264,8 @@ impl TableData {
         requires elements { length self.old.rows.elements < self.old.rows.element_room }
         requires serves { self.old.keys < length (all_rows self.old.format.format) }
         requires rules { self.old.rules ≤ self.old.keys }
+        requires columns { length self.old.rows.columns ≡ length self.old.format.format.asked }
+        requires short { length self.old.rows.row ≤ cells_next self.old }
         requires small { length (all_rows self.old.format.format) < 2 ^ 32 }
         ensures phase { result ≡ InData }
         ensures ends { (bytes : List ℕ) → RowFits bytes self.old → EndsRow bytes self.old self.new }

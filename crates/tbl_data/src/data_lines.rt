@@ -6,7 +6,7 @@ ghost use Rattle.std.specs.Prelude.{false, length, map, slice_range};
 ghost use Rattle.roff_source.specs.Bytes.{newline};
 ghost use Rattle.tbl_data.specs.DataRead.{closed_block, with_whole};
 ghost use Rattle.tbl_data.specs.LineTaken.{HasRoom, LineLies, Makes, block_line_made, left_from};
-ghost use Rattle.tbl_data.specs.LineTaken.{made_by, text_made};
+ghost use Rattle.tbl_data.specs.LineTaken.{cells_next, made_by, text_made};
 ghost use Rattle.tbl_data.specs.TableData.{DataFits, EndsBy, FitsBehind, OpenBehind, OpenEndsAt};
 ghost use Rattle.tbl_data.specs.TableData.{SameRooms, begun_by, table_by};
 ghost use Rattle.tbl_data.specs.declared.phase.Phase.TheVariants.{InData};
@@ -94,6 +94,8 @@ impl TableData {
         requires elements { length self.old.rows.elements < self.old.rows.element_room }
         requires serves { self.old.keys < length (all_rows self.old.format.format) }
         requires rules { self.old.rules ≤ self.old.keys }
+        requires columns { length self.old.rows.columns ≡ length self.old.format.format.asked }
+        requires short { length self.old.rows.row ≤ cells_next self.old }
         requires small { length (all_rows self.old.format.format) < 2 ^ 32 }
         ensures table { (options : Options) (bytes : List ℕ) → DataFits bytes self.old
             → table_by InData options bytes self.new

@@ -15,8 +15,8 @@ pub enum OpenBlock {
     Nothing,
     /// One that is kept, as the last field of the row that is begun.
     Kept,
-    /// One that is dropped, as it stands under a rule key or without a column, and whether the row
-    /// had a field without a column.
+    /// One that is dropped, as it stands under a rule key or without a cell, and whether the row had
+    /// a field without a cell.
     Dropped(bool),
 }
 
@@ -32,7 +32,7 @@ impl OpenBlock {
         }
     }
 
-    /// Whether one is whose row had a field without a column.
+    /// Whether one is whose row had a field without a cell.
     pub(crate) fn had_surplus(self) -> bool
         ensures { result ≡ had_surplus self }
     {

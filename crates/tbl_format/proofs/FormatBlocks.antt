@@ -1,7 +1,7 @@
 -- The rows of formats, as they lie among their keys.
-use Rattle.std.proofs.Common.{◌≡◌, ℕ, zero, suc, ◌+◌, ◌-◌, ◌<◌, ◌≤◌, Bool, true, false, max, not, nat_lt, List, [], ◌∷◌, ◌++◌, length, take, drop, set, get_or, refl, sym, ap, ◌∙◌, arith, length-append, length-drop, if◌then◌else◌}
+use Rattle.std.proofs.Common.{◌≡◌, ℕ, zero, suc, ◌+◌, ◌-◌, ◌<◌, ◌≤◌, Bool, true, false, ◌&&◌, max, not, nat_lt, List, [], ◌∷◌, ◌++◌, length, take, drop, set, get_or, refl, sym, ap, subst, ◌∙◌, arith, length-append, length-drop, if◌then◌else◌}
 use Rattle.std.proofs.lemmas.List.{drop-append-le, drop_all, take-append-drop, take-append-le, take_all}
-use Rattle.tbl_format.specs.Format.{Format, FormatRow, asking, asking_for_bars, at_fault, fault_if, further, has_some, last_changed, most_bars, nothing_asked, plain_key, with_any_key, with_asked, with_columns, with_end, with_last, with_whole}
+use Rattle.tbl_format.specs.Format.{Format, FormatRow, asking, asking_for_bars, at_fault, columns_of, fault_if, further, has_some, is_spanned, keys_with, last_changed, most_bars, nothing_asked, plain_key, with_asked, with_columns, with_end, with_last, with_whole, widened}
 use Rattle.tbl_format.specs.FormatRows.{key_count, keys_of, rows_kept, rows_with}
 use Rattle.tbl_format.specs.Parts.{EndWithin, last_end, parts_ending}
 use Rattle.tbl_format.specs.declared.format.Asked.{Asked}
@@ -13,6 +13,7 @@ use Rattle.tbl_format.specs.declared.format.RowPart.TheVariants.{AtKeys}
 use Rattle.std.specs.List.{slice_range}
 use Rattle.tbl_format.specs.declared.format.Key.{Key}
 use Rattle.tbl_format.proofs.KeyCounting.{has_some-long, has_some-none}
+use Rattle.tbl_format.proofs.KeysWith.{columns_of-append, has_some-columns, keys_with-own, keys_with-wide}
 use Rattle.tbl_format.proofs.Parts.{EndWithin-first, EndWithin-last, EndWithin-order, last_end-append, length-parts, length-slice_range, parts_ending-append, part-read, parts_ending-more, slice_range-rest}
 
 -- all keys are in a row, or in the one begun
@@ -64,12 +65,13 @@ with-append (row ∷ rows) [] keys n same = absurd (omega (arith, same))
 with-append (row ∷ rows) (m ∷ bars) keys n same =
     ap (λ (more : List FormatRow). record { keys = row; bars = m } ∷ more) (with-append rows bars keys n (omega (arith, same)))
 
-module _ (keys : List FormatKey) (ends row_bars : List ℕ) (within : EndWithin (length keys) 0 ends) where
-  -- a key more stands in the row begun
-  pub row-key : (key : FormatKey) → drop (last_end 0 ends) (keys ++ key ∷ []) ≡ drop (last_end 0 ends) keys ++ key ∷ []
-  row-key key = drop-append-le (last_end 0 ends) keys (key ∷ []) (EndWithin-last (length keys) 0 ends within)
+-- a key more stands in the row begun
+pub row-key : (keys : List FormatKey) (ends : List ℕ) → EndWithin (length keys) 0 ends → (key : FormatKey)
+    → drop (last_end 0 ends) (keys ++ key ∷ []) ≡ drop (last_end 0 ends) keys ++ key ∷ []
+row-key keys ends within key = drop-append-le (last_end 0 ends) keys (key ∷ []) (EndWithin-last (length keys) 0 ends within)
 
-  pub rows-key : (key : FormatKey) → rows_kept (keys ++ key ∷ []) ends row_bars ≡ rows_kept keys ends row_bars
+module _ (keys : List FormatKey) (ends row_bars : List ℕ) (within : EndWithin (length keys) 0 ends) where
+  rows-key : (key : FormatKey) → rows_kept (keys ++ key ∷ []) ends row_bars ≡ rows_kept keys ends row_bars
   rows-key key =
       ap (λ (rows : List (List FormatKey)). rows_with rows row_bars) (parts_ending-more keys (key ∷ []) 0 ends (EndWithin-order (length keys) 0 ends within))
 
@@ -104,22 +106,22 @@ asking-at change (a ∷ asked) zero d inside = refl
 asking-at change (a ∷ asked) (suc at) d inside =
     ap (λ (rest : List Asked). a ∷ rest) (asking-at change asked at d (omega (arith, inside)))
 
-pub asking-set : (change : Asked → Asked) (asked : List Asked) (keys : ℕ) (d : Asked) → 0 < keys → keys ≤ length asked
-    → asking change keys asked ≡ set asked (keys - 1) (change (get_or asked (keys - 1) d))
+pub asking-set : (change : Asked → Asked) (asked : List Asked) (columns : ℕ) (d : Asked) → 0 < columns → columns ≤ length asked
+    → asking change columns asked ≡ set asked (columns - 1) (change (get_or asked (columns - 1) d))
 asking-set change asked zero d some inside = absurd (omega (arith, some))
 asking-set change asked (suc at) d some inside =
     let same : at ≡ suc at - 1 = omega arith in
     asking-at change asked at d (omega (arith, inside)) ∙ ap (λ (n : ℕ). set asked n (change (get_or asked n d))) same
 
 -- and so do bars
-pub bars-asked : (f : Format) (keys : ℕ) (new d : Asked) → keys ≡ length f.row → 0 < keys → keys ≤ length f.asked
-    → new ≡ most_bars f.bars (get_or f.asked (keys - 1) d) → record f { asked = set f.asked (keys - 1) new } ≡ asking_for_bars f
-bars-asked f keys new d keys_is some within new_is =
-    ap (λ (a : Asked). record f { asked = set f.asked (keys - 1) a }) new_is
-    ∙ ap (λ (asked : List Asked). record f { asked = asked }) (sym (asking-set (most_bars f.bars) f.asked keys d some within))
-    ∙ ap (λ (n : ℕ). record f { asked = asking (most_bars f.bars) n f.asked }) keys_is
+pub bars-asked : (f : Format) (columns : ℕ) (new d : Asked) → columns ≡ columns_of f.row → 0 < columns → columns ≤ length f.asked
+    → new ≡ most_bars f.bars (get_or f.asked (columns - 1) d) → record f { asked = set f.asked (columns - 1) new } ≡ asking_for_bars f
+bars-asked f columns new d columns_is some within new_is =
+    ap (λ (a : Asked). record f { asked = set f.asked (columns - 1) a }) new_is
+    ∙ ap (λ (asked : List Asked). record f { asked = asked }) (sym (asking-set (most_bars f.bars) f.asked columns d some within))
+    ∙ ap (λ (n : ℕ). record f { asked = asking (most_bars f.bars) n f.asked }) columns_is
     ∙ ap (λ (t : Bool). if t then with_asked (most_bars f.bars) f else record f { front = max f.front f.bars })
-    (sym (has_some-long f.row (omega (arith, some, keys_is))))
+    (sym (has_some-columns f.row (omega (arith, some, columns_is))))
 
 -- whether there is a row of the last format
 module _ (keys : List FormatKey) (ends row_bars : List ℕ) (first : ℕ) where
@@ -170,21 +172,25 @@ get-last : (front : List FormatKey) (key d : FormatKey) → get_or (front ++ key
 get-last [] key d = refl
 get-last (k ∷ front) key d = get-last front key d
 
-module _ (change : FormatKey → FormatKey) (ends row_bars : List ℕ) (first : ℕ) (asked : List Asked) (front bars : ℕ) (place : FormatPlace) where
-  said-last : (keys : List FormatKey) (key : FormatKey) → EndWithin (length keys) 0 ends
-      → format_of (keys ++ change key ∷ []) ends row_bars first asked front bars place ≡ with_last change (format_of (keys ++ key ∷ []) ends row_bars first asked front bars place)
-  said-last keys key within =
-      let row = drop (last_end 0 ends) keys in
-      let rows = rows-key keys ends row_bars within (change key) ∙ sym (rows-key keys ends row_bars within key) in
-      let changed = row-key keys ends row_bars within (change key) ∙ sym (last-append change row key)
-      ∙ ap (last_changed change) (sym (row-key keys ends row_bars within key)) in
-      ap (λ (rs : List FormatRow). let g : Format = record { earlier = take first rs; rows = drop first rs; row = drop (last_end 0 ends) (keys ++ change key ∷ []); bars = bars; asked = asked; front = front; place = place } in g) rows
-      ∙ ap (λ (r : List FormatKey). let g : Format = record { earlier = take first (rows_kept (keys ++ key ∷ []) ends row_bars); rows = drop first (rows_kept (keys ++ key ∷ []) ends row_bars); row = r; bars = bars; asked = asked; front = front; place = place } in g) changed
+-- only the row begun changes, and in it the last key
+pub record LastChanged (change : FormatKey → FormatKey) (ends : List ℕ) (keys new : List FormatKey) : Type 0 where
+  pub parts : parts_ending new 0 ends ≡ parts_ending keys 0 ends
+  pub row : drop (last_end 0 ends) new ≡ last_changed change (drop (last_end 0 ends) keys)
 
-  pub format-said : (keys : List FormatKey) (at : ℕ) (new d : FormatKey) → EndWithin (length keys) 0 ends → last_end 0 ends < length keys
-      → at ≡ length keys - 1 → new ≡ change (get_or keys at d)
-      → format_of (set keys at new) ends row_bars first asked front bars place ≡ with_last change (format_of keys ends row_bars first asked front bars place)
-  format-said keys at new d within some at_is new_is =
+module _ (change : FormatKey → FormatKey) (ends : List ℕ) where
+  append-changed : (keys : List FormatKey) (key : FormatKey) → EndWithin (length keys) 0 ends
+      → LastChanged change ends (keys ++ key ∷ []) (keys ++ change key ∷ [])
+  append-changed keys key within =
+      let order = EndWithin-order (length keys) 0 ends within in
+      record {
+        parts = parts_ending-more keys (change key ∷ []) 0 ends order ∙ sym (parts_ending-more keys (key ∷ []) 0 ends order);
+        row = row-key keys ends within (change key) ∙ sym (last-append change (drop (last_end 0 ends) keys) key)
+            ∙ ap (last_changed change) (sym (row-key keys ends within key));
+      }
+
+  pub set-changed : (keys : List FormatKey) (at : ℕ) (new d : FormatKey) → EndWithin (length keys) 0 ends → last_end 0 ends < length keys
+      → at ≡ length keys - 1 → new ≡ change (get_or keys at d) → LastChanged change ends keys (set keys at new)
+  set-changed keys at new d within some at_is new_is =
       let has = has_last-some keys (omega (arith, some)) in
       let len = length-append has.front (has.last ∷ []) in
       let all = ap length has.is in
@@ -196,9 +202,32 @@ module _ (change : FormatKey → FormatKey) (ends row_bars : List ℕ) (first : 
       ap (λ (n : ℕ). set keys n new) at_last ∙ ap (λ (xs : List FormatKey). set xs (length has.front) new) has.is
       ∙ set-last has.front has.last new ∙ ap (λ (k : FormatKey). has.front ++ k ∷ []) new_last in
       let less = EndWithin-less (length has.front) (length keys) 0 ends (omega (arith, some, all, len)) within in
-      ap (λ (xs : List FormatKey). format_of xs ends row_bars first asked front bars place) set_last
-      ∙ said-last has.front has.last less
-      ∙ ap (λ (xs : List FormatKey). with_last change (format_of xs ends row_bars first asked front bars place)) (sym has.is)
+      let changed = append-changed has.front has.last less in
+      subst (λ (xs : List FormatKey). LastChanged change ends xs (set keys at new)) (sym has.is)
+      (subst (LastChanged change ends (has.front ++ has.last ∷ [])) (sym set_last) changed)
+
+  pub format-said : (row_bars : List ℕ) (first : ℕ) (asked : List Asked) (front bars : ℕ) (place : FormatPlace) (keys new : List FormatKey)
+      → LastChanged change ends keys new
+      → format_of new ends row_bars first asked front bars place ≡ with_last change (format_of keys ends row_bars first asked front bars place)
+  format-said row_bars first asked front bars place keys new changed =
+      let rows = ap (λ (parts : List (List FormatKey)). rows_with parts row_bars) changed.parts in
+      ap (λ (rs : List FormatRow). let g : Format = record { earlier = take first rs; rows = drop first rs; row = drop (last_end 0 ends) new; bars = bars; asked = asked; front = front; place = place } in g) rows
+      ∙ ap (λ (r : List FormatKey). let g : Format = record { earlier = take first (rows_kept keys ends row_bars); rows = drop first (rows_kept keys ends row_bars); row = r; bars = bars; asked = asked; front = front; place = place } in g) changed.row
+
+-- the last key of the row begun is the last of all
+pub columns-last : (keys : List FormatKey) (from at : ℕ) (d : FormatKey) → from < length keys → at ≡ length keys - 1
+    → columns_of (drop from keys) ≡ (get_or keys at d).end
+columns-last keys from at d some at_is =
+    let has = has_last-some keys (omega (arith, some)) in
+    let len = length-append has.front (has.last ∷ []) in
+    let all = ap length has.is in
+    let at_last : at ≡ length has.front = omega (arith, at_is, all, len) in
+    let within : from ≤ length has.front = omega (arith, some, all, len) in
+    let last = ap (λ (n : ℕ). (get_or keys n d).end) at_last ∙ ap (λ (xs : List FormatKey). (get_or xs (length has.front) d).end) has.is
+    ∙ ap (λ (k : FormatKey). k.end) (get-last has.front has.last d) in
+    ap (λ (xs : List FormatKey). columns_of (drop from xs)) has.is
+    ∙ ap columns_of (drop-append-le from has.front (has.last ∷ []) within)
+    ∙ columns_of-append (drop from has.front) has.last ∙ sym last
 
 module _ (keys : List FormatKey) (ends row_bars : List ℕ) (first : ℕ) (asked : List Asked) (front bars : ℕ) (place : FormatPlace) where
   abbrev this : Format
@@ -238,13 +267,24 @@ module _ (keys : List FormatKey) (ends row_bars : List ℕ) (first : ℕ) (asked
         ∙ ap (λ (r : List FormatKey). let g : Format = record { earlier = take first all; rows = drop first all ++ row ∷ []; row = r; bars = 0; asked = asked; front = front; place = place } in g) nothing
         ∙ ap (λ (t : Bool). if t then record this { rows = this.rows ++ row ∷ []; row = []; bars = 0 } else fault_if (nat_lt 0 this.bars) this) (sym (has_some-long this.row some))
 
-    pub format-key : (key : Key)
-        → format_of (keys ++ plain_key bars key ∷ []) ends row_bars first (with_columns asked (length (drop (last_end 0 ends) keys))) front 0 place ≡ with_any_key key this
-    format-key key =
-        let more = with_columns asked (length (drop (last_end 0 ends) keys)) in
-        let k = plain_key bars key in
-        ap (λ (rs : List FormatRow). let h : Format = record { earlier = take first rs; rows = drop first rs; row = drop (last_end 0 ends) (keys ++ k ∷ []); bars = 0; asked = more; front = front; place = place } in h) (rows-key keys ends row_bars within k)
-        ∙ ap (λ (r : List FormatKey). let h : Format = record { earlier = this.earlier; rows = this.rows; row = r; bars = 0; asked = more; front = front; place = place } in h) (row-key keys ends row_bars within k)
+    -- one key more, and what that makes of a row with one column more
+    format-key : (k : FormatKey) → format_of (keys ++ k ∷ []) ends row_bars first asked front bars place ≡ record this { row = this.row ++ k ∷ [] }
+    format-key k =
+        ap (λ (rs : List FormatRow). let h : Format = record { earlier = take first rs; rows = drop first rs; row = drop (last_end 0 ends) (keys ++ k ∷ []); bars = bars; asked = asked; front = front; place = place } in h) (rows-key keys ends row_bars within k)
+        ∙ ap (λ (r : List FormatKey). record this { row = r }) (row-key keys ends within k)
+
+    pub format-cell : (key : Key) (k : FormatKey) → k ≡ plain_key bars key (columns_of this.row) → (is_spanned key && has_some this.row) ≡ false
+        → format_of (keys ++ k ∷ []) ends row_bars first asked front bars place ≡ record this { row = keys_with key bars this.row }
+    format-cell key k k_is own =
+        format-key k
+        ∙ ap (λ (q : FormatKey). record this { row = this.row ++ q ∷ [] }) k_is
+        ∙ ap (λ (r : List FormatKey). record this { row = r }) (sym (keys_with-own key bars this.row own))
+
+    pub format-wide : (key : Key) (new : List FormatKey) → LastChanged widened ends keys new → is_spanned key ≡ true → has_some this.row ≡ true
+        → format_of new ends row_bars first asked front bars place ≡ record this { row = keys_with key bars this.row }
+    format-wide key new changed spans some =
+        format-said widened ends row_bars first asked front bars place keys new changed
+        ∙ ap (λ (r : List FormatKey). record this { row = r }) (sym (keys_with-wide key bars this.row spans some))
 
 drop-drop : (m n : ℕ) (rows : List FormatRow) → drop n (drop m rows) ≡ drop (m + n) rows
 drop-drop zero n rows = let same : n ≡ 0 + n = omega arith in ap (λ (k : ℕ). drop k rows) same

@@ -1,10 +1,10 @@
 -- The keys and the columns of a format, as it is read byte by byte.
-use Rattle.std.proofs.Common.{◌≡◌, ℕ, zero, suc, ◌+◌, ◌<◌, ◌≤◌, max, Bool, true, false, List, [], ◌∷◌, ◌++◌, length, take, drop, get_or, nat_lt, not, inl, inr, length-drop, refl, sym, ap, subst, ◌∙◌, arith, length-append, append-nil, append_assoc, if◌then◌else◌, ◌==◌}
+use Rattle.std.proofs.Common.{◌≡◌, ℕ, zero, suc, ◌+◌, ◌<◌, ◌≤◌, max, Bool, true, false, List, [], ◌∷◌, ◌++◌, length, take, drop, get_or, nat_lt, not, inl, inr, length-drop, refl, sym, ap, subst, ◌∙◌, arith, append-nil, append_assoc, if◌then◌else◌}
 use Rattle.std.proofs.lemmas.Bool.{cases_lt}
 use Rattle.std.proofs.lemmas.Bool.Decides.{nat_tests}
 use Rattle.std.proofs.lemmas.List.{length-take-le, take_more}
 use Rattle.roff_source.specs.Bytes.{newline}
-use Rattle.tbl_format.specs.Format.{Format, FormatRow, asked_by, asking_for_bars, at_fault, done, fault_if, format_byte, format_byte_at, format_read, has_some, is_misplaced, looked_again, most_bars, plain_key, read_behind, said_by, stepped, with_any_key, with_asked, with_columns, with_key, with_whole}
+use Rattle.tbl_format.specs.Format.{Format, FormatRow, asked_by, asking_for_bars, at_fault, columns_of, done, fault_if, format_byte, format_byte_at, format_read, has_some, is_misplaced, looked_again, most_bars, read_behind, said_by, stepped, with_any_key, with_asked, with_columns, with_key, with_whole}
 use Rattle.tbl_format.specs.FormatRows.{key_count, keys_of}
 use Rattle.tbl_format.specs.FormatSteps.{step}
 use Rattle.tbl_format.specs.KeyCounts.{Counts, StandsOnLine}
@@ -18,7 +18,8 @@ use Rattle.tbl_format.specs.declared.format_step.Does.{Does}
 use Rattle.tbl_format.specs.declared.format_step.Does.TheVariants.{AddBar, AddKey, DropWidth, EndFormat, EndRow, Equalize, LeaveOut, Nothing, Separate, Stand, Widen}
 use Rattle.tbl_format.specs.declared.format_step.FormatStep.{FormatStep}
 use Rattle.tbl_format.specs.declared.key_count.KeyCount.{KeyCount}
-use Rattle.tbl_format.proofs.KeyCounting.{counted, counted-is, has_some-long, has_some-none, length-asking, length-last_changed}
+use Rattle.tbl_format.proofs.KeyCounting.{counted, counted-is, has_some-long, has_some-none, length-asking}
+use Rattle.tbl_format.proofs.KeysWith.{length-last_changed, length-with}
 use Rattle.tbl_format.proofs.StepPlaces.{EndsNoKey, byte-stands, newline-stands, step-ends}
 
 -- a format that has as many keys and columns as another one
@@ -57,7 +58,7 @@ Same-whole true u f = record { keys = omega (arith, keys_of-append f.rows (recor
 Same-whole false u f = Same-fault u f f (record { keys = refl; columns = refl })
 
 Same-asking : (t : Bool) (f : Format) → Same f (if t then with_asked (most_bars f.bars) f else record f { front = max f.front f.bars })
-Same-asking true f = record { keys = refl; columns = length-asking (most_bars f.bars) (length f.row) f.asked }
+Same-asking true f = record { keys = refl; columns = length-asking (most_bars f.bars) (columns_of f.row) f.asked }
 Same-asking false f = record { keys = refl; columns = refl }
 
 Same-bar : (t : Bool) (f : Format) → Same f (if t then asking_for_bars (record f { bars = f.bars + 1 }) else at_fault f)
@@ -83,18 +84,18 @@ Grows-fault false f g grows = grows
 Grows-key : (f : Format) (key : Key) → Grows f (with_key key f)
 Grows-key f key =
     Grows-fault (is_misplaced key f) f (with_any_key key f) (record {
-      keys = omega (arith, length-append f.row (plain_key f.bars key ∷ []));
-      least = columns-least f.asked (length f.row);
-      most = columns-most f.asked (length f.row);
+      keys = omega (arith, length-with key f.bars f.row);
+      least = columns-least f.asked (columns_of f.row);
+      most = columns-most f.asked (columns_of f.row);
     })
 
 Grows-done : (does : Does) (f : Format) → Grows f (done does f)
 Grows-done Nothing f = Grows-refl f
 Grows-done (AddKey key) f = Grows-key f key
 Grows-done AddBar f = Grows-same f _ (Same-bar (nat_lt f.bars 2) f)
-Grows-done (Separate n) f = Grows-same f _ (record { keys = refl; columns = length-asking (asked_by (Separate n)) (length f.row) f.asked })
-Grows-done (Widen n) f = Grows-same f _ (record { keys = refl; columns = length-asking (asked_by (Widen n)) (length f.row) f.asked })
-Grows-done Equalize f = Grows-same f _ (record { keys = refl; columns = length-asking (asked_by Equalize) (length f.row) f.asked })
+Grows-done (Separate n) f = Grows-same f _ (record { keys = refl; columns = length-asking (asked_by (Separate n)) (columns_of f.row) f.asked })
+Grows-done (Widen n) f = Grows-same f _ (record { keys = refl; columns = length-asking (asked_by (Widen n)) (columns_of f.row) f.asked })
+Grows-done Equalize f = Grows-same f _ (record { keys = refl; columns = length-asking (asked_by Equalize) (columns_of f.row) f.asked })
 Grows-done DropWidth f = Grows-same f _ (record { keys = omega (arith, length-last_changed (said_by DropWidth) f.row); columns = refl })
 Grows-done (Stand standing) f = Grows-same f _ (record { keys = omega (arith, length-last_changed (said_by (Stand standing)) f.row); columns = refl })
 Grows-done (LeaveOut letter) f = Grows-refl f
@@ -107,9 +108,9 @@ Same-done : (does : Does) (f : Format) → EndsNoKey true does → Same f (done 
 Same-done Nothing f is_none = record { keys = refl; columns = refl }
 Same-done (AddKey key) f is_none = absurd is_none
 Same-done AddBar f is_none = Same-bar (nat_lt f.bars 2) f
-Same-done (Separate n) f is_none = record { keys = refl; columns = length-asking (asked_by (Separate n)) (length f.row) f.asked }
-Same-done (Widen n) f is_none = record { keys = refl; columns = length-asking (asked_by (Widen n)) (length f.row) f.asked }
-Same-done Equalize f is_none = record { keys = refl; columns = length-asking (asked_by Equalize) (length f.row) f.asked }
+Same-done (Separate n) f is_none = record { keys = refl; columns = length-asking (asked_by (Separate n)) (columns_of f.row) f.asked }
+Same-done (Widen n) f is_none = record { keys = refl; columns = length-asking (asked_by (Widen n)) (columns_of f.row) f.asked }
+Same-done Equalize f is_none = record { keys = refl; columns = length-asking (asked_by Equalize) (columns_of f.row) f.asked }
 Same-done DropWidth f is_none = record { keys = omega (arith, length-last_changed (said_by DropWidth) f.row); columns = refl }
 Same-done (Stand standing) f is_none = record { keys = omega (arith, length-last_changed (said_by (Stand standing)) f.row); columns = refl }
 Same-done (LeaveOut letter) f is_none = record { keys = refl; columns = refl }
@@ -236,11 +237,6 @@ count-stands front b old new on counts =
 pub count-columns : (front : List ℕ) (b : ℕ) (old new : KeyCount) → Counts (format_byte front (counted old) b) new → new.columns ≤ old.columns + 1
 count-columns front b old new counts =
     omega (arith, counts.columns, (Grows-byte front (counted old) b).most, (counted-is old).columns)
-
--- whether a list has an element, by how many it has
-pub has_some-count : {A : Type 0} (xs : List A) (n : ℕ) → n ≡ length xs → has_some xs ≡ not (n == 0)
-has_some-count [] n is = let test : (n == 0) ≡ true = grind (arith, nat_tests) in ap not (sym test)
-has_some-count (x ∷ xs) n is = let test : (n == 0) ≡ false = grind (arith, nat_tests) in ap not (sym test)
 
 -- whether a list has an element behind a place
 pub has_some-drop : {A : Type 0} (xs : List A) (at n : ℕ) → n ≡ length xs → nat_lt at n ≡ has_some (drop at xs)

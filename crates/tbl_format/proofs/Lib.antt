@@ -1,10 +1,16 @@
 pub mod StepPlaces
 pub mod LeftOut
 pub mod DefaultTexts
+pub mod CellColumns
+pub mod CellsRead
+pub mod CellsBehind
+pub mod KeysWith
 pub mod KeyCounting
 pub mod Parts
 pub mod Slices
 pub mod Elements
+pub mod RowsWithin
 pub mod FormatBlocks
 pub mod FormatReading
+pub mod BarsBeside
 pub mod RowsHeld

@@ -3,7 +3,7 @@ use Rattle.std.proofs.Common.{◌≡◌, ℕ, zero, suc, ◌+◌, ◌-◌, ◌<�
 use Rattle.std.specs.Prelude.{slice_get, Some}
 use Rattle.std.specs.List.{slice_range}
 use Rattle.std.proofs.lemmas.List.{drop-append-le, length-take-le, take-append-le, take_rest}
-use Rattle.tbl_format.specs.Parts.{AreFew, EndInOrder, EndWithin, last_end, parts_ending}
+use Rattle.tbl_format.specs.Parts.{EndInOrder, EndWithin, last_end, parts_ending}
 
 -- the last of them ends within the list
 pub EndWithin-last : (len from : ℕ) (ends : List ℕ) → EndWithin len from ends → last_end from ends ≤ len
@@ -36,25 +36,6 @@ EndInOrder-more len more from (end ∷ ends) le order = (order.0, EndInOrder-mor
 pub EndInOrder-append : (len end from : ℕ) (ends : List ℕ) → len ≤ end → EndInOrder len from ends → EndInOrder end from (ends ++ end ∷ [])
 EndInOrder-append len end from [] le order = (omega (arith, le, order), omega arith)
 EndInOrder-append len end from (e ∷ ends) le order = (order.0, EndInOrder-append len end e ends le order.1)
-
--- parts that are few
-pub AreFew-more : (few many from : ℕ) (ends : List ℕ) → few ≤ many → AreFew few from ends → AreFew many from ends
-AreFew-more few many from [] le are = tt
-AreFew-more few many from (end ∷ ends) le are = (omega (arith, le, are.0), AreFew-more few many end ends le are.1)
-
-pub AreFew-append : (most end from : ℕ) (ends : List ℕ) → end ≤ last_end from ends + most → AreFew most from ends → AreFew most from (ends ++ end ∷ [])
-AreFew-append most end from [] le are = (le, tt)
-AreFew-append most end from (e ∷ ends) le are = (are.0, AreFew-append most end e ends le are.1)
-
-AreFew-at : (most from : ℕ) (ends : List ℕ) (at : ℕ) → AreFew most from ends → at < length ends
-    → get_or ends at 0 ≤ get_or (from ∷ ends) at 0 + most
-AreFew-at most from [] at are some = absurd (omega (arith, some))
-AreFew-at most from (end ∷ ends) zero are some = are.0
-AreFew-at most from (end ∷ ends) (suc at) are some = AreFew-at most end ends at are.1 (omega (arith, some))
-
-pub AreFew-read : (most : ℕ) (ends : List ℕ) (at start end : ℕ) → AreFew most 0 ends → at < length ends
-    → start ≡ get_or (0 ∷ ends) at 0 → end ≡ get_or ends at 0 → end ≤ start + most
-AreFew-read most ends at start end are some start_is end_is = omega (arith, AreFew-at most 0 ends at are some, start_is, end_is)
 
 -- one of them starts where the one in front of it ends, and ends within the list
 pub record IsPart (len start end : ℕ) : Type 0 where

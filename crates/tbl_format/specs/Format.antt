@@ -1,19 +1,19 @@
 -- The format of a table: rows of keys, up to a dot (Lesk, "Tbl": Format).
-use Rattle.std.specs.Prelude.{ℕ, zero, suc, nat_lt, ◌+◌, max, Bool, true, false, not, ◌||◌, List, [], ◌∷◌, ◌++◌, length, Option, None, Some, if◌then◌else◌}
+use Rattle.std.specs.Prelude.{ℕ, zero, suc, nat_lt, ◌+◌, max, Bool, true, false, not, ◌&&◌, ◌||◌, List, [], ◌∷◌, ◌++◌, Option, None, Some, if◌then◌else◌}
 use Rattle.tbl_format.specs.FormatSteps.{step}
 use Rattle.tbl_format.specs.declared.format.Asked.{Asked}
 use Rattle.tbl_format.specs.declared.format.FormatKey.{FormatKey}
 use Rattle.tbl_format.specs.declared.format.FormatPlace.{FormatPlace}
 use Rattle.tbl_format.specs.declared.format.FormatPlace.TheVariants.{AtEnd, AtFault, InRows}
 use Rattle.tbl_format.specs.declared.format.Key.{Key}
-use Rattle.tbl_format.specs.declared.format.Key.TheVariants.{Above, Spanned}
+use Rattle.tbl_format.specs.declared.format.Key.TheVariants.{Above, Alphabetic, Left, Numeric, Spanned, WideNumeric}
 use Rattle.tbl_format.specs.declared.format.RowPart.TheVariants.{AtKeys, BehindKey}
 use Rattle.tbl_format.specs.declared.format.Standing.TheVariants.{Middle}
 use Rattle.tbl_format.specs.declared.format_step.Does.{Does}
 use Rattle.tbl_format.specs.declared.format_step.Does.TheVariants.{AddBar, AddKey, DropWidth, EndFormat, EndRow, Equalize, LeaveOut, Nothing, Separate, Stand, Widen}
 use Rattle.tbl_format.specs.declared.format_step.FormatStep.{FormatStep}
 
--- a row: its keys, each with the bars in front of it and with its letters, and the bars behind the last
+-- a row: the keys of its cells, each with the bars in front of it, its last column and its letters, and the bars behind the last
 pub record FormatRow : Type 0 where
   pub keys : List FormatKey
   pub bars : ℕ
@@ -50,15 +50,31 @@ abbrev pub fault_if : Bool → Format → Format
 fault_if true f = at_fault f
 fault_if false f = f
 
--- a key behind so many bars, without letters
-abbrev pub plain_key : ℕ → Key → FormatKey
-plain_key bars key = record { bars = bars; key = key; standing = Middle; has_no_width = false }
+-- a key behind so many bars, without letters, whose cell has one column, behind so many
+abbrev pub plain_key : ℕ → Key → ℕ → FormatKey
+plain_key bars key column = record { bars = bars; key = key; end = column + 1; standing = Middle; has_no_width = false }
+
+-- how many columns the cells of these keys have
+abbrev pub columns_of : List FormatKey → ℕ
+columns_of [] = 0
+columns_of (k ∷ []) = k.end
+columns_of (k ∷ next ∷ keys) = columns_of (next ∷ keys)
+
+-- the key of a cell of several columns: a number there is a text in the middle, an alphabetic text one at the left
+abbrev pub spanning : Key → Key
+spanning Numeric = WideNumeric
+spanning Alphabetic = Left
+spanning key = key
+
+-- one column more of a cell
+abbrev pub widened : FormatKey → FormatKey
+widened k = record k { key = spanning k.key; end = k.end + 1 }
 
 -- nothing is asked
 abbrev pub nothing_asked : Asked
 nothing_asked = record { separation = None; least = None; is_equal = false; bars = 0 }
 
--- one column more, behind a row that has so many keys, if it is the longest
+-- one column more, behind a row that has so many, if it is the longest
 abbrev pub with_columns : List Asked → ℕ → List Asked
 with_columns [] count = nothing_asked ∷ []
 with_columns (a ∷ asked) zero = a ∷ asked
@@ -70,24 +86,38 @@ is_misplaced Spanned f = not (has_some f.row)
 is_misplaced Above f = not (has_some f.earlier || has_some f.rows)
 is_misplaced key f = false
 
--- one key more in the row begun
+-- the last of these keys changed
+abbrev pub last_changed : (FormatKey → FormatKey) → List FormatKey → List FormatKey
+last_changed change [] = []
+last_changed change (key ∷ []) = change key ∷ []
+last_changed change (key ∷ next ∷ keys) = key ∷ last_changed change (next ∷ keys)
+
+-- the keys of a row with one column more: `s` widens the cell at its left, in which no bar stands; any other key has a cell of its own
+abbrev pub is_spanned : Key → Bool
+is_spanned Spanned = true
+is_spanned key = false
+
+abbrev pub keys_with : Key → ℕ → List FormatKey → List FormatKey
+keys_with key bars keys =
+    if is_spanned key && has_some keys then last_changed widened keys else keys ++ plain_key bars key (columns_of keys) ∷ []
+
 abbrev pub with_any_key : Key → Format → Format
-with_any_key key f = record f { row = f.row ++ plain_key f.bars key ∷ []; bars = 0; asked = with_columns f.asked (length f.row) }
+with_any_key key f = record f { row = keys_with key f.bars f.row; bars = 0; asked = with_columns f.asked (columns_of f.row) }
 
 abbrev pub with_key : Key → Format → Format
 with_key key f = fault_if (is_misplaced key f) (with_any_key key f)
 
--- what the last of so many keys asks for its column
+-- what is asked for the last of so many columns
 abbrev pub asking : (Asked → Asked) → ℕ → List Asked → List Asked
 asking change zero asked = asked
-asking change (suc keys) [] = []
+asking change (suc columns) [] = []
 asking change (suc zero) (a ∷ asked) = change a ∷ asked
-asking change (suc (suc keys)) (a ∷ asked) = a ∷ asking change (suc keys) asked
+asking change (suc (suc columns)) (a ∷ asked) = a ∷ asking change (suc columns) asked
 
 abbrev pub with_asked : (Asked → Asked) → Format → Format
-with_asked change f = record f { asked = asking change (length f.row) f.asked }
+with_asked change f = record f { asked = asking change (columns_of f.row) f.asked }
 
--- bars at the end of the row begun ask for room: behind the column of its last key, or in front of the first column
+-- bars at the end of the row begun ask for room: behind its last column, or in front of the first column
 abbrev pub most_bars : ℕ → Asked → Asked
 most_bars n a = record a { bars = max a.bars n }
 
@@ -110,11 +140,6 @@ asked_by Equalize a = record a { is_equal = true }
 asked_by does a = a
 
 -- what a letter says of the last key
-abbrev pub last_changed : (FormatKey → FormatKey) → List FormatKey → List FormatKey
-last_changed change [] = []
-last_changed change (key ∷ []) = change key ∷ []
-last_changed change (key ∷ next ∷ keys) = key ∷ last_changed change (next ∷ keys)
-
 abbrev pub with_last : (FormatKey → FormatKey) → Format → Format
 with_last change f = record f { row = last_changed change f.row }
 

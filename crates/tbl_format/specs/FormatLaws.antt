@@ -1,7 +1,8 @@
 -- What holds of the rows of formats, however they are read (Lesk, "Tbl": Format).
 use Rattle.std.specs.Prelude.{ℕ, zero, suc, ◌≤◌, List, [], ◌∷◌, get_or, length, map}
 use Rattle.std.specs.List.{AllByRecursion}
-use Rattle.tbl_format.specs.Format.{Format, FormatRow, format_read, further, no_format}
+use Rattle.tbl_format.specs.Cells.{AreCells, start_of}
+use Rattle.tbl_format.specs.Format.{Format, FormatRow, columns_of, format_read, further, no_format}
 use Rattle.tbl_format.specs.RowsServed.{all_rows}
 use Rattle.tbl_format.specs.declared.format.Asked.{Asked}
 use Rattle.tbl_format.specs.declared.format.FormatKey.{FormatKey}
@@ -12,22 +13,24 @@ pub data IsRead : Format → Type 0 where
   Line : (f : Format) (line : List ℕ) → IsRead f → IsRead (format_read f line)
   Further : (f : Format) → IsRead f → IsRead (further f)
 
--- how many bars these keys have in front of the one of a column, or behind the last
+-- how many bars these keys have in front of one of them, or behind the last
 abbrev pub bars_beside : List FormatKey → ℕ → ℕ → ℕ
 bars_beside [] last zero = last
-bars_beside [] last (suc column) = 0
+bars_beside [] last (suc cell) = 0
 bars_beside (k ∷ keys) last zero = k.bars
-bars_beside (k ∷ keys) last (suc column) = bars_beside keys last column
+bars_beside (k ∷ keys) last (suc cell) = bars_beside keys last cell
 
 -- the most that formats ask for in front of a column
 abbrev pub most_beside : ℕ → List Asked → ℕ → ℕ
 most_beside front asked zero = front
 most_beside front asked (suc column) = get_or (map (λ (a : Asked). a.bars) asked) column 0
 
--- each of these keys has a column, and at no boundary do they have more bars than are asked for
+-- each of these keys has a cell, whose columns the table has, and in front of none of them, or behind the last, do they have more bars
+-- than are asked for
 pub record IsHeld (front : ℕ) (asked : List Asked) (keys : List FormatKey) (bars : ℕ) : Type 0 where
-  pub short : length keys ≤ length asked
-  pub most : (column : ℕ) → bars_beside keys bars column ≤ most_beside front asked column
+  pub cells : AreCells 0 keys
+  pub short : columns_of keys ≤ length asked
+  pub most : (cell : ℕ) → bars_beside keys bars cell ≤ most_beside front asked (start_of keys cell)
 
 -- all rows of the formats are held
 abbrev pub RowHeld : ℕ → List Asked → FormatRow → Type 0

@@ -1,7 +1,9 @@
 -- What is kept of a format while it is read.
-use Rattle.std.specs.Prelude.{◌≡◌, ℕ, ◌+◌, ◌≤◌, List, [], ◌∷◌, length, take, drop, vec_capacity}
-use Rattle.tbl_format.specs.Format.{Format, FormatRow}
-use Rattle.tbl_format.specs.Parts.{AreFew, EndWithin, last_end, parts_ending}
+use Rattle.std.specs.Prelude.{◌≡◌, ℕ, ◌+◌, ◌<◌, ◌≤◌, List, [], ◌∷◌, length, take, drop, vec_capacity}
+use Rattle.std.specs.List.{AllByRecursion}
+use Rattle.tbl_format.specs.Cells.{AreCells}
+use Rattle.tbl_format.specs.Format.{Format, FormatRow, columns_of}
+use Rattle.tbl_format.specs.Parts.{EndWithin, last_end, parts_ending}
 use Rattle.tbl_format.specs.declared.format.FormatKey.{FormatKey}
 use Rattle.tbl_format.specs.declared.format_rows.FormatRows.TheInside.{Inside}
 
@@ -49,7 +51,12 @@ kept_by a = record {
   column_room = a.column_room;
 }
 
--- the room is reserved, no row that is whole is empty, and none has more keys than there are columns
+-- the cells of a row have no more columns than the table
+pub record AreWithin (columns : ℕ) (keys : List FormatKey) : Type 0 where
+  pub cells : AreCells 0 keys
+  pub short : columns_of keys ≤ columns
+
+-- the room is reserved, no row that is whole is empty, and none has more columns than there are
 pub record IsSound (a : Inside) : Type 0 where
   pub keys_reserved : a.key_room ≤ vec_capacity a.keys
   pub ends_reserved : a.key_room ≤ vec_capacity a.ends
@@ -59,5 +66,7 @@ pub record IsSound (a : Inside) : Type 0 where
   pub ends : EndWithin (length a.keys.items) 0 a.ends.items
   pub bars : length a.row_bars.items ≡ length a.ends.items
   pub first : a.first ≤ length a.ends.items
-  pub short : AreFew (length a.asked.items) 0 a.ends.items
-  pub row : length (drop (last_end 0 a.ends.items) a.keys.items) ≤ length a.asked.items
+  pub small : a.column_room < 4294967296
+  pub asked_within : length a.asked.items ≤ a.column_room
+  pub whole : AllByRecursion (AreWithin (length a.asked.items)) (parts_ending a.keys.items 0 a.ends.items)
+  pub row : AreWithin (length a.asked.items) (drop (last_end 0 a.ends.items) a.keys.items)

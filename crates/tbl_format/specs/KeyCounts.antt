@@ -1,6 +1,6 @@
 -- What counts of the keys of a format, as far as it was read.
-use Rattle.std.specs.Prelude.{◌≡◌, ◌≤◌, ◌+◌, ℕ, length}
-use Rattle.tbl_format.specs.Format.{Format, has_some}
+use Rattle.std.specs.Prelude.{◌≡◌, ◌≤◌, ◌+◌, ℕ, length, nat_lt}
+use Rattle.tbl_format.specs.Format.{Format, columns_of, has_some}
 use Rattle.tbl_format.specs.declared.format.FormatPlace.{FormatPlace}
 use Rattle.tbl_format.specs.declared.format.FormatPlace.TheVariants.{AtEnd, AtFault, InRows}
 use Rattle.tbl_format.specs.declared.format.RowPart.{RowPart}
@@ -12,7 +12,8 @@ pub record Counts (f : Format) (c : KeyCount) : Type 0 where
   pub place : f.place ≡ c.place
   pub is_further : has_some f.earlier ≡ c.is_further
   pub has_row : has_some f.rows ≡ c.has_row
-  pub row : length f.row ≡ c.row
+  pub begun : has_some f.row ≡ nat_lt 0 c.row
+  pub row : columns_of f.row ≡ c.row
   pub bars : f.bars ≡ c.bars
   pub columns : length f.asked ≡ c.columns
 
@@ -27,7 +28,7 @@ StandsOnLine len (InRows part) = IsOnLine len part
 StandsOnLine len AtEnd = Unit {0}
 StandsOnLine len AtFault = Unit {0}
 
--- no row has more keys than there are columns, and the reading stands on its line
+-- no row has more columns than the table, and the reading stands on its line
 pub record IsCount (len : ℕ) (c : KeyCount) : Type 0 where
   pub row : c.row ≤ c.columns
   pub place : StandsOnLine len c.place

@@ -3,6 +3,7 @@ pub mod Keys
 pub mod LaidOut
 pub mod FormatSteps
 pub mod Format
+pub mod Cells
 pub mod FormatWorked
 pub mod RowsServed
 pub mod Parts

@@ -1,5 +1,5 @@
 -- Lists that lie in one list, one after another, by where each ends.
-use Rattle.std.specs.Prelude.{◌≡◌, ℕ, ◌+◌, ◌≤◌, ◌<◌, List, [], ◌∷◌, length, take}
+use Rattle.std.specs.Prelude.{◌≡◌, ℕ, ◌≤◌, ◌<◌, List, [], ◌∷◌, length, take}
 use Rattle.std.specs.List.{slice_range}
 
 -- the parts that end there, the first of which begins at a place
@@ -21,11 +21,6 @@ EndWithin len from (end ∷ ends) = (from < end) × EndWithin len end ends
 abbrev pub EndInOrder : ℕ → ℕ → List ℕ → Type 0
 EndInOrder len from [] = from ≤ len
 EndInOrder len from (end ∷ ends) = (from ≤ end) × EndInOrder len end ends
-
--- from that place on each has so many items at the most
-abbrev pub AreFew : ℕ → ℕ → List ℕ → Type 0
-AreFew most from [] = Unit {0}
-AreFew most from (end ∷ ends) = (end ≤ from + most) × AreFew most end ends
 
 -- these are the first items of a list
 abbrev pub IsFront : {A : Type 0} → List A → List A → Type 0

@@ -1,8 +1,8 @@
 //! What a format says: keys, what is asked of columns, and where its reading stands (Lesk, "Tbl":
 //! Format).
 
-ghost use Rattle.std.specs.Prelude.{◌≡◌};
-ghost use Rattle.tbl_format.specs.Format.{plain_key};
+ghost use Rattle.std.specs.Prelude.{◌≡◌, ◌-◌, ◌<◌, ◌^◌};
+ghost use Rattle.tbl_format.specs.Format.{plain_key, spanning, widened};
 ghost use Rattle.tbl_format.specs.Keys.{is_between, key_of, separates_rows};
 
 use tbl_options::option_words::as_small;
@@ -18,9 +18,11 @@ pub enum Key {
     Center,
     /// `n`: numbers, units below units.
     Numeric,
+    /// `n` of a cell of several columns: a text in the middle.
+    WideNumeric,
     /// `a`: at the left edge of a strip in the middle.
     Alphabetic,
-    /// `s`: the column belongs to the cell at its left.
+    /// `s`: the column belongs to the cell at its left, so no row keeps it.
     Spanned,
     /// `^`: the cell above goes on.
     Above,
@@ -41,13 +43,17 @@ pub enum Standing {
     Bottom,
 }
 
-/// A key of a row, with the bars in front of it and what its letters say of its cells.
+/// A key of a row, with the bars in front of it, the columns of its cells, and what its letters say
+/// of them.
 #[derive(Clone, Copy)]
 pub struct FormatKey {
     /// How many bars stand in front of it, behind the key before.
     pub bars: u8,
     /// What it is.
     pub key: Key,
+    /// How many columns there are up to the last of its cell, which begins behind those of the key
+    /// before.
+    pub end: u32,
     /// Where its cells stand.
     pub standing: Standing,
     /// `z`: whether its texts count for no width.
@@ -114,16 +120,45 @@ pub enum RowPart {
     Sized,
 }
 
+impl Key {
+    /// What it is over several columns.
+    fn spanning(self) -> Key
+        ensures { result ≡ spanning self }
+    {
+        match self {
+            Key::Numeric => Key::WideNumeric,
+            Key::Alphabetic => Key::Left,
+            _ => self,
+        }
+    }
+}
+
 impl FormatKey {
-    /// A key behind so many bars, without letters.
-    pub fn new(bars: u8, key: Key) -> FormatKey
-        ensures { result ≡ plain_key bars key }
+    /// A key behind so many bars, without letters, whose cell has one column, behind so many.
+    pub fn new(bars: u8, key: Key, column: u32) -> FormatKey
+        requires { column < 2 ^ 32 - 1 }
+        ensures { result ≡ plain_key bars key column }
     {
         FormatKey {
             bars,
             key,
+            end: column + 1,
             standing: Standing::Middle,
             has_no_width: false,
+        }
+    }
+
+    /// The same key with one column more.
+    pub fn widened(self) -> FormatKey
+        requires { self.end < 2 ^ 32 - 1 }
+        ensures { result ≡ widened self }
+    {
+        FormatKey {
+            bars: self.bars,
+            key: self.key.spanning(),
+            end: self.end + 1,
+            standing: self.standing,
+            has_no_width: self.has_no_width,
         }
     }
 }

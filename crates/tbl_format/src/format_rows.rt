@@ -1,18 +1,15 @@
 //! The formats of a table, as they are kept while they are read.
 
-ghost use Rattle.std.specs.Prelude.{◌≡◌, ◌+◌, ◌<◌, ◌≤◌, ◌++◌, [], ◌∷◌, length, drop, vec_capacity};
-ghost use Rattle.std.specs.Prelude.{IfOk};
+ghost use Rattle.std.specs.Prelude.{◌≡◌, ◌+◌, ◌<◌, ◌≤◌, ◌^◌, [], length, IfOk};
 ghost use Rattle.tbl_format.specs.Format.{asked_by, format_byte, format_read, further};
-ghost use Rattle.tbl_format.specs.Format.{is_misplaced, no_format, said_by};
-ghost use Rattle.tbl_format.specs.KeyCounts.{Counts, IsOnLine, StandsOnLine};
-ghost use Rattle.tbl_format.specs.Parts.{last_end};
-ghost use Rattle.tbl_format.specs.RowsServed.{all_rows, first_format, row_at};
+ghost use Rattle.tbl_format.specs.Format.{is_misplaced, is_spanned, no_format, said_by};
+ghost use Rattle.tbl_format.specs.KeyCounts.{IsOnLine, StandsOnLine};
+
+mod kept_rows;
 
 use crate::columns_asked::{ask, push_column};
 use crate::format::{Asked, FormatKey, FormatPlace, Key, RowPart};
 use crate::format_step::{Does, FormatStep, step};
-use crate::key_count::KeyCount;
-use crate::part_starts::part_start;
 use std::alloc::{AllocError, Global};
 use std::marker::Model;
 
@@ -52,10 +49,12 @@ impl FormatRows {
     ghost use Rattle.tbl_format.specs.Format.{asking_for_bars, done, fault_if, stepped};
     ghost use Rattle.tbl_format.specs.Format.{with_any_key, with_asked};
     ghost use Rattle.tbl_format.specs.Format.{with_bar, with_end, with_key, with_last, with_whole};
+    ghost use Rattle.tbl_format.specs.Format.{columns_of, keys_with};
     ghost use Rattle.tbl_format.specs.FormatRows.{keeping, key_count};
 
     /// No byte of a format, with room for so many keys and columns.
     pub fn new(alloc: Global, keys: usize, columns: usize) -> Result<Self, AllocError>
+        requires { columns < 2 ^ 32 }
         ensures { IfOk result (λ f. f
             ≡ record { format = no_format; key_room = keys; column_room = columns }) }
     {
@@ -183,10 +182,29 @@ impl FormatRows {
             ≤ self.old.column_room }
         ensures { self.new ≡ keeping self.old (with_any_key key self.old.format) }
     {
-        let keys = self.row_len();
-        push_column(&mut self.asked, keys);
-        self.keys.push_reserved(FormatKey::new(self.bars, key));
+        let columns = self.row_columns();
+        push_column(&mut self.asked, columns);
+        self.push_cell(key, columns);
         self.bars = 0;
+    }
+
+    /// One column more of the row begun, which has so many: of the cell at its left, or of a cell
+    /// of this key.
+    fn push_cell(&mut self, key: Key, columns: usize)
+        requires keys { key_count self.old.format < self.old.key_room }
+        requires columns { columns ≡ columns_of self.old.format.row }
+        requires within { columns < length self.old.format.asked }
+        ensures { self.new ≡ keeping self.old (record self.old.format {
+          row = keys_with key self.old.format.bars self.old.format.row;
+        }) }
+    {
+        if is_spanned(key) && columns > 0 {
+            let last = self.keys.len() - 1;
+            self.keys[last] = self.keys[last].widened();
+        } else {
+            self.keys
+                .push_reserved(FormatKey::new(self.bars, key, columns as u32));
+        }
     }
 
     /// A fault, if this holds.
@@ -217,25 +235,25 @@ impl FormatRows {
         }
     }
 
-    /// The bars at the end of the row begun ask for room: behind the column of its last key, or in
-    /// front of the first column.
+    /// The bars at the end of the row begun ask for room: behind its last column, or in front of
+    /// the first column.
     fn ask_for_bars(&mut self)
         ensures { self.new ≡ keeping self.old (asking_for_bars self.old.format) }
     {
-        let keys = self.row_len();
-        if keys > 0 {
-            self.asked[keys - 1] = self.asked[keys - 1].with_bars(self.bars);
+        let columns = self.row_columns();
+        if columns > 0 {
+            self.asked[columns - 1] = self.asked[columns - 1].with_bars(self.bars);
         } else {
             self.front = self.front.max(self.bars);
         }
     }
 
-    /// What asks something for the column of the last key.
+    /// What asks something for the last column of the row begun.
     fn ask(&mut self, does: Does)
         ensures { self.new ≡ keeping self.old (with_asked (asked_by does) self.old.format) }
     {
-        let keys = self.row_len();
-        ask(&mut self.asked, keys, does);
+        let columns = self.row_columns();
+        ask(&mut self.asked, columns, does);
     }
 
     /// What says something of the last key.
@@ -279,111 +297,14 @@ impl FormatRows {
         self.bars = 0;
         self.place = FormatPlace::InRows(RowPart::AtKeys);
     }
-
-    /// Where its reading stands.
-    pub fn place(&self) -> FormatPlace
-        ensures { result ≡ self.now.format.place }
-    {
-        self.place
-    }
-
-    /// How many columns the table has.
-    pub fn columns(&self) -> usize
-        ensures { result ≡ length self.now.format.asked }
-    {
-        self.asked.len()
-    }
-
-    /// For each column what its keys ask for it.
-    pub fn asked(&self) -> &[Asked]
-        ensures { result.now ≡ self.now.format.asked }
-    {
-        self.asked.as_slice()
-    }
-
-    /// The most bars in front of a row's first key.
-    pub fn front_bars(&self) -> u8
-        ensures { result ≡ self.now.format.front }
-    {
-        self.front
-    }
-
-    /// How many rows of this format are whole.
-    pub fn rows(&self) -> usize
-        ensures { result ≡ length self.now.format.rows }
-    {
-        self.ends.len() - self.first
-    }
-
-    /// The keys of one of its rows.
-    pub fn row(&self, at: usize) -> &[FormatKey]
-        requires { at < length self.now.format.rows }
-        ensures { result.now ≡ first_format (drop at self.now.format.rows) }
-    {
-        let row = self.first + at;
-        &self.keys.as_slice()[part_start(self.ends.as_slice(), row)..self.ends[row]]
-    }
-
-    /// How many rows of all formats are whole.
-    pub fn all_rows(&self) -> usize
-        ensures { result ≡ length (all_rows self.now.format) }
-    {
-        self.ends.len()
-    }
-
-    /// How many of them are of formats before this one.
-    pub fn earlier_rows(&self) -> usize
-        ensures { result ≡ length self.now.format.earlier }
-    {
-        self.first
-    }
-
-    /// The keys of one of them.
-    pub fn row_of_all(&self, at: usize) -> &[FormatKey]
-        requires { at < length (all_rows self.now.format) }
-        ensures keys { result.now ≡ (row_at (all_rows self.now.format) at).keys }
-        ensures short { length result.now ≤ length self.now.format.asked }
-    {
-        &self.keys.as_slice()[part_start(self.ends.as_slice(), at)..self.ends[at]]
-    }
-
-    /// How many bars stand behind the last of them.
-    pub fn bars_of_all(&self, at: usize) -> u8
-        requires { at < length (all_rows self.now.format) }
-        ensures { result ≡ (row_at (all_rows self.now.format) at).bars }
-    {
-        self.row_bars[at]
-    }
-
-    /// What counts of its keys.
-    pub fn count(&self) -> KeyCount
-        ensures value { Counts self.now.format result }
-        ensures row { result.row ≤ result.columns }
-    {
-        KeyCount {
-            place: self.place,
-            is_further: self.first > 0,
-            has_row: self.ends.len() > self.first,
-            row: self.row_len(),
-            bars: self.bars,
-            columns: self.asked.len(),
-        }
-    }
-
-    /// How many keys the row begun has.
-    fn row_len(&self) -> usize
-        ensures { result ≡ length self.now.format.row }
-    {
-        self.keys.len() - last_end(self.ends.as_slice())
-    }
 }
 
-/// Where the last row ends.
-fn last_end(ends: &[usize]) -> usize
-    ensures { result ≡ last_end 0 ends.now }
+/// Whether a key widens the cell at its left.
+fn is_spanned(key: Key) -> bool
+    ensures { result ≡ is_spanned key }
 {
-    match ends.last() {
-        Some(end) => *end,
-        None => 0,
+    match key {
+        Key::Spanned => true,
+        _ => false,
     }
 }

@@ -192,12 +192,14 @@ impl FormatKey {
             Does::DropWidth => FormatKey {
                 bars: self.bars,
                 key: self.key,
+                end: self.end,
                 standing: self.standing,
                 has_no_width: true,
             },
             Does::Stand(standing) => FormatKey {
                 bars: self.bars,
                 key: self.key,
+                end: self.end,
                 standing,
                 has_no_width: self.has_no_width,
             },

@@ -19,9 +19,9 @@ pub struct KeyCount {
     pub is_further: bool,
     /// Whether a row of this one is whole.
     pub has_row: bool,
-    /// The keys of the row begun.
+    /// The columns of the row begun.
     pub row: usize,
-    /// The bars behind them.
+    /// The bars behind its last key.
     pub bars: u8,
     /// The columns, of all formats.
     pub columns: usize,
@@ -178,6 +178,7 @@ impl KeyCount {
             Key::Right => false,
             Key::Center => false,
             Key::Numeric => false,
+            Key::WideNumeric => false,
             Key::Alphabetic => false,
             Key::Rule => false,
             Key::DoubleRule => false,

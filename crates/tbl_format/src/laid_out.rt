@@ -11,7 +11,7 @@ fn is_key_laid_out(key: Key) -> bool
     ensures { result ≡ is_key_laid_out key }
 {
     match key {
-        Key::Spanned => false,
+        Key::Spanned => true,
         Key::Above => false,
         Key::Rule => true,
         Key::DoubleRule => true,
@@ -19,6 +19,7 @@ fn is_key_laid_out(key: Key) -> bool
         Key::Right => true,
         Key::Center => true,
         Key::Numeric => true,
+        Key::WideNumeric => true,
         Key::Alphabetic => true,
     }
 }

@@ -3,8 +3,9 @@
 ghost use Rattle.tbl_format.specs.Format.{Format};
 ghost use Rattle.tbl_format.specs.FormatLaws.{AreHeld, IsRead};
 
-/// However formats are read, each key of a whole row has a column; and no row has more bars at a
-/// boundary of columns, or in front of its first key, than are asked for there.
+/// However formats are read, the cells of each whole row have a column at least, and no more than
+/// the table has; and no row has more bars in front of a cell, or behind the last, than are asked
+/// for there.
 pub fn rows_held()
     ensures { (f : Format) → IsRead f → AreHeld f }
 {}

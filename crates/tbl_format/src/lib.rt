@@ -2,6 +2,7 @@
 //! Tables").
 #![tactic(auto)]
 
+pub mod cells;
 mod columns_asked;
 pub mod format;
 mod format_parts;

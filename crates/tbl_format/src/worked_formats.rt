@@ -7,8 +7,8 @@ ghost use Rattle.tbl_format.specs.FormatWorked.{all_done, does_in};
 ghost use Rattle.tbl_options.specs.Options.{options_read};
 ghost use Rattle.tbl_format.specs.declared.format.FormatPlace.TheVariants.{AtEnd, AtFault, InRows};
 ghost use Rattle.tbl_format.specs.declared.format.Key.TheVariants.{Above, Alphabetic, Center};
-ghost use Rattle.tbl_format.specs.declared.format.Key.TheVariants.{DoubleRule, Left, Numeric, Right};
-ghost use Rattle.tbl_format.specs.declared.format.Key.TheVariants.{Rule, Spanned};
+ghost use Rattle.tbl_format.specs.declared.format.Key.TheVariants.{DoubleRule, Left, Numeric};
+ghost use Rattle.tbl_format.specs.declared.format.Key.TheVariants.{Right, Rule, Spanned, WideNumeric};
 ghost use Rattle.tbl_format.specs.declared.format.RowPart.TheVariants.{AtKeys, BehindKey};
 ghost use Rattle.tbl_format.specs.declared.format.Standing.TheVariants.{Bottom, Middle, Top};
 ghost use Rattle.tbl_format.specs.declared.format_step.Does.TheVariants.{AddBar, AddKey, DropWidth};
@@ -89,10 +89,10 @@ pub fn formats()
     ensures rows { all_done (does_in (codes "| l || rtz |\nc.")).0 no_format ≡ record {
       earlier = [];
       rows = record {
-        keys = plain_key 1 Left
-            ∷ record { bars = 2; key = Right; standing = Top; has_no_width = true } ∷ [];
+        keys = plain_key 1 Left 0
+            ∷ record { bars = 2; key = Right; end = 2; standing = Top; has_no_width = true } ∷ [];
         bars = 1;
-      } ∷ record { keys = plain_key 0 Center ∷ []; bars = 0 } ∷ [];
+      } ∷ record { keys = plain_key 0 Center 0 ∷ []; bars = 0 } ∷ [];
       row = [];
       bars = 0;
       asked = record nothing_asked { bars = 2 } ∷ record nothing_asked { bars = 1 } ∷ [];
@@ -107,7 +107,7 @@ pub fn formats()
         ≡ record { separation = None; least = Some 0; is_equal = false; bars = 0 } ∷ [] }
     ensures further { (all_done (does_in (codes "^ r.")).0
         (further (all_done (does_in (codes "l3.")).0 no_format))).earlier
-        ≡ record { keys = plain_key 0 Left ∷ []; bars = 0 } ∷ [] }
+        ≡ record { keys = plain_key 0 Left 0 ∷ []; bars = 0 } ∷ [] }
     ensures first_columns { (all_done (does_in (codes "s")).0 no_format).place ≡ AtFault }
     ensures first_rows { (all_done (does_in (codes "l ^")).0 no_format).place ≡ AtFault }
     ensures later_rows { (all_done (does_in (codes "l,^")).0 no_format).place ≡ InRows AtKeys }
@@ -117,16 +117,35 @@ pub fn formats()
     ensures no_row { (all_done (does_in (codes ",\n .")).0 no_format).place ≡ AtFault }
 {}
 
+/// Cells of several columns: each `s` widens the cell at its left, and its numbers and letters are
+/// asked for its own column.
+pub fn cells()
+    ensures three { (all_done (does_in (codes "l s | s r")).0 no_format).row
+        ≡ plain_key 0 Left 2 ∷ plain_key 0 Right 3 ∷ [] }
+    ensures numbers { (all_done (does_in (codes "nsas^s_s")).0 no_format).row
+        ≡ plain_key 0 WideNumeric 1 ∷ plain_key 0 Left 3 ∷ plain_key 0 Above 5
+        ∷ plain_key 0 Rule 7 ∷ [] }
+    ensures asked { (all_done (does_in (codes "l3s5|ew2")).0 no_format).asked
+        ≡ record { separation = Some 3; least = None; is_equal = false; bars = 0 }
+        ∷ record { separation = Some 5; least = None; is_equal = false; bars = 1 }
+        ∷ [] }
+    ensures cell { (all_done (does_in (codes "l|sz")).0 no_format).row
+        ≡ record (plain_key 0 Left 1) { has_no_width = true } ∷ [] }
+    ensures first { (all_done (does_in (codes "ss")).0 no_format).asked
+        ≡ nothing_asked ∷ nothing_asked ∷ [] }
+{}
+
 /// What is read of them today, where not all is laid out.
 #[tactic(auto, unfolding(crate::specs::FormatSteps::step))]
 pub fn readings()
     ensures laid_out { (format_read no_format (codes "l xR3,cen,a.")).place ≡ AtEnd }
     ensures left_out { letters_left_out no_format (codes "lxmabr X,c.") ≡ 120 ∷ 109 ∷ 88 ∷ [] }
-    ensures behind_a_fault { letters_left_out no_format (codes "lxs x,c.") ≡ 120 ∷ [] }
+    ensures behind_a_fault { letters_left_out no_format (codes "lx,^ x,c.") ≡ 120 ∷ [] }
     ensures rule { (format_read no_format (codes "l_,=.")).place ≡ AtEnd }
     ensures key { (format_read no_format (codes "l,^.")).place ≡ AtFault }
-    ensures counted { (format_read no_format (codes "ls=.")).asked
+    ensures counted { (format_read no_format (codes "l,c^=.")).asked
         ≡ nothing_asked ∷ nothing_asked ∷ [] }
+    ensures spanned { (format_read no_format (codes "l s,s.")).place ≡ AtFault }
 {}
 
 /// The most bars behind the keys of each column, and in front of a row's first key.
@@ -134,7 +153,7 @@ pub fn readings()
 pub fn bars()
     ensures between { format_read no_format (codes "l | c || r.") ≡ record no_format {
       rows = record {
-        keys = plain_key 0 Left ∷ plain_key 1 Center ∷ plain_key 2 Right ∷ [];
+        keys = plain_key 0 Left 0 ∷ plain_key 1 Center 1 ∷ plain_key 2 Right 2 ∷ [];
         bars = 0;
       } ∷ [];
       asked = record nothing_asked { bars = 1 } ∷ record nothing_asked { bars = 2 }
@@ -142,14 +161,14 @@ pub fn bars()
       place = AtEnd;
     } }
     ensures at_edges { format_read no_format (codes "| l |.") ≡ record no_format {
-      rows = record { keys = plain_key 1 Left ∷ []; bars = 1 } ∷ [];
+      rows = record { keys = plain_key 1 Left 0 ∷ []; bars = 1 } ∷ [];
       asked = record nothing_asked { bars = 1 } ∷ [];
       front = 1;
       place = AtEnd;
     } }
     ensures most { format_read no_format (codes "|l|c\n||l|| c|.") ≡ record no_format {
-      rows = record { keys = plain_key 1 Left ∷ plain_key 1 Center ∷ []; bars = 0 }
-          ∷ record { keys = plain_key 2 Left ∷ plain_key 2 Center ∷ []; bars = 1 } ∷ [];
+      rows = record { keys = plain_key 1 Left 0 ∷ plain_key 1 Center 1 ∷ []; bars = 0 }
+          ∷ record { keys = plain_key 2 Left 0 ∷ plain_key 2 Center 1 ∷ []; bars = 1 } ∷ [];
       asked = record nothing_asked { bars = 2 } ∷ record nothing_asked { bars = 1 } ∷ [];
       front = 2;
       place = AtEnd;

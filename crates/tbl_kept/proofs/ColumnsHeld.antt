@@ -1,18 +1,20 @@
 -- What columns hold of the rows that are kept.
-use Rattle.std.proofs.Common.{◌≡◌, ℕ, zero, suc, ◌+◌, ◌<◌, ◌≤◌, max, List, [], ◌∷◌, ◌++◌, length, map, drop, replicate, refl, sym, ap, ◌∙◌, arith}
+use Rattle.std.proofs.Common.{◌≡◌, ℕ, zero, suc, ◌+◌, ◌<◌, ◌≤◌, max, List, [], ◌∷◌, ◌++◌, length, map, drop, get_or, replicate, refl, sym, ap, ◌∙◌, arith}
 use Rattle.std.specs.List.{AllByRecursion}
-use Rattle.std.proofs.lemmas.List.{drop-drop}
+use Rattle.std.proofs.lemmas.List.{drop-drop, get_or-drop}
 use Rattle.std.proofs.Math.ListN.{get_or-append}
 use Rattle.tbl_format.specs.Format.{FormatRow}
 use Rattle.tbl_format.specs.RowsServed.{no_keys, row_at}
-use Rattle.tbl_layout.specs.Columns.{alone, greatest, in_strip, left_of, needing, needs_of, right_of, split_width}
+use Rattle.tbl_layout.specs.Columns.{alone, greatest, in_strip, left_of, needing, needs_of, right_of, row_stands, split_width}
+use Rattle.tbl_layout.specs.KeptEntries.{stands_of}
 use Rattle.tbl_layout.specs.declared.columns.Column.{Column}
 use Rattle.tbl_layout.specs.declared.columns.Needs.{Needs}
 use Rattle.tbl_layout.specs.declared.columns.Stands.{Stands}
 use Rattle.tbl_layout.specs.declared.columns.Stands.TheVariants.{Nowhere}
 use Rattle.tbl_layout.specs.declared.data_lines.RuleSign.{RuleSign}
 use Rattle.tbl_layout.specs.declared.entry.Entry.{Entry}
-use Rattle.tbl_kept.specs.Rows.{Command, ElementKept, KeptElement, Row, Rule, columns_holding, holding, no_column, stands_at, stands_in}
+use Rattle.tbl_kept.specs.Rows.{Command, ElementKept, KeptElement, Row, Rule, columns_holding, held_by, no_column, stands_in}
+use Rattle.tbl_kept.proofs.CellSteps.{cells-left, row_stands-past}
 
 -- needs that are the same, one by one
 pub needs-same : (a b : Needs) → a.alone ≡ b.alone → a.strip ≡ b.strip → a.left ≡ b.left → a.right ≡ b.right → a.split ≡ b.split → a ≡ b
@@ -43,68 +45,65 @@ needs_of-nowhere entries =
 pub needing-nowhere : (n : Needs) → needing n Nowhere ≡ n
 needing-nowhere n = needs-same (needing n Nowhere) n (omega arith) (omega arith) (omega arith) (omega arith) (omega arith)
 
--- how the field of a column stands
-pub stands_at-drop : (format : FormatRow) (at column : ℕ) (entries : List Entry)
-    → stands_at format at column entries ≡ stands_at format at 0 (drop column entries)
-stands_at-drop format at zero [] = refl
-stands_at-drop format at (suc column) [] = refl
-stands_at-drop format at zero (e ∷ entries) = refl
-stands_at-drop format at (suc column) (e ∷ entries) = stands_at-drop format at column entries
+-- how the field of a column stands, by what stands from that column on
+pub get_or-rest : (entries rest : List Stands) (column : ℕ) → drop column entries ≡ rest → get_or entries column Nowhere ≡ get_or rest 0 Nowhere
+get_or-rest entries rest column is =
+    let same : column ≡ column + 0 = omega arith in
+    ap (λ (n : ℕ). get_or entries n Nowhere) same
+    ∙ sym (get_or-drop column entries 0 Nowhere)
+    ∙ ap (λ (ss : List Stands). get_or ss 0 Nowhere) is
 
-stands_at-behind : (format : FormatRow) (at column : ℕ) (entries : List Entry) → length entries ≤ column → stands_at format at column entries ≡ Nowhere
-stands_at-behind format at zero [] short = refl
-stands_at-behind format at (suc column) [] short = refl
-stands_at-behind format at zero (e ∷ entries) short = absurd (omega (arith, short))
-stands_at-behind format at (suc column) (e ∷ entries) short = stands_at-behind format at column entries (omega (arith, short))
+pub rest-next : {A : Type 0} (xs rest : List A) (column : ℕ) → drop column xs ≡ rest → drop (suc column) xs ≡ drop 1 rest
+rest-next {A} xs rest column is =
+    let next : column + 1 ≡ suc column = omega arith in
+    sym (drop-drop 1 column xs ∙ ap (λ (n : ℕ). drop n xs) next) ∙ ap (λ (ys : List A). drop 1 ys) is
 
 module _ (formats : List FormatRow) where
+  -- the fields of a row, in the columns of the table
+  abbrev pub row_of : ℕ → List Entry → List Stands
+  row_of keys entries = row_stands stands_of 0 (row_at formats keys).keys entries
+
   -- one row more
   stands_in-row : (column : ℕ) (elements : List KeptElement) (keys rules height : ℕ) (entries : List Entry)
       → stands_in formats column (elements ++ Row keys rules height entries ∷ [])
-      ≡ stands_in formats column elements ++ stands_at (row_at formats keys) column column entries ∷ []
+      ≡ stands_in formats column elements ++ get_or (row_of keys entries) column Nowhere ∷ []
   stands_in-row column [] keys rules height entries = refl
   stands_in-row column (Row other before high row ∷ elements) keys rules height entries =
-      ap (λ (rest : List Stands). stands_at (row_at formats other) column column row ∷ rest) (stands_in-row column elements keys rules height entries)
+      ap (λ (rest : List Stands). get_or (row_of other row) column Nowhere ∷ rest) (stands_in-row column elements keys rules height entries)
   stands_in-row column (Rule sign ∷ elements) keys rules height entries = stands_in-row column elements keys rules height entries
   stands_in-row column (Command from to ∷ elements) keys rules height entries = stands_in-row column elements keys rules height entries
 
   module _ (elements : List KeptElement) (keys rules height : ℕ) (entries : List Entry) where
-    needs-row : (column : ℕ) (rest : List Entry) → drop column entries ≡ rest
+    needs-row : (column : ℕ) (rest : List Stands) → drop column (row_of keys entries) ≡ rest
         → needs_of (stands_in formats column (elements ++ Row keys rules height entries ∷ []))
-        ≡ needing (needs_of (stands_in formats column elements)) (stands_at (row_at formats keys) column 0 rest)
+        ≡ needing (needs_of (stands_in formats column elements)) (get_or rest 0 Nowhere)
     needs-row column rest is =
         ap needs_of (stands_in-row column elements keys rules height entries)
-        ∙ needs_of-last (stands_in formats column elements) (stands_at (row_at formats keys) column column entries)
-        ∙ ap (λ (s : Stands). needing (needs_of (stands_in formats column elements)) s)
-        (stands_at-drop (row_at formats keys) column column entries ∙ ap (λ (es : List Entry). stands_at (row_at formats keys) column 0 es) is)
+        ∙ needs_of-last (stands_in formats column elements) (get_or (row_of keys entries) column Nowhere)
+        ∙ ap (λ (s : Stands). needing (needs_of (stands_in formats column elements)) s) (get_or-rest (row_of keys entries) rest column is)
 
-    next-rest : (column : ℕ) (rest : List Entry) → drop column entries ≡ rest → drop (suc column) entries ≡ drop 1 rest
-    next-rest column rest is =
-        let next : column + 1 ≡ suc column = omega arith in
-        sym (drop-drop 1 column entries ∙ ap (λ (n : ℕ). drop n entries) next) ∙ ap (λ (es : List Entry). drop 1 es) is
-
-    pub holding-row : (count column : ℕ) (rest : List Entry) → drop column entries ≡ rest
-        → holding (row_at formats keys) column rest (columns_holding formats elements column count)
+    pub holding-row : (count column : ℕ) (rest : List Stands) → drop column (row_of keys entries) ≡ rest
+        → held_by rest (columns_holding formats elements column count)
         ≡ columns_holding formats (elements ++ Row keys rules height entries ∷ []) column count
     holding-row zero column [] is = refl
-    holding-row zero column (e ∷ rest) is = refl
+    holding-row zero column (s ∷ rest) is = refl
     holding-row (suc count) column [] is =
         ap (λ (n : Needs). record no_column { needs = n } ∷ columns_holding formats elements (suc column) count)
         (sym (needs-row column [] is ∙ needing-nowhere (needs_of (stands_in formats column elements))))
         ∙ ap (λ (cs : List Column). record no_column { needs = needs_of (stands_in formats column (elements ++ Row keys rules height entries ∷ [])) } ∷ cs)
-        (holding-row count (suc column) [] (next-rest column [] is))
-    holding-row (suc count) column (e ∷ rest) is =
-        ap (λ (n : Needs). record no_column { needs = n } ∷ holding (row_at formats keys) (suc column) rest (columns_holding formats elements (suc column) count))
-        (sym (needs-row column (e ∷ rest) is))
+        (holding-row count (suc column) [] (rest-next (row_of keys entries) [] column is))
+    holding-row (suc count) column (s ∷ rest) is =
+        ap (λ (n : Needs). record no_column { needs = n } ∷ held_by rest (columns_holding formats elements (suc column) count))
+        (sym (needs-row column (s ∷ rest) is))
         ∙ ap (λ (cs : List Column). record no_column { needs = needs_of (stands_in formats column (elements ++ Row keys rules height entries ∷ [])) } ∷ cs)
-        (holding-row count (suc column) rest (next-rest column (e ∷ rest) is))
+        (holding-row count (suc column) rest (rest-next (row_of keys entries) (s ∷ rest) column is))
 
   -- a command stands in no column
   stands_in-command : (column : ℕ) (elements : List KeptElement) (from to : ℕ)
       → stands_in formats column (elements ++ Command from to ∷ []) ≡ stands_in formats column elements
   stands_in-command column [] from to = refl
   stands_in-command column (Row keys rules height entries ∷ elements) from to =
-      ap (λ (rest : List Stands). stands_at (row_at formats keys) column column entries ∷ rest) (stands_in-command column elements from to)
+      ap (λ (rest : List Stands). get_or (row_of keys entries) column Nowhere ∷ rest) (stands_in-command column elements from to)
   stands_in-command column (Rule sign ∷ elements) from to = stands_in-command column elements from to
   stands_in-command column (Command start end ∷ elements) from to = stands_in-command column elements from to
 
@@ -122,7 +121,7 @@ module _ (formats : List FormatRow) where
       → stands_in formats column (elements ++ Rule sign ∷ []) ≡ stands_in formats column elements
   stands_in-rule column [] sign = refl
   stands_in-rule column (Row keys rules height entries ∷ elements) sign =
-      ap (λ (rest : List Stands). stands_at (row_at formats keys) column column entries ∷ rest) (stands_in-rule column elements sign)
+      ap (λ (rest : List Stands). get_or (row_of keys entries) column Nowhere ∷ rest) (stands_in-rule column elements sign)
   stands_in-rule column (Rule other ∷ elements) sign = stands_in-rule column elements sign
   stands_in-rule column (Command from to ∷ elements) sign = stands_in-rule column elements sign
 
@@ -161,7 +160,8 @@ module _ (formats : List FormatRow) where
     needs-behind column [] behind kept = refl
     needs-behind column (Row keys rules height entries ∷ elements) behind kept =
         ap (λ (s : Stands). needs_of (s ∷ stands_in formats column elements))
-        (stands_at-behind (row_at formats keys) column column entries (omega (arith, behind, kept.0.short)))
+        (row_stands-past stands_of columns column (row_at formats keys).keys entries
+        (cells-left columns (row_at formats keys).keys (length entries) kept.0.cells kept.0.short) behind)
         ∙ needs_of-nowhere (stands_in formats column elements)
         ∙ needs-behind column elements behind kept.1
     needs-behind column (Rule sign ∷ elements) behind kept = needs-behind column elements behind kept.1
@@ -183,8 +183,9 @@ module _ (bytes : List ℕ) (formats more : List FormatRow) (columns : ℕ) wher
       → stands_in (formats ++ more) column elements ≡ stands_in formats column elements
   stands_in-formats column [] kept = refl
   stands_in-formats column (Row keys rules height entries ∷ elements) kept =
-      ap (λ (row : FormatRow). stands_at row column column entries ∷ stands_in (formats ++ more) column elements) (row_at-more keys kept.0.serves)
-      ∙ ap (λ (rest : List Stands). stands_at (row_at formats keys) column column entries ∷ rest) (stands_in-formats column elements kept.1)
+      ap (λ (row : FormatRow). get_or (row_stands stands_of 0 row.keys entries) column Nowhere ∷ stands_in (formats ++ more) column elements)
+      (row_at-more keys kept.0.serves)
+      ∙ ap (λ (rest : List Stands). get_or (row_of formats keys entries) column Nowhere ∷ rest) (stands_in-formats column elements kept.1)
   stands_in-formats column (Rule sign ∷ elements) kept = stands_in-formats column elements kept.1
   stands_in-formats column (Command from to ∷ elements) kept = stands_in-formats column elements kept.1
 

@@ -36,13 +36,13 @@ kept-within (RuledKind sign) bytes key e kept = kept.within
 kept-within ShortKind bytes key e kept = kept.within
 kept-within (RepeatedKind byte) bytes key e kept = kept.within
 
-laid-within : (kind : EntryKind) (bytes : List ℕ) (measure : ℕ) (key : Key) (e : Entry) → IsLaidBy kind bytes measure key e → e.to ≤ length bytes
-laid-within (TextKind glyphs width) bytes measure key e laid = laid.within
-laid-within (SplitKind s) bytes measure key e laid = laid.within
-laid-within (BlockKind b) bytes measure key e laid = laid.lies.within
-laid-within (RuledKind sign) bytes measure key e laid = laid.within
-laid-within ShortKind bytes measure key e laid = laid.within
-laid-within (RepeatedKind byte) bytes measure key e laid = laid.within
+laid-within : (kind : EntryKind) (bytes : List ℕ) (key : Key) (e : Entry) → IsLaidBy kind bytes key e → e.to ≤ length bytes
+laid-within (TextKind glyphs width) bytes key e laid = laid.within
+laid-within (SplitKind s) bytes key e laid = laid.within
+laid-within (BlockKind b) bytes key e laid = laid.lies.within
+laid-within (RuledKind sign) bytes key e laid = laid.within
+laid-within ShortKind bytes key e laid = laid.within
+laid-within (RepeatedKind byte) bytes key e laid = laid.within
 
 -- bytes behind those of the table change no field
 module _ (bytes more : List ℕ) where
@@ -59,7 +59,7 @@ module _ (bytes more : List ℕ) where
   content_by-more : (kind : EntryKind) (from to : ℕ) → to ≤ length bytes → content_by kind (bytes ++ more) from to ≡ content_by kind bytes from to
   content_by-more (TextKind glyphs width) from to within = ap Text (part-more from to within)
   content_by-more (SplitKind s) from to within = ap Text (part-more from to within)
-  content_by-more (BlockKind b) from to within = ap Block (lines-more from to within)
+  content_by-more (BlockKind b) from to within = ap (Block b.measure) (lines-more from to within)
   content_by-more (RuledKind sign) from to within = refl
   content_by-more ShortKind from to within = refl
   content_by-more (RepeatedKind byte) from to within = refl
@@ -82,17 +82,16 @@ module _ (bytes more : List ℕ) where
   IsKeptBy-more ShortKind key e kept = lies-more e kept
   IsKeptBy-more (RepeatedKind byte) key e kept = lies-more e kept
 
-  IsLaidBy-more : (kind : EntryKind) (measure : ℕ) (key : Key) (e : Entry) → IsLaidBy kind bytes measure key e
-      → IsLaidBy kind (bytes ++ more) measure key e
-  IsLaidBy-more (TextKind glyphs width) measure key e laid = text-more (is_number key) e laid
-  IsLaidBy-more (SplitKind s) measure key e laid = text-more (is_number key) e laid
-  IsLaidBy-more (BlockKind b) measure key e laid = record {
+  IsLaidBy-more : (kind : EntryKind) (key : Key) (e : Entry) → IsLaidBy kind bytes key e → IsLaidBy kind (bytes ++ more) key e
+  IsLaidBy-more (TextKind glyphs width) key e laid = text-more (is_number key) e laid
+  IsLaidBy-more (SplitKind s) key e laid = text-more (is_number key) e laid
+  IsLaidBy-more (BlockKind b) key e laid = record {
     lies = lies-more e laid.lies;
-    is = laid.is ∙ ap (λ (lines : List (List ℕ)). BlockKind (block_filled measure lines)) (sym (lines-more e.from e.to laid.lies.within));
+    is = laid.is ∙ ap (λ (lines : List (List ℕ)). BlockKind (block_filled b.measure lines)) (sym (lines-more e.from e.to laid.lies.within));
   }
-  IsLaidBy-more (RuledKind sign) measure key e laid = lies-more e laid
-  IsLaidBy-more ShortKind measure key e laid = lies-more e laid
-  IsLaidBy-more (RepeatedKind byte) measure key e laid = lies-more e laid
+  IsLaidBy-more (RuledKind sign) key e laid = lies-more e laid
+  IsLaidBy-more ShortKind key e laid = lies-more e laid
+  IsLaidBy-more (RepeatedKind byte) key e laid = lies-more e laid
 
   pub IsKept-more : (key : Key) (e : Entry) → IsKept bytes key e → IsKept (bytes ++ more) key e
   IsKept-more key e kept = IsKeptBy-more e.kind key e kept
@@ -100,12 +99,11 @@ module _ (bytes more : List ℕ) where
   pub content_of-more : (key : Key) (e : Entry) → IsKept bytes key e → content_of (bytes ++ more) e ≡ content_of bytes e
   content_of-more key e kept = content_by-more e.kind e.from e.to (kept-within e.kind bytes key e kept)
 
-  pub IsLaid-more : (measure : ℕ) (key : Key) (e : Entry) → IsLaid bytes measure key e → IsLaid (bytes ++ more) measure key e
-  IsLaid-more measure key e laid = IsLaidBy-more e.kind measure key e laid
+  pub IsLaid-more : (key : Key) (e : Entry) → IsLaid bytes key e → IsLaid (bytes ++ more) key e
+  IsLaid-more key e laid = IsLaidBy-more e.kind key e laid
 
-  pub content_of-laid-more : (measure : ℕ) (key : Key) (e : Entry) → IsLaid bytes measure key e
-      → content_of (bytes ++ more) e ≡ content_of bytes e
-  content_of-laid-more measure key e laid = content_by-more e.kind e.from e.to (laid-within e.kind bytes measure key e laid)
+  pub content_of-laid-more : (key : Key) (e : Entry) → IsLaid bytes key e → content_of (bytes ++ more) e ≡ content_of bytes e
+  content_of-laid-more key e laid = content_by-more e.kind e.from e.to (laid-within e.kind bytes key e laid)
 
   pub AreKept-more : (format : FormatRow) (column : ℕ) (entries : List Entry) → AreKept bytes format column entries
       → AreKept (bytes ++ more) format column entries
@@ -188,7 +186,7 @@ content-more : (kind : EntryKind) (bytes : List ℕ) (e : Entry) (to : ℕ) → 
     → content_by kind bytes e.from to ≡ with_line (slice_range bytes (e.to + 1) to) (content_by kind bytes e.from e.to)
 content-more (TextKind glyphs width) bytes e to is grows = absurd (cc)
 content-more (SplitKind s) bytes e to is grows = absurd (cc)
-content-more (BlockKind b) bytes e to is grows = ap Block (block_lines-more bytes e to grows)
+content-more (BlockKind b) bytes e to is grows = ap (Block b.measure) (block_lines-more bytes e to grows)
 content-more (RuledKind sign) bytes e to is grows = absurd (cc)
 content-more ShortKind bytes e to is grows = absurd (cc)
 content-more (RepeatedKind byte) bytes e to is grows = absurd (cc)

@@ -1,6 +1,7 @@
 pub mod TextBlocks
 pub mod AskedJoints
 pub mod KeptFields
+pub mod CellSteps
 pub mod ColumnsHeld
 pub mod RowsKeeping
 pub mod RowPlaces
@@ -10,3 +11,5 @@ pub mod BlocksHeld
 pub mod RowSteps
 pub mod RowsNext
 pub mod RowsLaidOut
+pub mod LaidStands
+pub mod FieldsFitted

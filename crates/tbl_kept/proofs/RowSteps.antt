@@ -1,12 +1,15 @@
 -- The rows of a table behind one step, by how they lie in lists.
-use Rattle.std.proofs.Common.{◌≡◌, ℕ, zero, suc, ◌+◌, ◌≤◌, List, [], ◌∷◌, ◌++◌, length, map, take, drop, get_or, set, sym, ap, ◌∙◌, arith, length-drop}
-use Rattle.std.proofs.lemmas.List.{drop-append-le, take-append-le, take-set-le}
+use Rattle.std.proofs.Common.{◌≡◌, ℕ, zero, suc, ◌+◌, ◌-◌, ◌≤◌, List, [], ◌∷◌, ◌++◌, length, map, take, drop, get_or, set, sym, ap, ◌∙◌, arith, length-drop}
+use Rattle.std.specs.List.{slice_range}
+use Rattle.std.proofs.lemmas.List.{drop-append-le, drop_all, map-append, take-append-le, take-set-le, take_all}
+use Rattle.tbl_format.specs.Format.{FormatRow}
 use Rattle.tbl_layout.specs.KeptEntries.{with_end}
 use Rattle.tbl_layout.specs.declared.columns.Column.{Column}
 use Rattle.tbl_layout.specs.declared.entry.Entry.{Entry}
-use Rattle.tbl_kept.specs.Rows.{KeptElement, KeptRows, entries_in, last_changed, with_block_end, with_entry}
+use Rattle.tbl_kept.specs.Rows.{KeptElement, KeptRows, Row, entries_in, holding, last_changed, with_block_end, with_entry, with_row}
 use Rattle.tbl_kept.specs.RowsInside.{LieBetween, kept_in}
 use Rattle.tbl_kept.specs.declared.rows.Element.{Element}
+use Rattle.tbl_kept.specs.declared.rows.Element.TheVariants.{Row as OneRow}
 use Rattle.tbl_kept.proofs.RowPlaces.{entries_in-between, kept-front}
 
 -- the last of fields changed, by its place
@@ -51,3 +54,32 @@ module _ (fields : List Entry) (elements : List Element) (start : ℕ) where
     block-kept to last e first is at =
         rows-changed (set fields last (with_end to e)) (last_changed (with_end to) (drop start fields))
         (take-set-le start fields last (with_end to e) first) (set-last (with_end to) fields start last e first is at)
+
+-- the row that is begun is whole
+pub row-ended : (fields : List Entry) (elements : List Element) (start last end : ℕ) (columns new_columns : List Column) (entry_room element_room column_room keys rules : ℕ) (format : FormatRow)
+    → last ≡ length fields → end ≡ length fields → new_columns ≡ holding format (drop start fields) columns
+    → record {
+      elements = map (kept_in fields) (elements ++ OneRow (record { keys = keys; rules = rules; height = 1; from = start; to = last }) ∷ []);
+      row = drop end fields;
+      columns = new_columns;
+      entry_room = entry_room;
+      element_room = element_room;
+      column_room = column_room;
+    } ≡ with_row keys rules format (record {
+      elements = map (kept_in fields) elements;
+      row = drop start fields;
+      columns = columns;
+      entry_room = entry_room;
+      element_room = element_room;
+      column_room = column_room;
+    })
+row-ended fields elements start last end columns new_columns entry_room element_room column_room keys rules format whole done held =
+    let rows_of : List KeptElement → List Entry → List Column → KeptRows =
+    λ els r cs. record { elements = els; row = r; columns = cs; entry_room = entry_room; element_room = element_room; column_room = column_room } in
+    let row = OneRow (record { keys = keys; rules = rules; height = 1; from = start; to = last }) in
+    let kept = map (kept_in fields) elements in
+    let part : slice_range fields start last ≡ drop start fields = take_all (last - start) (drop start fields) (omega (arith, whole, length-drop start fields)) in
+    ap (λ (els : List KeptElement). rows_of els (drop end fields) new_columns) (map-append (kept_in fields) elements (row ∷ []))
+    ∙ ap (λ (es : List Entry). rows_of (kept ++ Row keys rules 1 es ∷ []) (drop end fields) new_columns) part
+    ∙ ap (λ (r : List Entry). rows_of (kept ++ Row keys rules 1 (drop start fields) ∷ []) r new_columns) (drop_all end fields (omega (arith, done)))
+    ∙ ap (λ (cs : List Column). rows_of (kept ++ Row keys rules 1 (drop start fields) ∷ []) [] cs) held

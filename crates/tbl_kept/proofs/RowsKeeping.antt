@@ -2,16 +2,18 @@
 use Rattle.std.proofs.Common.{◌≡◌, ℕ, zero, suc, ◌+◌, ◌-◌, ◌<◌, ◌≤◌, List, [], ◌∷◌, ◌++◌, length, map, take, drop, replicate, refl, sym, ap, subst, ◌∙◌, arith, length-append, length-drop}
 use Rattle.std.specs.List.{AllByRecursion, slice_range}
 use Rattle.std.proofs.lemmas.List.{drop-append-le, length-replicate, map-append, take-append-le}
+use Rattle.tbl_format.specs.Cells.{cell_count}
 use Rattle.tbl_format.specs.Format.{FormatRow}
+use Rattle.tbl_format.specs.FormatRows.{AreWithin}
 use Rattle.tbl_format.specs.RowsServed.{row_at}
-use Rattle.tbl_layout.specs.Columns.{needs_of}
+use Rattle.tbl_layout.specs.Columns.{row_stands}
 use Rattle.tbl_layout.specs.Entries.{Command as OneCommand, Content, Element, Row as OneRow, Rule as OneRule, completed, key_at}
-use Rattle.tbl_layout.specs.KeptEntries.{IsKept, content_of, with_end}
+use Rattle.tbl_layout.specs.KeptEntries.{IsKept, content_of, stands_of, with_end}
 use Rattle.tbl_layout.specs.declared.columns.Column.{Column}
 use Rattle.tbl_layout.specs.declared.data_lines.RuleSign.{RuleSign}
 use Rattle.tbl_layout.specs.declared.entry.Entry.{Entry}
 use Rattle.tbl_format.proofs.Elements.{each-append}
-use Rattle.tbl_kept.specs.Rows.{AreKept, AreLaid, Command, ElementKept, ElementLaid, KeptElement, KeptRows, Row, RowBegunKept, RowsKept, RowsLaid, Rule, columns_holding, element_of, elements_of, fields_of, holding, last_changed, measures, no_column, no_rows, rows_in_front, with_block_end, with_columns, with_command, with_entry, with_row, with_rule}
+use Rattle.tbl_kept.specs.Rows.{AreKept, AreLaid, Command, ElementKept, ElementLaid, KeptElement, KeptRows, Row, RowBegunKept, RowsKept, RowsLaid, Rule, columns_holding, element_of, elements_of, fields_of, held_by, last_changed, no_column, no_rows, rows_in_front, with_block_end, with_columns, with_command, with_entry, with_row, with_rule}
 use Rattle.tbl_kept.specs.RowsGrowing.{BlockGrows, with_line}
 use Rattle.tbl_kept.proofs.ColumnsHeld.{columns_holding-behind, columns_holding-command, columns_holding-formats, columns_holding-more, columns_holding-rule, holding-row, length-columns_holding, row_at-more}
 use Rattle.tbl_kept.proofs.KeptFields.{AreKept-front, AreKept-last, AreKept-more, IsKept-block_end, IsLaid-more, content_of-block_end, content_of-laid-more, contents-more, last_changed-last, more-within, part-more}
@@ -38,7 +40,7 @@ module _ (bytes more : List ℕ) (formats : List FormatRow) where
   element-kept-more columns (Row keys rules height entries) kept = record {
     serves = kept.serves;
     in_front = kept.in_front;
-    few = kept.few;
+    cells = record { cells = kept.cells.cells; short = kept.cells.short };
     short = kept.short;
     kept = AreKept-more bytes more (row_at formats keys) 0 entries kept.kept;
     low = kept.low;
@@ -74,48 +76,48 @@ module _ (bytes more : List ℕ) (formats : List FormatRow) where
       (element_of-more (length k.columns)) k.elements kept.elements
 
   -- and none that is laid out
-  fields-laid-more : (columns : List Column) (format : FormatRow) (column : ℕ) (entries : List Entry) → AreLaid bytes columns format column entries
-      → AreLaid (bytes ++ more) columns format column entries
-  fields-laid-more columns format column [] laid = tt
-  fields-laid-more columns format column (e ∷ entries) laid =
-      (IsLaid-more bytes more (measures columns column) (key_at format column) e laid.0, fields-laid-more columns format (suc column) entries laid.1)
+  fields-laid-more : (format : FormatRow) (cell : ℕ) (entries : List Entry) → AreLaid bytes format cell entries
+      → AreLaid (bytes ++ more) format cell entries
+  fields-laid-more format cell [] laid = tt
+  fields-laid-more format cell (e ∷ entries) laid =
+      (IsLaid-more bytes more (key_at format cell) e laid.0, fields-laid-more format (suc cell) entries laid.1)
 
-  contents-laid-more : (columns : List Column) (format : FormatRow) (column : ℕ) (entries : List Entry) → AreLaid bytes columns format column entries
+  contents-laid-more : (format : FormatRow) (cell : ℕ) (entries : List Entry) → AreLaid bytes format cell entries
       → map (content_of (bytes ++ more)) entries ≡ map (content_of bytes) entries
-  contents-laid-more columns format column [] laid = refl
-  contents-laid-more columns format column (e ∷ entries) laid =
-      ap (λ (c : Content). c ∷ map (content_of (bytes ++ more)) entries)
-      (content_of-laid-more bytes more (measures columns column) (key_at format column) e laid.0)
-      ∙ ap (λ (cs : List Content). content_of bytes e ∷ cs) (contents-laid-more columns format (suc column) entries laid.1)
+  contents-laid-more format cell [] laid = refl
+  contents-laid-more format cell (e ∷ entries) laid =
+      ap (λ (c : Content). c ∷ map (content_of (bytes ++ more)) entries) (content_of-laid-more bytes more (key_at format cell) e laid.0)
+      ∙ ap (λ (cs : List Content). content_of bytes e ∷ cs) (contents-laid-more format (suc cell) entries laid.1)
 
-  element-laid-more : (columns : List Column) (e : KeptElement) → ElementLaid bytes formats columns e → ElementLaid (bytes ++ more) formats columns e
+  element-laid-more : (columns : ℕ) (e : KeptElement) → ElementLaid bytes formats columns e → ElementLaid (bytes ++ more) formats columns e
   element-laid-more columns (Row keys rules height entries) laid = record {
     serves = laid.serves;
     in_front = laid.in_front;
-    few = laid.few;
+    cells = record { cells = laid.cells.cells; short = laid.cells.short };
     short = laid.short;
-    laid = fields-laid-more columns (row_at formats keys) 0 entries laid.laid;
+    laid = fields-laid-more (row_at formats keys) 0 entries laid.laid;
     high = laid.high;
   }
   element-laid-more columns (Rule sign) laid = tt
   element-laid-more columns (Command from to) laid = record { order = laid.order; within = more-within bytes more to laid.within }
 
-  element_of-laid-more : (columns : List Column) (e : KeptElement) → ElementLaid bytes formats columns e
+  element_of-laid-more : (columns : ℕ) (e : KeptElement) → ElementLaid bytes formats columns e
       → element_of (bytes ++ more) formats e ≡ element_of bytes formats e
   element_of-laid-more columns (Row keys rules height entries) laid =
-      ap (λ (fields : List Content). OneRow (rows_in_front formats keys rules) (row_at formats keys) (completed (row_at formats keys) fields)) (contents-laid-more columns (row_at formats keys) 0 entries laid.laid)
+      ap (λ (fields : List Content). OneRow (rows_in_front formats keys rules) (row_at formats keys) (completed (row_at formats keys) fields)) (contents-laid-more (row_at formats keys) 0 entries laid.laid)
   element_of-laid-more columns (Rule sign) laid = refl
   element_of-laid-more columns (Command from to) laid = ap OneCommand (part-more bytes more from to laid.within)
 
   pub RowsLaid-more : (k : KeptRows) → RowsLaid bytes formats k → RowsLaid (bytes ++ more) formats k
   RowsLaid-more k laid =
-      each (ElementLaid bytes formats k.columns) (ElementLaid (bytes ++ more) formats k.columns) (element-laid-more k.columns) k.elements laid
+      each (ElementLaid bytes formats (length k.columns)) (ElementLaid (bytes ++ more) formats (length k.columns))
+      (element-laid-more (length k.columns)) k.elements laid
 
   pub elements_of-laid-more : (k : KeptRows) → RowsLaid bytes formats k
       → elements_of (bytes ++ more) formats k.elements ≡ elements_of bytes formats k.elements
   elements_of-laid-more k laid =
-      map-same (element_of (bytes ++ more) formats) (element_of bytes formats) (ElementLaid bytes formats k.columns)
-      (element_of-laid-more k.columns) k.elements laid
+      map-same (element_of (bytes ++ more) formats) (element_of bytes formats) (ElementLaid bytes formats (length k.columns))
+      (element_of-laid-more (length k.columns)) k.elements laid
 
 -- rows of formats behind those that are known change no row
 pub rows_in_front-more : (formats more : List FormatRow) (keys rules : ℕ) → keys < length formats → rules ≤ keys
@@ -129,8 +131,8 @@ module _ (bytes : List ℕ) (formats more : List FormatRow) where
   element-kept-formats columns (Row keys rules height entries) kept = record {
     serves = omega (arith, kept.serves, length-append formats more);
     in_front = kept.in_front;
-    few = subst (λ (row : FormatRow). length row.keys ≤ columns) (sym (row_at-more bytes formats more columns keys kept.serves)) kept.few;
-    short = kept.short;
+    cells = subst (λ (row : FormatRow). AreWithin columns row.keys) (sym (row_at-more bytes formats more columns keys kept.serves)) kept.cells;
+    short = subst (λ (row : FormatRow). length entries ≤ cell_count row.keys columns) (sym (row_at-more bytes formats more columns keys kept.serves)) kept.short;
     kept = subst (λ (row : FormatRow). AreKept bytes row 0 entries) (sym (row_at-more bytes formats more columns keys kept.serves)) kept.kept;
     low = kept.low;
   }
@@ -159,7 +161,8 @@ module _ (bytes : List ℕ) (formats more : List FormatRow) where
   RowBegunKept-formats keys k serves begun = record {
     all = RowsKept-formats k begun.all;
     row = subst (λ (row : FormatRow). AreKept bytes row 0 k.row) (sym (row_at-more bytes formats more (length k.columns) keys serves)) begun.row;
-    short = begun.short;
+    short = subst (λ (row : FormatRow). length k.row ≤ cell_count row.keys (length k.columns))
+        (sym (row_at-more bytes formats more (length k.columns) keys serves)) begun.short;
   }
 
   pub elements_of-formats : (k : KeptRows) → RowsKept bytes formats k
@@ -181,7 +184,7 @@ module _ (bytes : List ℕ) (formats : List FormatRow) (k : KeptRows) where
   pub RowsKept-entry : (e : Entry) → RowsKept bytes formats k → RowsKept bytes formats (with_entry e k)
   RowsKept-entry e kept = record { elements = kept.elements; columns = kept.columns }
 
-  pub RowBegunKept-entry : (keys : ℕ) (e : Entry) → length k.row < length k.columns
+  pub RowBegunKept-entry : (keys : ℕ) (e : Entry) → length k.row < cell_count (row_at formats keys).keys (length k.columns)
       → IsKept bytes (key_at (row_at formats keys) (length k.row)) e → RowBegunKept bytes formats keys k
       → RowBegunKept bytes formats keys (with_entry e k)
   RowBegunKept-entry keys e more is begun =
@@ -227,18 +230,18 @@ module _ (bytes : List ℕ) (formats : List FormatRow) (k : KeptRows) where
         ∙ ap (λ (c : Content). map (content_of bytes) front ++ c ∷ []) (content_of-block_end bytes e to grows)
 
   -- the row that is begun is whole
-  pub RowsKept-row : (keys rules : ℕ) → keys < length formats → rules ≤ keys → length (row_at formats keys).keys ≤ length k.columns
+  pub RowsKept-row : (keys rules : ℕ) → keys < length formats → rules ≤ keys → AreWithin (length k.columns) (row_at formats keys).keys
       → RowBegunKept bytes formats keys k → RowsKept bytes formats (with_row keys rules (row_at formats keys) k)
-  RowsKept-row keys rules serves in_front few begun =
-      let columns : holding (row_at formats keys) 0 k.row k.columns
-      ≡ columns_holding formats (k.elements ++ Row keys rules 1 k.row ∷ []) 0 (length k.columns) =
-      ap (λ (cs : List Column). holding (row_at formats keys) 0 k.row cs) begun.all.columns
-      ∙ holding-row formats k.elements keys rules 1 k.row (length k.columns) 0 k.row refl in
-      let same : length (holding (row_at formats keys) 0 k.row k.columns) ≡ length k.columns =
+  RowsKept-row keys rules serves in_front cells begun =
+      let entries = row_stands stands_of 0 (row_at formats keys).keys k.row in
+      let columns : held_by entries k.columns ≡ columns_holding formats (k.elements ++ Row keys rules 1 k.row ∷ []) 0 (length k.columns) =
+      ap (λ (cs : List Column). held_by entries cs) begun.all.columns
+      ∙ holding-row formats k.elements keys rules 1 k.row (length k.columns) 0 entries refl in
+      let same : length (held_by entries k.columns) ≡ length k.columns =
       ap length columns ∙ length-columns_holding formats (k.elements ++ Row keys rules 1 k.row ∷ []) 0 (length k.columns) in
       let all : AllByRecursion (ElementKept bytes formats (length k.columns)) (k.elements ++ Row keys rules 1 k.row ∷ []) =
       each-append (ElementKept bytes formats (length k.columns)) k.elements (Row keys rules 1 k.row ∷ []) begun.all.elements
-      (record { serves = serves; in_front = in_front; few = few; short = begun.short; kept = begun.row; low = refl }, tt) in
+      (record { serves = serves; in_front = in_front; cells = cells; short = begun.short; kept = begun.row; low = refl }, tt) in
       record {
         elements = subst (λ (n : ℕ). AllByRecursion (ElementKept bytes formats n) (k.elements ++ Row keys rules 1 k.row ∷ [])) (sym same) all;
         columns = columns ∙ ap (λ (n : ℕ). columns_holding formats (k.elements ++ Row keys rules 1 k.row ∷ []) 0 n) (sym same);
@@ -290,7 +293,7 @@ module _ (bytes : List ℕ) (formats : List FormatRow) (k : KeptRows) where
       record {
         serves = kept.serves;
         in_front = kept.in_front;
-        few = omega (arith, kept.few, less);
+        cells = record { cells = kept.cells.cells; short = omega (arith, kept.cells.short, less) };
         short = omega (arith, kept.short, less);
         kept = kept.kept;
         low = kept.low;

@@ -1,120 +1,136 @@
--- The fields of a row, one after another.
-use Rattle.std.proofs.Common.{◌≡◌, ℕ, zero, suc, ◌+◌, ◌<◌, ◌≤◌, List, [], ◌∷◌, ◌++◌, length, take, drop, get_or, set, refl, sym, ap, ◌∙◌, arith}
-use Rattle.std.proofs.lemmas.List.{drop-set-lt, get_or-map}
-use Rattle.tbl_format.specs.Format.{FormatRow}
-use Rattle.tbl_format.specs.RowsServed.{row_at}
+-- The fields of a row, one after another, and the columns that hold them.
+use Rattle.std.proofs.Common.{◌≡◌, ℕ, zero, suc, ◌+◌, ◌-◌, ◌<◌, ◌≤◌, List, [], ◌∷◌, ◌++◌, length, take, drop, get_or, replicate, set, refl, sym, ap, ◌∙◌, arith, append_assoc}
+use Rattle.std.specs.List.{slice_range}
+use Rattle.std.proofs.lemmas.List.{drop-set-lt, drop_more, take-append-drop, take_more_set}
+use Rattle.tbl_format.specs.Cells.{by_cells}
 use Rattle.tbl_format.specs.declared.format.Asked.{Asked}
-use Rattle.tbl_layout.specs.Columns.{measure_of, needing}
-use Rattle.tbl_layout.specs.Entries.{key_at}
-use Rattle.tbl_layout.specs.KeptEntries.{stands_of}
+use Rattle.tbl_format.specs.declared.format.FormatKey.{FormatKey}
+use Rattle.tbl_format.specs.declared.format.Key.{Key}
+use Rattle.tbl_layout.specs.Columns.{in_columns, needing, row_stands}
+use Rattle.tbl_layout.specs.Spans.{measure_of}
+use Rattle.tbl_layout.specs.declared.bars.Bars.{Bars}
 use Rattle.tbl_layout.specs.declared.columns.Column.{Column}
 use Rattle.tbl_layout.specs.declared.columns.Needs.{Needs}
+use Rattle.tbl_layout.specs.declared.columns.Stands.{Stands}
+use Rattle.tbl_layout.specs.declared.columns.Stands.TheVariants.{Nowhere}
 use Rattle.tbl_layout.specs.declared.entry.Entry.{Entry}
 use Rattle.tbl_layout.specs.declared.entry.EntryKind.TheVariants.{Text as TextKind}
-use Rattle.tbl_kept.specs.Rows.{Command, KeptElement, Row, Rule, holding}
-use Rattle.tbl_kept.specs.RowsLaying.{blocks_held, holding_block, holding_blocks, laid_entries, laid_entry, measures_of, with_measures}
-use Rattle.tbl_kept.proofs.Stepping.{next-along}
-
--- a column holds a field
-pub next-held : (format : FormatRow) (entries : List Entry) (columns : List Column) (at : ℕ) (e : Entry) (c : Column) (n : Needs)
-    → at < length entries → at < length columns → n ≡ needing (get_or columns at c).needs (stands_of (key_at format at) (get_or entries at e))
-    → take (at + 1) (set columns at (record (get_or columns at c) { needs = n }))
-    ++ holding format (at + 1) (drop (at + 1) entries) (drop (at + 1) (set columns at (record (get_or columns at c) { needs = n })))
-    ≡ take at columns ++ holding format at (drop at entries) (drop at columns)
-next-held format entries columns at e c n in_entries in_columns is =
-    let next : suc at ≡ at + 1 = omega arith in
-    let change : Entry → Column → Column = λ x d. record d { needs = needing d.needs (stands_of (key_at format at) x) } in
-    next-along (holding format at) (holding format (at + 1)) change
-    (λ x xs d rest. ap (λ (m : ℕ). change x d ∷ holding format m xs rest) next)
-    columns entries at e c (record (get_or columns at c) { needs = n }) in_columns in_entries
-    (ap (λ (m : Needs). record (get_or columns at c) { needs = m }) is)
-
--- a column holds a block
-pub next-block-held : (bytes : List ℕ) (format : FormatRow) (entries : List Entry) (columns : List Column) (at : ℕ) (e new_entry : Entry) (c new : Column)
-    → at < length entries → at < length columns → new ≡ holding_block bytes (key_at format at) (get_or entries at e) (get_or columns at c)
-    → take (at + 1) (set columns at new)
-    ++ holding_blocks bytes format (at + 1) (drop (at + 1) (set entries at new_entry)) (drop (at + 1) (set columns at new))
-    ≡ take at columns ++ holding_blocks bytes format at (drop at entries) (drop at columns)
-next-block-held bytes format entries columns at e new_entry c new in_entries in_columns is =
-    let next : suc at ≡ at + 1 = omega arith in
-    let change : Entry → Column → Column = λ x d. holding_block bytes (key_at format at) x d in
-    ap (λ (rest : List Entry). take (at + 1) (set columns at new) ++ holding_blocks bytes format (at + 1) rest (drop (at + 1) (set columns at new)))
-    (drop-set-lt (at + 1) entries at new_entry (omega arith))
-    ∙ next-along (holding_blocks bytes format at) (holding_blocks bytes format (at + 1)) change
-    (λ x xs d rest. ap (λ (m : ℕ). change x d ∷ holding_blocks bytes format m xs rest) next)
-    columns entries at e c new in_columns in_entries is
-
--- measures that stay
-pub length-measures : (columns : List Column) → length (measures_of columns) ≡ length columns
-length-measures [] = refl
-length-measures (c ∷ columns) = ap (λ (n : ℕ). suc n) (length-measures columns)
-
-pub measures-set : (columns : List Column) (at : ℕ) (c new : Column) → new.measure ≡ (get_or columns at c).measure → at < length columns
-    → measures_of (set columns at new) ≡ measures_of columns
-measures-set [] at c new is more = absurd (omega (arith, more))
-measures-set (d ∷ columns) zero c new is more = ap (λ (m : ℕ). m ∷ measures_of columns) is
-measures-set (d ∷ columns) (suc at) c new is more = ap (λ (ms : List ℕ). d.measure ∷ ms) (measures-set columns at c new is (omega (arith, more)))
-
-pub measure-at : (columns : List Column) (at : ℕ) (c : Column) → at < length columns → get_or (measures_of columns) at 0 ≡ (get_or columns at c).measure
-measure-at columns at c more = get_or-map (λ (d : Column). d.measure) columns at c 0 more
-
-measures-held : (bytes : List ℕ) (format : FormatRow) (column : ℕ) (entries : List Entry) (columns : List Column)
-    → measures_of (holding_blocks bytes format column entries columns) ≡ measures_of columns
-measures-held bytes format column [] columns = refl
-measures-held bytes format column (e ∷ entries) [] = refl
-measures-held bytes format column (e ∷ entries) (c ∷ columns) = ap (λ (ms : List ℕ). c.measure ∷ ms) (measures-held bytes format (suc column) entries columns)
-
-pub measures-blocks_held : (bytes : List ℕ) (formats : List FormatRow) (e : KeptElement) (columns : List Column)
-    → measures_of (blocks_held bytes formats e columns) ≡ measures_of columns
-measures-blocks_held bytes formats (Row keys rules height entries) columns = measures-held bytes (row_at formats keys) 0 entries columns
-measures-blocks_held bytes formats (Rule sign) columns = refl
-measures-blocks_held bytes formats (Command from to) columns = refl
-
--- a field is laid out in its measure
-pub next-laid : (bytes : List ℕ) (entries : List Entry) (columns others : List Column) (at : ℕ) (e new : Entry) (c : Column)
-    → at < length entries → at < length columns → measures_of others ≡ measures_of columns → new ≡ laid_entry bytes (get_or columns at c).measure (get_or entries at e)
-    → take (at + 1) (set entries at new) ++ laid_entries bytes (drop (at + 1) (measures_of others)) (drop (at + 1) (set entries at new))
-    ≡ take at entries ++ laid_entries bytes (drop at (measures_of columns)) (drop at entries)
-next-laid bytes entries columns others at e new c in_entries in_columns same is =
-    let in_measures : at < length (measures_of columns) = omega (arith, in_columns, length-measures columns) in
-    ap (λ (ms : List ℕ). take (at + 1) (set entries at new) ++ laid_entries bytes (drop (at + 1) ms) (drop (at + 1) (set entries at new))) same
-    ∙ next-along (laid_entries bytes) (laid_entries bytes) (laid_entry bytes) (λ x xs d rest. refl)
-    entries (measures_of columns) at 0 e new in_entries in_measures
-    (is ∙ ap (λ (m : ℕ). laid_entry bytes m (get_or entries at e)) (sym (measure-at columns at c in_columns)))
-
--- a column has its measure
-pub next-measured : (line_length count : ℕ) (asked : List Asked) (columns : List Column) (at : ℕ) (a : Asked) (c : Column) (m bars : ℕ)
-    → at < length asked → at < length columns → m ≡ measure_of line_length count (get_or asked at a) → bars ≡ (get_or asked at a).bars
-    → take (at + 1) (set columns at (record (get_or columns at c) { measure = m; bars = bars }))
-    ++ with_measures line_length count (drop (at + 1) asked) (drop (at + 1) (set columns at (record (get_or columns at c) { measure = m; bars = bars })))
-    ≡ take at columns ++ with_measures line_length count (drop at asked) (drop at columns)
-next-measured line_length count asked columns at a c m bars in_asked in_columns is same =
-    next-along (with_measures line_length count) (with_measures line_length count) (λ x d. record d { measure = measure_of line_length count x; bars = x.bars })
-    (λ x xs d rest. refl) columns asked at a c (record (get_or columns at c) { measure = m; bars = bars }) in_columns in_asked
-    (ap (λ (k : ℕ). record (get_or columns at c) { measure = k; bars = bars }) is
-    ∙ ap (λ (b : ℕ). record (get_or columns at c) { measure = measure_of line_length count (get_or asked at a); bars = b }) same)
-
--- and the measures in front of it stay narrow
-pub next-narrow : (columns : List Column) (at most : ℕ) (new : Column) → at < length columns → new.measure < most
-    → ((column : ℕ) → column < at → get_or (measures_of columns) column 0 < most)
-    → (column : ℕ) → column < at + 1 → get_or (measures_of (set columns at new)) column 0 < most
-next-narrow [] at most new more narrow before column less = absurd (omega (arith, more))
-next-narrow (c ∷ columns) zero most new more narrow before zero less = narrow
-next-narrow (c ∷ columns) zero most new more narrow before (suc column) less = absurd (omega (arith, less))
-next-narrow (c ∷ columns) (suc at) most new more narrow before zero less = before 0 (omega arith)
-next-narrow (c ∷ columns) (suc at) most new more narrow before (suc column) less =
-    next-narrow columns at most new (omega (arith, more)) narrow (λ n in_front. before (suc n) (omega (arith, in_front))) column (omega (arith, less))
-
--- all measures are
-pub narrow-all : (columns : List Column) (at most : ℕ) → length columns ≤ at → 0 < most
-    → ((column : ℕ) → column < at → get_or (measures_of columns) column 0 < most) → (column : ℕ) → get_or (measures_of columns) column 0 < most
-narrow-all [] at most end some before zero = some
-narrow-all [] at most end some before (suc column) = some
-narrow-all (c ∷ columns) at most end some before zero = before 0 (omega (arith, end))
-narrow-all (c ∷ columns) zero most end some before (suc column) = absurd (omega (arith, end))
-narrow-all (c ∷ columns) (suc at) most end some before (suc column) =
-    narrow-all columns at most (omega (arith, end)) some (λ n in_front. before (suc n) (omega (arith, in_front))) column
+use Rattle.tbl_kept.specs.Rows.{held_by}
+use Rattle.tbl_kept.specs.RowsLaying.{held_at, laid_entries, laid_entry}
+use Rattle.tbl_kept.specs.declared.held_columns.Cell.{Cell}
+use Rattle.tbl_kept.proofs.CellSteps.{CellIsWithin, CellsLeft, IsFirst, by_cells-next, first_end, first_key, in_columns-many, keys-next, length-in_columns, row_stands-next}
+use Rattle.tbl_kept.proofs.ColumnsHeld.{needing-nowhere}
 
 -- what is read behind the end
 abbrev pub no_entry : Entry
 no_entry = record { from = 0; to = 0; kind = TextKind 0 0 }
+
+-- columns in which nothing stands hold nothing more
+held_by-nowhere : (count : ℕ) (columns : List Column) → held_by (replicate count Nowhere) columns ≡ columns
+held_by-nowhere zero columns = refl
+held_by-nowhere (suc count) [] = refl
+held_by-nowhere (suc count) (c ∷ columns) =
+    ap (λ (n : Needs). record c { needs = n } ∷ held_by (replicate count Nowhere) columns) (needing-nowhere c.needs)
+    ∙ ap (λ (cs : List Column). c ∷ cs) (held_by-nowhere count columns)
+
+pub held_by-cell : (count : ℕ) (columns : List Column) → held_by (in_columns count Nowhere) columns ≡ columns
+held_by-cell zero columns = refl
+held_by-cell (suc zero) columns = held_by-nowhere 1 columns
+held_by-cell (suc (suc count)) columns =
+    ap (λ (ss : List Stands). held_by ss columns) (in_columns-many (suc (suc count)) Nowhere (λ one. omega (arith, one)))
+    ∙ held_by-nowhere (suc (suc count)) columns
+
+-- the column of a cell of one column holds its entry
+one-held : (entry : Stands) (c : Column) (from : ℕ) (columns : List Column) → from < length columns
+    → set columns from (record (get_or columns from c) { needs = needing (get_or columns from c).needs entry }) ≡ held_at from (entry ∷ []) columns
+one-held entry c from [] within = absurd (omega (arith, within))
+one-held entry c zero (d ∷ columns) within = refl
+one-held entry c (suc from) (d ∷ columns) within = ap (λ (rest : List Column). d ∷ rest) (one-held entry c from columns (omega (arith, within)))
+
+pub held_at-one : (from count : ℕ) (columns : List Column) (c : Column) (n : Needs) (entry : Stands) → count ≡ 1 → from < length columns
+    → n ≡ needing (get_or columns from c).needs entry
+    → set columns from (record (get_or columns from c) { needs = n }) ≡ held_at from (in_columns count entry) columns
+held_at-one from count columns c n entry one within is =
+    ap (λ (m : Needs). set columns from (record (get_or columns from c) { needs = m })) is
+    ∙ one-held entry c from columns within
+    ∙ ap (λ (k : ℕ). held_at from (in_columns k entry) columns) (sym one)
+
+-- no column of a cell of several does, and none of a cell without an entry
+pub held_at-many : (from count : ℕ) (columns : List Column) (entry : Stands) → (count ≡ 1 → ⊥) → columns ≡ held_at from (in_columns count entry) columns
+held_at-many from count columns entry many =
+    sym (ap (λ (ss : List Stands). held_at from ss columns) (in_columns-many count entry many)
+    ∙ ap (λ (cs : List Column). take from columns ++ cs) (held_by-nowhere count (drop from columns))
+    ∙ take-append-drop from columns)
+
+pub held_at-nowhere : (from count : ℕ) (columns : List Column) → columns ≡ held_at from (in_columns count Nowhere) columns
+held_at-nowhere from count columns =
+    sym (ap (λ (cs : List Column). take from columns ++ cs) (held_by-cell count (drop from columns)) ∙ take-append-drop from columns)
+
+-- columns that hold the entries of one cell, and then those of the cells behind it, hold them all
+held-first : (entries more : List Stands) (end : ℕ) (columns : List Column) → length entries ≡ end → end ≤ length columns
+    → take end (held_by entries columns) ++ held_by more (drop end (held_by entries columns)) ≡ held_by (entries ++ more) columns
+held-first [] more zero columns is within = refl
+held-first [] more (suc end) columns is within = absurd (omega (arith, is))
+held-first (s ∷ entries) more zero columns is within = absurd (omega (arith, is))
+held-first (s ∷ entries) more (suc end) [] is within = absurd (omega (arith, within))
+held-first (s ∷ entries) more (suc end) (c ∷ columns) is within =
+    ap (λ (rest : List Column). record c { needs = needing c.needs s } ∷ rest)
+    (held-first entries more end columns (omega (arith, is)) (omega (arith, within)))
+
+held-behind : (entries more : List Stands) (from end : ℕ) (columns : List Column) → from + length entries ≡ end → end ≤ length columns
+    → take end (held_at from entries columns) ++ held_by more (drop end (held_at from entries columns))
+    ≡ take from columns ++ held_by (entries ++ more) (drop from columns)
+held-behind entries more zero end columns is within = held-first entries more end columns (omega (arith, is)) within
+held-behind entries more (suc from) zero columns is within = absurd (omega (arith, is))
+held-behind entries more (suc from) (suc end) [] is within = absurd (omega (arith, within))
+held-behind entries more (suc from) (suc end) (c ∷ columns) is within =
+    ap (λ (rest : List Column). c ∷ rest) (held-behind entries more from end columns (omega (arith, is)) (omega (arith, within)))
+
+-- so the field of a cell is held, and then those of the cells behind it
+pub next-held : {A : Type 0} (entry_of : Key → A → Stands) (from : ℕ) (keys : List FormatKey) (at : ℕ) (cell : Cell) (field : A) (fields : List A)
+    (columns new : List Column) → IsFirst from (drop at keys) cell → CellIsWithin (length columns) cell.from cell.end
+    → new ≡ held_at cell.from (in_columns (cell.end - cell.from) (entry_of cell.key field)) columns
+    → take cell.end new ++ held_by (row_stands entry_of cell.end (drop (at + 1) keys) fields) (drop cell.end new)
+    ≡ take from columns ++ held_by (row_stands entry_of from (drop at keys) (field ∷ fields)) (drop from columns)
+next-held entry_of from keys at cell field fields columns new is within made =
+    let first = in_columns (cell.end - cell.from) (entry_of cell.key field) in
+    let more = row_stands entry_of cell.end (drop (at + 1) keys) fields in
+    ap (λ (cs : List Column). take cell.end cs ++ held_by more (drop cell.end cs)) made
+    ∙ held-behind first more cell.from cell.end columns
+    (omega (arith, within.order, length-in_columns (cell.end - cell.from) (entry_of cell.key field))) within.within
+    ∙ ap (λ (n : ℕ). take n columns ++ held_by (in_columns (cell.end - n) (entry_of cell.key field) ++ more) (drop n columns)) is.from_is
+    ∙ ap (λ (key : Key). take from columns ++ held_by (in_columns (cell.end - from) (entry_of key field) ++ more) (drop from columns)) is.key
+    ∙ ap (λ (ks : List FormatKey). take from columns ++ held_by (in_columns (cell.end - from) (entry_of (first_key (drop at keys)) field) ++ row_stands entry_of cell.end ks fields) (drop from columns)) (sym (keys-next keys at))
+    ∙ ap (λ (end : ℕ). take from columns ++ held_by (in_columns (end - from) (entry_of (first_key (drop at keys)) field) ++ row_stands entry_of end (drop 1 (drop at keys)) fields) (drop from columns)) is.end_is
+    ∙ ap (λ (ss : List Stands). take from columns ++ held_by ss (drop from columns)) (sym (row_stands-next entry_of from (drop at keys) field fields))
+
+-- an entry that is laid out in the place of another
+pub laid-set : (entries : List Entry) (at : ℕ) (new : Entry) (f : List Entry → List Entry) → at < length entries
+    → take (at + 1) (set entries at new) ++ f (drop (at + 1) (set entries at new)) ≡ take at entries ++ new ∷ f (drop (at + 1) entries)
+laid-set entries at new f within =
+    ap (λ (front : List Entry). front ++ f (drop (at + 1) (set entries at new))) (take_more_set entries at new within)
+    ∙ ap (λ (r : List Entry). (take at entries ++ new ∷ []) ++ f r) (drop-set-lt (at + 1) entries at new (omega arith))
+    ∙ append_assoc (take at entries) (new ∷ []) (f (drop (at + 1) entries))
+
+-- the fields of cells that are left, laid out: the first of them, and those behind it
+module _ (bytes : List ℕ) (bars : Bars) (line_length : ℕ) (asked : List Asked) where
+  abbrev pub laid_from : ℕ → List FormatKey → List Entry → List Entry
+  laid_from from keys entries = laid_entries bytes bars line_length (length asked) (by_cells from keys (drop from asked)) entries
+
+  abbrev pub laid_in : Cell → Entry → Entry
+  laid_in cell e = laid_entry bytes (measure_of bars line_length (length asked) (slice_range asked cell.from cell.end)) e
+
+  pub next-laid : (from : ℕ) (keys : List FormatKey) (at count : ℕ) (cell : Cell) (entries : List Entry) → CellsLeft (length asked) from (drop at keys) (count - at)
+      → at < count → at < length entries → IsFirst from (drop at keys) cell
+      → laid_from from (drop at keys) (drop at entries)
+      ≡ laid_in cell (get_or entries at no_entry) ∷ laid_from cell.end (drop (at + 1) keys) (drop (at + 1) entries)
+  next-laid from keys at count cell entries left some more is =
+      let e = get_or entries at no_entry in
+      let rest = drop (at + 1) entries in
+      let measured : ℕ → ℕ → Entry = λ start end. laid_entry bytes (measure_of bars line_length (length asked) (slice_range asked start end)) e in
+      ap (λ (es : List Entry). laid_from from (drop at keys) es) (drop_more entries at no_entry more)
+      ∙ ap (λ (cells : List (List Asked)). laid_entries bytes bars line_length (length asked) cells (e ∷ rest))
+      (by_cells-next asked from (drop at keys) (count - at) left (omega (arith, some)))
+      ∙ ap (λ (ks : List FormatKey). measured from (first_end from (drop at keys)) ∷ laid_from (first_end from (drop at keys)) ks rest) (keys-next keys at)
+      ∙ ap (λ (end : ℕ). measured from end ∷ laid_from end (drop (at + 1) keys) rest) (sym is.end_is)
+      ∙ ap (λ (start : ℕ). measured start cell.end ∷ laid_from cell.end (drop (at + 1) keys) rest) (sym is.from_is)

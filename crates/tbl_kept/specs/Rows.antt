@@ -1,9 +1,11 @@
 -- The rows, rules and commands of a table, as they are kept: their texts lie in the table's bytes (Lesk, "Tbl": Data).
 use Rattle.std.specs.Prelude.{◌≡◌, ℕ, zero, suc, ◌+◌, ◌-◌, ◌≤◌, ◌<◌, max, List, [], ◌∷◌, ◌++◌, length, map, take, drop, replicate, get_or}
 use Rattle.std.specs.List.{slice_range, AllByRecursion}
+use Rattle.tbl_format.specs.Cells.{cell_count}
 use Rattle.tbl_format.specs.Format.{FormatRow}
+use Rattle.tbl_format.specs.FormatRows.{AreWithin}
 use Rattle.tbl_format.specs.RowsServed.{row_at}
-use Rattle.tbl_layout.specs.Columns.{greatest, needing, needs_of}
+use Rattle.tbl_layout.specs.Columns.{greatest, needing, needs_of, row_stands}
 use Rattle.tbl_layout.specs.Entries.{Command as OneCommand, Content, Element, Row as OneRow, Rule as OneRule, completed, key_at}
 use Rattle.tbl_layout.specs.KeptEntries.{IsKept, IsLaid, content_of, lines_by, stands_of, with_end}
 use Rattle.tbl_kept.specs.declared.rows.Lent.{Lent}
@@ -55,7 +57,7 @@ entries_of k = entries_in k.elements + length k.row
 
 -- a column without an entry
 abbrev pub no_column : Column
-no_column = record { needs = needs_of []; measure = 0; bars = 0; width = 0; start = 0 }
+no_column = record { needs = needs_of []; bars = 0; width = 0; start = 0 }
 
 -- a further format is read, with which there are so many columns
 abbrev pub with_columns : ℕ → KeptRows → KeptRows
@@ -75,19 +77,22 @@ last_changed change (e ∷ next ∷ entries) = e ∷ last_changed change (next �
 abbrev pub with_block_end : ℕ → KeptRows → KeptRows
 with_block_end to k = record k { row = last_changed (with_end to) k.row }
 
+-- columns hold entries, each one of them
+abbrev pub held_by : List Stands → List Column → List Column
+held_by [] columns = columns
+held_by (entry ∷ entries) [] = []
+held_by (entry ∷ entries) (c ∷ columns) = record c { needs = needing c.needs entry } ∷ held_by entries columns
+
 -- columns hold the fields of a row in them, under its keys: behind these come such as `l`
-abbrev pub holding : FormatRow → ℕ → List Entry → List Column → List Column
-holding format column [] columns = columns
-holding format column (e ∷ entries) [] = []
-holding format column (e ∷ entries) (c ∷ columns) =
-    record c { needs = needing c.needs (stands_of (key_at format column) e) } ∷ holding format (suc column) entries columns
+abbrev pub holding : FormatRow → List Entry → List Column → List Column
+holding format entries columns = held_by (row_stands stands_of 0 format.keys entries) columns
 
 -- the row that is begun is whole, and this row of the formats serves it, in front of which so many rows of rule keys stand
 abbrev pub with_row : ℕ → ℕ → FormatRow → KeptRows → KeptRows
 with_row keys rules format k = record k {
   elements = k.elements ++ Row keys rules 1 k.row ∷ [];
   row = [];
-  columns = holding format 0 k.row k.columns;
+  columns = holding format k.row k.columns;
 }
 
 -- a rule
@@ -124,16 +129,16 @@ elements_of bytes formats elements = map (element_of bytes formats) elements
 
 -- the fields of a row are kept, each under its key
 abbrev pub AreKept : List ℕ → FormatRow → ℕ → List Entry → Type 0
-AreKept bytes format column [] = Unit {0}
-AreKept bytes format column (e ∷ entries) = IsKept bytes (key_at format column) e × AreKept bytes format (suc column) entries
+AreKept bytes format cell [] = Unit {0}
+AreKept bytes format cell (e ∷ entries) = IsKept bytes (key_at format cell) e × AreKept bytes format (suc cell) entries
 
--- a row of the formats serves a row, which has no more keys than there are columns, and behind that many in front of it; the row has at
--- most so many fields, all of which are kept
+-- a row of the formats serves a row, whose cells have no more columns than there are, and behind that many in front of it; the row has
+-- no more fields than cells, all of which are kept
 pub record RowKept (bytes : List ℕ) (formats : List FormatRow) (columns keys rules height : ℕ) (entries : List Entry) : Type 0 where
   pub serves : keys < length formats
   pub in_front : rules ≤ keys
-  pub few : length (row_at formats keys).keys ≤ columns
-  pub short : length entries ≤ columns
+  pub cells : AreWithin columns (row_at formats keys).keys
+  pub short : length entries ≤ cell_count (row_at formats keys).keys columns
   pub kept : AreKept bytes (row_at formats keys) 0 entries
   pub low : height ≡ 1
 
@@ -147,15 +152,10 @@ ElementKept bytes formats columns (Rule sign) = Unit {0}
 ElementKept bytes formats columns (Command from to) = CommandLies bytes from to
 
 -- how the fields of a column stand in it
-abbrev pub stands_at : FormatRow → ℕ → ℕ → List Entry → Stands
-stands_at format at column [] = Nowhere
-stands_at format at zero (e ∷ entries) = stands_of (key_at format at) e
-stands_at format at (suc column) (e ∷ entries) = stands_at format at column entries
-
 abbrev pub stands_in : List FormatRow → ℕ → List KeptElement → List Stands
 stands_in formats column [] = []
 stands_in formats column (Row keys rules height entries ∷ elements) =
-    stands_at (row_at formats keys) column column entries ∷ stands_in formats column elements
+    get_or (row_stands stands_of 0 (row_at formats keys).keys entries) column Nowhere ∷ stands_in formats column elements
 stands_in formats column (Rule sign ∷ elements) = stands_in formats column elements
 stands_in formats column (Command from to ∷ elements) = stands_in formats column elements
 
@@ -175,38 +175,33 @@ pub record RowsKept (bytes : List ℕ) (formats : List FormatRow) (k : KeptRows)
 pub record RowBegunKept (bytes : List ℕ) (formats : List FormatRow) (keys : ℕ) (k : KeptRows) : Type 0 where
   pub all : RowsKept bytes formats k
   pub row : AreKept bytes (row_at formats keys) 0 k.row
-  pub short : length k.row ≤ length k.columns
+  pub short : length k.row ≤ cell_count (row_at formats keys).keys (length k.columns)
 
 -- the lines of a row
 abbrev pub height_of : List Entry → ℕ
 height_of entries = max 1 (greatest (map (λ e. lines_by e.kind) entries))
 
--- the measures of columns
-abbrev pub measures : List Column → ℕ → ℕ
-measures columns at = get_or (map (λ c. c.measure) columns) at 0
+-- the fields of a row are laid out, each under its key
+abbrev pub AreLaid : List ℕ → FormatRow → ℕ → List Entry → Type 0
+AreLaid bytes format cell [] = Unit {0}
+AreLaid bytes format cell (e ∷ entries) = IsLaid bytes (key_at format cell) e × AreLaid bytes format (suc cell) entries
 
--- the fields of a row are laid out, each under its key and in the measure of its column
-abbrev pub AreLaid : List ℕ → List Column → FormatRow → ℕ → List Entry → Type 0
-AreLaid bytes columns format column [] = Unit {0}
-AreLaid bytes columns format column (e ∷ entries) =
-    IsLaid bytes (measures columns column) (key_at format column) e × AreLaid bytes columns format (suc column) entries
-
-pub record RowLaid (bytes : List ℕ) (formats : List FormatRow) (columns : List Column) (keys rules height : ℕ) (entries : List Entry) : Type 0 where
+pub record RowLaid (bytes : List ℕ) (formats : List FormatRow) (columns keys rules height : ℕ) (entries : List Entry) : Type 0 where
   pub serves : keys < length formats
   pub in_front : rules ≤ keys
-  pub few : length (row_at formats keys).keys ≤ length columns
-  pub short : length entries ≤ length columns
-  pub laid : AreLaid bytes columns (row_at formats keys) 0 entries
+  pub cells : AreWithin columns (row_at formats keys).keys
+  pub short : length entries ≤ cell_count (row_at formats keys).keys columns
+  pub laid : AreLaid bytes (row_at formats keys) 0 entries
   pub high : height ≡ height_of entries
 
-abbrev pub ElementLaid : List ℕ → List FormatRow → List Column → KeptElement → Type 0
+abbrev pub ElementLaid : List ℕ → List FormatRow → ℕ → KeptElement → Type 0
 ElementLaid bytes formats columns (Row keys rules height entries) = RowLaid bytes formats columns keys rules height entries
 ElementLaid bytes formats columns (Rule sign) = Unit {0}
 ElementLaid bytes formats columns (Command from to) = CommandLies bytes from to
 
 -- all rows are laid out in the columns
 abbrev pub RowsLaid : List ℕ → List FormatRow → KeptRows → Type 0
-RowsLaid bytes formats k = AllByRecursion (ElementLaid bytes formats k.columns) k.elements
+RowsLaid bytes formats k = AllByRecursion (ElementLaid bytes formats (length k.columns)) k.elements
 
 -- there is room for as much
 pub record SameRoom (old new : KeptRows) : Type 0 where

@@ -18,5 +18,5 @@ pub record BlockGrows (bytes : List ℕ) (e : Entry) (to : ℕ) : Type 0 where
 
 -- a block with a line more
 abbrev pub with_line : List ℕ → Content → Content
-with_line line (Block lines) = Block (lines ++ line ∷ [])
+with_line line (Block measure lines) = Block measure (lines ++ line ∷ [])
 with_line line content = content

@@ -1,20 +1,23 @@
 -- The rows of a table, as they are laid out: their blocks are filled, and columns hold them.
-use Rattle.std.specs.Prelude.{◌≡◌, ℕ, suc, ◌<◌, ◌≤◌, List, [], ◌∷◌, get_or, length, map, set}
+use Rattle.std.specs.Prelude.{◌≡◌, ℕ, ◌<◌, ◌≤◌, List, [], ◌∷◌, ◌++◌, drop, get_or, length, map, set, take}
 use Rattle.std.specs.List.{AllByRecursion}
+use Rattle.tbl_format.specs.Cells.{by_cells}
 use Rattle.tbl_format.specs.Format.{FormatRow}
 use Rattle.tbl_format.specs.RowsServed.{row_at}
 use Rattle.tbl_format.specs.declared.format.Asked.{Asked}
+use Rattle.tbl_format.specs.declared.format.FormatKey.{FormatKey}
 use Rattle.tbl_format.specs.declared.format.Key.{Key}
-use Rattle.tbl_layout.specs.Columns.{measure_of, needing, stands}
-use Rattle.tbl_layout.specs.Entries.{Block, key_at}
-use Rattle.tbl_layout.specs.KeptEntries.{block_filled, block_lines, not_filled}
+use Rattle.tbl_layout.specs.Columns.{row_stands}
+use Rattle.tbl_layout.specs.KeptEntries.{block_filled, block_lines, not_filled, stands_of}
+use Rattle.tbl_layout.specs.Spans.{Wide, all_fitted, measure_of, wide_entries}
+use Rattle.tbl_layout.specs.declared.bars.Bars.{Bars}
 use Rattle.tbl_layout.specs.declared.columns.Column.{Column}
 use Rattle.tbl_layout.specs.declared.columns.Stands.{Stands}
 use Rattle.tbl_layout.specs.declared.columns.Stands.TheVariants.{Nowhere}
 use Rattle.tbl_layout.specs.declared.entry.Entry.{Entry}
 use Rattle.tbl_layout.specs.declared.entry.EntryKind.{EntryKind}
 use Rattle.tbl_layout.specs.declared.entry.EntryKind.TheVariants.{Block as BlockKind, Split as SplitKind, Text as TextKind}
-use Rattle.tbl_kept.specs.Rows.{Command, KeptElement, KeptRows, Row, Rule, height_of, measures}
+use Rattle.tbl_kept.specs.Rows.{Command, KeptElement, KeptRows, Row, Rule, height_of, held_by}
 
 -- a field, if it is a block filled in a measure
 abbrev pub laid_by : EntryKind → List ℕ → ℕ → Entry → Entry
@@ -26,71 +29,82 @@ laid_by kind bytes measure e = e
 abbrev pub laid_entry : List ℕ → ℕ → Entry → Entry
 laid_entry bytes measure e = laid_by e.kind bytes measure e
 
--- the fields of a row, in the measures of their columns
-abbrev pub laid_entries : List ℕ → List ℕ → List Entry → List Entry
-laid_entries bytes [] entries = entries
-laid_entries bytes (measure ∷ measures) [] = []
-laid_entries bytes (measure ∷ measures) (e ∷ entries) = laid_entry bytes measure e ∷ laid_entries bytes measures entries
+-- the fields of a row, of whose cells so much is asked, in a table of so many columns
+abbrev pub laid_entries : List ℕ → Bars → ℕ → ℕ → List (List Asked) → List Entry → List Entry
+laid_entries bytes bars line_length count [] entries = entries
+laid_entries bytes bars line_length count (asked ∷ cells) [] = []
+laid_entries bytes bars line_length count (asked ∷ cells) (e ∷ entries) =
+    laid_entry bytes (measure_of bars line_length count asked) e ∷ laid_entries bytes bars line_length count cells entries
 
-abbrev pub laid_element : List ℕ → List ℕ → KeptElement → KeptElement
-laid_element bytes measures (Row keys rules height entries) =
-    Row keys rules (height_of (laid_entries bytes measures entries)) (laid_entries bytes measures entries)
-laid_element bytes measures (Rule sign) = Rule sign
-laid_element bytes measures (Command from to) = Command from to
+-- and under these keys
+abbrev pub laid_row : List ℕ → Bars → ℕ → List Asked → List FormatKey → List Entry → List Entry
+laid_row bytes bars line_length asked keys entries = laid_entries bytes bars line_length (length asked) (by_cells 0 keys asked) entries
 
--- how a field stands in its column once it is filled: a text stands in it already
-abbrev pub block_stands : EntryKind → List ℕ → ℕ → Key → Entry → Stands
-block_stands (TextKind glyphs width) bytes measure key e = Nowhere
-block_stands (SplitKind s) bytes measure key e = Nowhere
-block_stands (BlockKind b) bytes measure key e = stands measure key (Block (block_lines bytes e.from e.to))
-block_stands kind bytes measure key e = Nowhere
+abbrev pub laid_element : List ℕ → List FormatRow → Bars → ℕ → List Asked → KeptElement → KeptElement
+laid_element bytes formats bars line_length asked (Row keys rules height entries) =
+    let laid = laid_row bytes bars line_length asked (row_at formats keys).keys entries in Row keys rules (height_of laid) laid
+laid_element bytes formats bars line_length asked (Rule sign) = Rule sign
+laid_element bytes formats bars line_length asked (Command from to) = Command from to
 
--- a column that holds a block too, and columns that hold those of a row from one column on, and of an element
-abbrev pub holding_block : List ℕ → Key → Entry → Column → Column
-holding_block bytes key e c = record c { needs = needing c.needs (block_stands e.kind bytes c.measure key e) }
+-- how a field that is filled stands in its column, if it is a block: a text stands in it already
+abbrev pub block_stands_by : EntryKind → Key → Entry → Stands
+block_stands_by (BlockKind b) key e = stands_of key e
+block_stands_by kind key e = Nowhere
 
-abbrev pub holding_blocks : List ℕ → FormatRow → ℕ → List Entry → List Column → List Column
-holding_blocks bytes format column [] columns = columns
-holding_blocks bytes format column (e ∷ entries) [] = []
-holding_blocks bytes format column (e ∷ entries) (c ∷ columns) =
-    holding_block bytes (key_at format column) e c ∷ holding_blocks bytes format (suc column) entries columns
+abbrev pub block_stands : Key → Entry → Stands
+block_stands key e = block_stands_by e.kind key e
 
-abbrev pub blocks_held : List ℕ → List FormatRow → KeptElement → List Column → List Column
-blocks_held bytes formats (Row keys rules height entries) columns = holding_blocks bytes (row_at formats keys) 0 entries columns
-blocks_held bytes formats (Rule sign) columns = columns
-blocks_held bytes formats (Command from to) columns = columns
+-- columns of which those from one on hold entries, each one of them
+abbrev pub held_at : ℕ → List Stands → List Column → List Column
+held_at from entries columns = take from columns ++ held_by entries (drop from columns)
 
--- and of all of them
-abbrev pub all_held : List ℕ → List FormatRow → List KeptElement → List Column → List Column
-all_held bytes formats [] columns = columns
-all_held bytes formats (e ∷ elements) columns = all_held bytes formats elements (blocks_held bytes formats e columns)
+-- columns that hold the blocks of a row too, and of an element, and of all of them
+abbrev pub holding_blocks : List FormatKey → List Entry → List Column → List Column
+holding_blocks keys entries columns = held_by (row_stands block_stands 0 keys entries) columns
 
-abbrev pub measures_of : List Column → List ℕ
-measures_of columns = map (λ (c : Column). c.measure) columns
+abbrev pub blocks_held : List FormatRow → KeptElement → List Column → List Column
+blocks_held formats (Row keys rules height entries) columns = holding_blocks (row_at formats keys).keys entries columns
+blocks_held formats (Rule sign) columns = columns
+blocks_held formats (Command from to) columns = columns
+
+abbrev pub all_held : List FormatRow → List KeptElement → List Column → List Column
+all_held formats [] columns = columns
+all_held formats (e ∷ elements) columns = all_held formats elements (blocks_held formats e columns)
 
 -- one of the rows is laid out
 abbrev pub element_at : List KeptElement → ℕ → KeptElement
 element_at elements at = get_or elements at (Command 0 0)
 
-abbrev pub laid_at : List ℕ → List FormatRow → ℕ → KeptRows → KeptRows
-laid_at bytes formats at k = record k {
-  elements = set k.elements at (laid_element bytes (measures_of k.columns) (element_at k.elements at));
-  columns = blocks_held bytes formats (element_at k.elements at) k.columns;
-}
+abbrev pub laid_at : List ℕ → List FormatRow → Bars → ℕ → List Asked → ℕ → KeptRows → KeptRows
+laid_at bytes formats bars line_length asked at k =
+    let laid = laid_element bytes formats bars line_length asked (element_at k.elements at) in
+    record k { elements = set k.elements at laid; columns = blocks_held formats laid k.columns }
 
 -- all of them are
-abbrev pub all_laid : List ℕ → List FormatRow → KeptRows → KeptRows
-all_laid bytes formats k = record k {
-  elements = map (laid_element bytes (measures_of k.columns)) k.elements;
-  columns = all_held bytes formats k.elements k.columns;
-}
+abbrev pub all_laid : List ℕ → List FormatRow → Bars → ℕ → List Asked → KeptRows → KeptRows
+all_laid bytes formats bars line_length asked k =
+    let laid = map (laid_element bytes formats bars line_length asked) k.elements in
+    record k { elements = laid; columns = all_held formats laid k.columns }
 
--- columns with the measures of their blocks, in a table of so many, and with the bars behind them
-abbrev pub with_measures : ℕ → ℕ → List Asked → List Column → List Column
-with_measures line_length count [] columns = columns
-with_measures line_length count (a ∷ asked) [] = []
-with_measures line_length count (a ∷ asked) (c ∷ columns) =
-    record c { measure = measure_of line_length count a; bars = a.bars } ∷ with_measures line_length count asked columns
+-- a row of the formats serves a row
+abbrev pub ElementWithin : List FormatRow → KeptElement → Type 0
+ElementWithin formats (Row keys rules height entries) = keys < length formats
+ElementWithin formats (Rule sign) = Unit {0}
+ElementWithin formats (Command from to) = Unit {0}
+
+abbrev pub RowsWithin : List FormatRow → KeptRows → Type 0
+RowsWithin formats k = AllByRecursion (ElementWithin formats) k.elements
+
+-- the entries of several columns of what is kept, and columns that have room for them
+abbrev pub wide_in : List FormatRow → KeptElement → List Wide
+wide_in formats (Row keys rules height entries) = wide_entries stands_of 0 (row_at formats keys).keys entries
+wide_in formats (Rule sign) = []
+wide_in formats (Command from to) = []
+
+abbrev pub fitted_rows : List FormatRow → Bars → List Asked → List KeptElement → List Column → List Column
+fitted_rows formats bars asked [] columns = columns
+fitted_rows formats bars asked (e ∷ elements) columns =
+    fitted_rows formats bars asked elements (all_fitted bars asked (wide_in formats e) columns)
 
 -- a field lies within the table's bytes
 pub record FieldLies (bytes : List ℕ) (e : Entry) : Type 0 where
@@ -99,10 +113,6 @@ pub record FieldLies (bytes : List ℕ) (e : Entry) : Type 0 where
 
 abbrev pub FieldsLie : List ℕ → List Entry → Type 0
 FieldsLie bytes entries = AllByRecursion (FieldLies bytes) entries
-
--- no measure is too wide for the numbers of a column
-abbrev pub AreNarrow : List Column → Type 0
-AreNarrow columns = (column : ℕ) → measures columns column < 4294967296
 
 -- a field that isn't a filled block
 abbrev pub IsOpenedKind : EntryKind → Type 0

@@ -1,21 +1,26 @@
 //! The columns of a table, as they hold the fields of its rows (Lesk, "Tbl": Data, Text Blocks).
 
 ghost use Rattle.std.specs.Prelude.{◌≡◌, ℕ, ◌+◌, ◌-◌, ◌<◌, ◌≤◌, ◌^◌, ◌++◌, length, replicate};
-ghost use Rattle.std.specs.Prelude.{vec_capacity};
+ghost use Rattle.std.specs.Prelude.{get_or, map, slice_range, vec_capacity};
 ghost use Rattle.tbl_kept.specs.Rows.{height_of, holding, no_column};
-ghost use Rattle.tbl_kept.specs.RowsLaying.{AreNarrow, AreOpened, FieldLies, FieldsLie};
-ghost use Rattle.tbl_kept.specs.RowsLaying.{IsOpenedKind, holding_block, holding_blocks};
-ghost use Rattle.tbl_kept.specs.RowsLaying.{laid_entries, laid_entry, measures_of, with_measures};
-ghost use Rattle.tbl_layout.specs.Columns.{measure_of, needing};
+ghost use Rattle.tbl_format.specs.Cells.{cell_count};
+ghost use Rattle.tbl_format.specs.FormatRows.{AreWithin};
+ghost use Rattle.tbl_kept.specs.RowsLaying.{AreOpened, FieldLies, FieldsLie, IsOpenedKind};
+ghost use Rattle.tbl_kept.specs.RowsLaying.{block_stands, held_at, holding_blocks, laid_entry};
+ghost use Rattle.tbl_kept.specs.RowsLaying.{laid_row};
+ghost use Rattle.tbl_layout.specs.Columns.{alone, in_columns, in_strip, needing};
+ghost use Rattle.tbl_layout.specs.Spans.{all_fitted, if_wide, measure_of, wide_entries};
 ghost use Rattle.tbl_layout.specs.Entries.{key_at};
-ghost use Rattle.tbl_layout.specs.KeptEntries.{block_filled, block_lines, lines_by, stands_of};
+ghost use Rattle.tbl_layout.specs.KeptEntries.{block_filled, block_lines, stands_of};
 ghost use Rattle.tbl_text.specs.BlockLines.{lines_of, widest};
 ghost use Rattle.tbl_text.specs.BlockWords.{parts_of};
 
 use roff_escape::OpenEscapes;
 use tbl_format::format::{Asked, FormatKey, Key};
-use tbl_layout::columns::{Column, Needs, block_measure, unsplit};
+use tbl_layout::bars::Bars;
+use tbl_layout::columns::{Column, Needs, Stands, fit, unsplit};
 use tbl_layout::entry::{Entry, EntryKind};
+use tbl_layout::measures::Filling;
 use tbl_text::block_lines::fill;
 use tbl_text::block_parts::BlockPlace;
 
@@ -31,90 +36,124 @@ pub fn add_columns(columns: &mut Vec<Column>, count: usize)
     }
 }
 
-/// Each column has the measure of its blocks, and the most bars behind it.
-pub fn set_measures(columns: &mut [Column], asked: &[Asked], line_length: u32)
-    requires { length columns.old ≡ length asked.now }
-    ensures value { columns.new
-        ≡ with_measures line_length (length columns.old) asked.now columns.old }
-    ensures narrow { AreNarrow columns.new }
-{
-    let count = columns.len();
-    for at in 0..count.min(asked.len()) {
-        let mut column = columns[at];
-        column.measure = measure(line_length, count, asked[at]) as u32;
-        column.bars = asked[at].bars;
-        columns[at] = column;
-    }
+/// A cell of a row: its key, and the columns that it has, behind so many and up to its last one.
+#[derive(Clone, Copy)]
+struct Cell {
+    key: Key,
+    from: usize,
+    end: usize,
 }
 
-/// The measure of the blocks of a column, in a table of so many.
-fn measure(line_length: u32, count: usize, asked: Asked) -> u64
-    requires { count < 2 ^ 63 }
-    ensures value { result ≡ measure_of line_length count asked }
-    ensures narrow { result < 2 ^ 32 }
-{
-    match asked.least {
-        Some(least) => u64::from(least),
-        None => block_measure(line_length, count, asked),
-    }
-}
-
-/// The blocks of a row are filled, each in its column and under its key. Answers how many lines the
+/// The blocks of a row are filled, each in its cell and under its key. Answers how many lines the
 /// row has.
 pub fn fill_fields(
     escapes: &mut OpenEscapes,
     bytes: &[u8],
+    filling: Filling<'_>,
     keys: &[FormatKey],
     entries: &mut [Entry],
     columns: &mut [Column],
 ) -> u32
     requires small { length bytes.now < 2 ^ 32 }
-    requires short { length entries.old ≤ length columns.old }
+    requires cells { AreWithin (length filling.asked.now) keys.now }
+    requires columns { length columns.old ≡ length filling.asked.now }
+    requires few { length filling.asked.now < 2 ^ 32 }
+    requires short { length entries.old ≤ cell_count keys.now (length columns.old) }
     requires lie { FieldsLie bytes.now entries.old }
-    requires narrow { AreNarrow columns.old }
-    ensures entries { entries.new ≡ laid_entries bytes.now (measures_of columns.old) entries.old }
-    ensures columns { (bars : ℕ) → columns.new ≡ holding_blocks bytes.now
-        (record { keys = keys.now; bars = bars }) 0 entries.old columns.old }
+    ensures entries { entries.new ≡ laid_row bytes.now filling.entry.bars filling.entry.line_length
+        filling.entry.asked.now keys.now entries.old }
+    ensures columns { columns.new ≡ holding_blocks keys.now entries.new columns.old }
     ensures height { result ≡ height_of entries.new }
     ensures room { escapes.new.room ≡ escapes.old.room }
 {
     let mut height = 1;
+    let mut from = 0;
     for at in 0..entries.len() {
-        let key = key_at(keys, at);
-        let lines = fill_field(escapes, bytes, key, &mut entries[at], &mut columns[at]);
-        height = lines.max(height);
+        let cell = cell_behind(keys, at, from);
+        let entry = fill_field(escapes, bytes, filling, cell, entries[at], columns);
+        entries[at] = entry;
+        height = entry.lines().max(height);
+        from = cell.end;
     }
     height
 }
 
-/// A field is filled, if it is a block, in its column and under its key. Answers its lines.
+/// A cell of a row, which begins behind so many columns.
+// It is called for each cell.
+#[inline(always)]
+fn cell_behind(keys: &[FormatKey], at: usize, from: usize) -> Cell
+    requires { from < 2 ^ 63 }
+    ensures key { (bars : ℕ) → result.key
+        ≡ key_at (record { keys = keys.now; bars = bars }) at }
+    ensures from { result.from ≡ from }
+    ensures end { result.end ≡ get_or (map (λ k. k.end) keys.now) at (from + 1) }
+{
+    match keys.get(at) {
+        Some(key) => Cell {
+            key: key.key,
+            from,
+            end: key.end as usize,
+        },
+        None => Cell {
+            key: Key::Left,
+            from,
+            end: from + 1,
+        },
+    }
+}
+
+/// A field of a cell is filled, if it is a block, and the cell's columns hold it.
+// It is called for each cell.
+#[inline(always)]
 fn fill_field(
     escapes: &mut OpenEscapes,
     bytes: &[u8],
-    key: Key,
-    entry: &mut Entry,
-    column: &mut Column,
-) -> u32
+    filling: Filling<'_>,
+    cell: Cell,
+    entry: Entry,
+    columns: &mut [Column],
+) -> Entry
     requires small { length bytes.now < 2 ^ 32 }
-    requires lies { FieldLies bytes.now entry.old }
-    requires narrow { column.old.measure < 2 ^ 32 }
-    ensures entry { entry.new ≡ laid_entry bytes.now column.old.measure entry.old }
-    ensures column { column.new ≡ holding_block bytes.now key entry.old column.old }
-    ensures lines { result ≡ lines_by entry.new.kind }
+    requires lies { FieldLies bytes.now entry }
+    requires order { cell.from < cell.end }
+    requires within { cell.end ≤ length filling.asked.now }
+    requires columns { length columns.old ≡ length filling.asked.now }
+    requires few { length filling.asked.now < 2 ^ 32 }
+    ensures entry { result ≡ laid_entry bytes.now
+        (measure_of filling.entry.bars filling.entry.line_length (length filling.entry.asked.now)
+        (slice_range filling.entry.asked.now cell.from cell.end)) entry }
+    ensures columns { columns.new ≡ held_at cell.from
+        (in_columns (cell.end - cell.from) (block_stands cell.key result)) columns.old }
     ensures room { escapes.new.room ≡ escapes.old.room }
 {
     if let EntryKind::Block(_) = entry.kind {
-        *entry = filled(escapes, bytes, *entry, u64::from(column.measure));
-        column.needs = column.needs.with(entry.stands(key));
+        let measure = filling.measure(cell.from, cell.end);
+        let block = filled(escapes, bytes, entry, measure);
+        hold_entry(columns, cell, block.stands(cell.key));
+        return block;
     }
-    entry.lines()
+    entry
+}
+
+/// The column of a cell of one column holds an entry more.
+fn hold_entry(columns: &mut [Column], cell: Cell, entry: Stands)
+    requires order { cell.from < cell.end }
+    requires within { cell.end ≤ length columns.old }
+    requires width { in_strip entry < 2 ^ 64 }
+    ensures { columns.new
+        ≡ held_at cell.from (in_columns (cell.end - cell.from) entry) columns.old }
+{
+    if cell.end - cell.from == 1 {
+        let mut column = columns[cell.from];
+        column.needs = column.needs.with(entry);
+        columns[cell.from] = column;
+    }
 }
 
 /// A block, filled in a measure.
-fn filled(escapes: &mut OpenEscapes, bytes: &[u8], entry: Entry, measure: u64) -> Entry
+fn filled(escapes: &mut OpenEscapes, bytes: &[u8], entry: Entry, measure: u32) -> Entry
     requires small { length bytes.now < 2 ^ 32 }
     requires lies { FieldLies bytes.now entry }
-    requires narrow { measure < 2 ^ 32 }
     ensures value { result ≡ record entry {
       kind = EntryKind.Block
           (block_filled measure (block_lines bytes.now entry.from entry.to));
@@ -124,23 +163,87 @@ fn filled(escapes: &mut OpenEscapes, bytes: &[u8], entry: Entry, measure: u64) -
         < 2 ^ 34 }
     ensures room { escapes.new.room ≡ escapes.old.room }
 {
+    let width = u64::from(measure);
     if entry.from == entry.to {
-        return entry.filled(fill(escapes, &[], BlockPlace::AtEnd, measure));
+        return entry.filled(measure, fill(escapes, &[], BlockPlace::AtEnd, width));
     }
     let lines = &bytes[entry.from as usize + 1..entry.to as usize];
-    entry.filled(fill(escapes, lines, BlockPlace::first(), measure))
+    entry.filled(measure, fill(escapes, lines, BlockPlace::first(), width))
 }
 
 /// Columns hold the fields of a row in them, under its keys.
 pub fn hold(columns: &mut [Column], keys: &[FormatKey], entries: &[Entry])
-    requires { AreOpened entries.now }
+    requires opened { AreOpened entries.now }
+    requires cells { AreWithin (length columns.old) keys.now }
+    requires short { length entries.now ≤ cell_count keys.now (length columns.old) }
     ensures { (bars : ℕ) → columns.new
-        ≡ holding (record { keys = keys.now; bars = bars }) 0 entries.now columns.old }
+        ≡ holding (record { keys = keys.now; bars = bars }) entries.now columns.old }
 {
-    for at in 0..entries.len().min(columns.len()) {
-        let mut column = columns[at];
-        column.needs = needs_with(column.needs, key_at(keys, at), entries[at]);
-        columns[at] = column;
+    let mut from = 0;
+    for at in 0..entries.len() {
+        let cell = cell_behind(keys, at, from);
+        hold_field(columns, cell, entries[at]);
+        from = cell.end;
+    }
+}
+
+/// The column of a cell of one column holds a field that isn't a filled block.
+// It is called for each cell.
+#[inline(always)]
+fn hold_field(columns: &mut [Column], cell: Cell, entry: Entry)
+    requires opened { IsOpenedKind entry.kind }
+    requires order { cell.from < cell.end }
+    requires within { cell.end ≤ length columns.old }
+    ensures { columns.new ≡ held_at cell.from
+        (in_columns (cell.end - cell.from) (stands_of cell.key entry)) columns.old }
+{
+    if cell.end - cell.from == 1 {
+        let mut column = columns[cell.from];
+        column.needs = needs_with(column.needs, cell.key, entry);
+        columns[cell.from] = column;
+    }
+}
+
+/// Columns have room for the entries of a row that go over several of them.
+pub fn fit_fields(
+    columns: &mut [Column],
+    bars: Bars,
+    asked: &[Asked],
+    keys: &[FormatKey],
+    entries: &[Entry],
+)
+    requires cells { AreWithin (length columns.old) keys.now }
+    requires columns { length columns.old ≡ length asked.now }
+    requires few { length columns.old < 2 ^ 32 }
+    ensures { columns.new ≡ all_fitted bars asked.now
+        (wide_entries stands_of 0 keys.now entries.now) columns.old }
+{
+    let mut from = 0;
+    for at in 0..entries.len().min(keys.len()) {
+        let cell = cell_behind(keys, at, from);
+        fit_field(columns, bars, asked, cell, entries[at]);
+        from = cell.end;
+    }
+}
+
+/// The columns of a cell have room for its entry, if it goes over several of them.
+fn fit_field(columns: &mut [Column], bars: Bars, asked: &[Asked], cell: Cell, entry: Entry)
+    requires order { cell.from < cell.end }
+    requires within { cell.end ≤ length columns.old }
+    requires columns { length columns.old ≡ length asked.now }
+    requires few { length columns.old < 2 ^ 32 }
+    ensures { columns.new ≡ all_fitted bars asked.now
+        (if_wide cell.from (cell.end - cell.from) (alone (stands_of cell.key entry)))
+        columns.old }
+{
+    if cell.end - cell.from > 1 {
+        let own = &mut columns[cell.from..cell.end];
+        fit(
+            own,
+            bars,
+            &asked[cell.from..cell.end],
+            entry.stands(cell.key).alone(),
+        );
     }
 }
 
@@ -164,11 +267,11 @@ fn needs_with(needs: Needs, key: Key, entry: Entry) -> Needs
     }
 }
 
-/// The key of a column: behind those of a row come such as `l`.
-pub fn key_at(keys: &[FormatKey], column: usize) -> Key
-    ensures { (bars : ℕ) → result ≡ key_at (record { keys = keys.now; bars = bars }) column }
+/// The key of a cell: behind those of a row come such as `l`.
+pub fn key_at(keys: &[FormatKey], cell: usize) -> Key
+    ensures { (bars : ℕ) → result ≡ key_at (record { keys = keys.now; bars = bars }) cell }
 {
-    match keys.get(column) {
+    match keys.get(cell) {
         Some(key) => key.key,
         None => Key::Left,
     }

@@ -1,27 +1,21 @@
 //! The rows, rules and commands of a table, as they are kept (Lesk, "Tbl": Data).
 
-ghost use Rattle.std.specs.Prelude.{◌≡◌, ℕ, suc, ◌+◌, ◌<◌, ◌≤◌, ◌^◌, List, [], ◌∷◌, length, drop};
+ghost use Rattle.std.specs.Prelude.{◌≡◌, ℕ, suc, ◌+◌, ◌<◌, ◌≤◌, ◌^◌, [], ◌∷◌, length, drop};
 ghost use Rattle.std.specs.Prelude.{IfOk};
-ghost use Rattle.std.specs.List.{AllByRecursion};
-ghost use Rattle.tbl_format.specs.Format.{FormatRow};
-ghost use Rattle.tbl_format.specs.RowsServed.{all_rows};
-ghost use Rattle.tbl_layout.specs.Columns.{columns_laid, equalled, placed_with};
-ghost use Rattle.tbl_layout.specs.Columns.{width_of_all, with_widths};
-ghost use Rattle.tbl_kept.specs.Rows.{ElementKept};
-ghost use Rattle.tbl_kept.specs.RowsLaying.{AreNarrow, AreOpened, all_laid, element_at, laid_at};
-ghost use Rattle.tbl_kept.specs.RowsLaying.{with_measures};
+ghost use Rattle.tbl_format.specs.Cells.{cell_count};
+ghost use Rattle.tbl_format.specs.FormatRows.{AreWithin};
+ghost use Rattle.tbl_kept.specs.RowsLaying.{AreOpened};
 
 pub use crate::held_columns::key_at;
-use crate::held_columns::{add_columns, fill_fields, hold, set_measures};
-use roff_escape::OpenEscapes;
+use crate::held_columns::{add_columns, hold};
 use std::alloc::{AllocError, Global};
 use std::marker::Model;
-use tbl_format::format::{Asked, FormatKey};
-use tbl_format::format_rows::FormatRows;
-use tbl_layout::bars::Bars;
-use tbl_layout::columns::{Column, set_starts, set_widths};
+use tbl_format::format::FormatKey;
+use tbl_layout::columns::Column;
 use tbl_layout::data_lines::RuleSign;
 use tbl_layout::entry::Entry;
+
+mod laying;
 
 /// What stands in a table.
 #[derive(Clone, Copy)]
@@ -88,11 +82,11 @@ impl Model for TableRows {
 }
 
 impl TableRows {
-    ghost use Rattle.tbl_kept.specs.Rows.{cleared, elements_of, entries_of, no_rows};
+    ghost use Rattle.tbl_kept.specs.Rows.{cleared, entries_of, no_rows};
     ghost use Rattle.tbl_kept.specs.Rows.{with_block_end};
     ghost use Rattle.tbl_kept.specs.Rows.{with_columns, with_command, with_entry, with_row};
     ghost use Rattle.tbl_kept.specs.Rows.{with_rule};
-    ghost use Rattle.tbl_kept.specs.Rows.{RowsKept, RowsLaid, SameRoom, lent};
+    ghost use Rattle.tbl_kept.specs.Rows.{lent};
 
     /// Nothing, with room for so many fields, rows and commands, and columns.
     pub fn new(
@@ -165,6 +159,8 @@ impl TableRows {
         requires rules { rules ≤ keys }
         requires few { entries_of self.old < 2 ^ 32 }
         requires opened { AreOpened self.old.row }
+        requires cells { AreWithin (length self.old.columns) format.now }
+        requires short { length self.old.row ≤ cell_count format.now (length self.old.columns) }
         requires room { length self.old.elements < self.old.element_room }
         ensures { (bars : ℕ) → self.new
             ≡ with_row keys rules (record { keys = format.now; bars = bars }) self.old }
@@ -232,112 +228,5 @@ impl TableRows {
         ensures { result.now ≡ self.now.columns }
     {
         self.columns.as_slice()
-    }
-
-    /// The table is whole: its blocks are filled, and its columns have their widths.
-    pub fn set_widths(
-        &mut self,
-        escapes: &mut OpenEscapes,
-        bytes: &[u8],
-        format: &FormatRows,
-        line_length: u32,
-    )
-        requires small { length bytes.now < 2 ^ 32 }
-        requires kept { RowsKept bytes.now (all_rows format.now.format) self.old }
-        requires columns { length self.old.columns ≡ length format.now.format.asked }
-        requires none { self.old.row ≡ [] }
-        ensures laid { RowsLaid bytes.now (all_rows format.now.format) self.new }
-        ensures elements { elements_of bytes.now (all_rows format.now.format) self.new.elements
-            ≡ elements_of bytes.now (all_rows format.now.format) self.old.elements }
-        ensures columns { self.new.columns ≡ columns_laid line_length format.now.format.asked
-            (elements_of bytes.now (all_rows format.now.format) self.old.elements) }
-        ensures count { length self.new.elements ≡ length self.old.elements }
-        ensures rooms { SameRoom self.old self.new }
-        ensures room { escapes.new.room ≡ escapes.old.room }
-    {
-        self.set_measures(format.asked(), line_length);
-        self.fill_rows(escapes, bytes, format);
-        self.widen(format.asked());
-    }
-
-    /// Each column has its place: so many columns of the page more are spread over the gaps.
-    pub fn set_starts(&mut self, bars: Bars, asked: &[Asked], more: usize)
-        requires { width_of_all bars self.old.columns asked.now + more < 2 ^ 32 }
-        ensures value { self.new ≡ record self.old
-            { columns = placed_with bars more asked.now self.old.columns } }
-        ensures laid { (bytes : List ℕ) (formats : List FormatRow) → RowsLaid bytes formats self.old
-            → RowsLaid bytes formats self.new }
-    {
-        self.place(bars, asked, more);
-    }
-
-    /// Each column has the measure of its blocks.
-    fn set_measures(&mut self, asked: &[Asked], line_length: u32)
-        requires { length self.old.columns ≡ length asked.now }
-        ensures value { self.new ≡ record self.old {
-          columns
-              = with_measures line_length (length asked.now) asked.now self.old.columns;
-        } }
-        ensures narrow { AreNarrow self.new.columns }
-    {
-        set_measures(self.columns.as_mut_slice(), asked, line_length);
-    }
-
-    /// Each column has its width.
-    fn widen(&mut self, asked: &[Asked])
-        ensures { self.new ≡ record self.old {
-          columns
-              = equalled asked.now (with_widths asked.now self.old.columns);
-        } }
-    {
-        set_widths(self.columns.as_mut_slice(), asked);
-    }
-
-    /// Each column has its place.
-    fn place(&mut self, bars: Bars, asked: &[Asked], more: usize)
-        requires { width_of_all bars self.old.columns asked.now + more < 2 ^ 32 }
-        ensures { self.new ≡ record self.old
-            { columns = placed_with bars more asked.now self.old.columns } }
-    {
-        set_starts(self.columns.as_mut_slice(), bars, asked, more);
-    }
-
-    /// The blocks of all rows are filled.
-    fn fill_rows(&mut self, escapes: &mut OpenEscapes, bytes: &[u8], format: &FormatRows)
-        requires small { length bytes.now < 2 ^ 32 }
-        requires kept { AllByRecursion (ElementKept bytes.now (all_rows format.now.format)
-            (length self.old.columns)) self.old.elements }
-        requires narrow { AreNarrow self.old.columns }
-        ensures value { self.new
-            ≡ all_laid bytes.now (all_rows format.now.format) self.old }
-        ensures room { escapes.new.room ≡ escapes.old.room }
-    {
-        for at in 0..self.elements.len() {
-            self.fill_row(escapes, bytes, format, at);
-        }
-    }
-
-    /// The blocks of a row are filled: it is as high as the highest.
-    fn fill_row(&mut self, escapes: &mut OpenEscapes, bytes: &[u8], format: &FormatRows, at: usize)
-        requires small { length bytes.now < 2 ^ 32 }
-        requires at { at < length self.old.elements }
-        requires kept { ElementKept bytes.now (all_rows format.now.format)
-            (length self.old.columns) (element_at self.old.elements at) }
-        requires narrow { AreNarrow self.old.columns }
-        ensures value { self.new ≡ laid_at bytes.now (all_rows format.now.format) at self.old }
-        ensures room { escapes.new.room ≡ escapes.old.room }
-    {
-        if let Element::Row(row) = self.elements[at] {
-            let keys = format.row_of_all(row.keys as usize);
-            let entries = &mut self.entries.as_mut_slice()[row.from as usize..row.to as usize];
-            let height = fill_fields(escapes, bytes, keys, entries, self.columns.as_mut_slice());
-            self.elements[at] = Element::Row(KeptRow {
-                keys: row.keys,
-                rules: row.rules,
-                height,
-                from: row.from,
-                to: row.to,
-            });
-        }
     }
 }

@@ -7,4 +7,9 @@ pub mod LastField
 pub mod LastBars
 pub mod TextStands
 pub mod UnderKeys
+pub mod RowStands
 pub mod LayoutLaws
+pub mod Spreading
+pub mod BlocksFilled
+pub mod CellsAsOne
+pub mod SpanLaws

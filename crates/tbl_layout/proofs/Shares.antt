@@ -1,6 +1,7 @@
 -- The parts of what is spread that fall to fronts of all gaps.
-use Rattle.std.proofs.Common.{◌≡◌, ℕ, suc, zero, ◌+◌, ◌-◌, ◌*◌, ◌/◌, ◌≤◌, Bool, ap, subst, arith, if◌then◌else◌, ne_eqb}
-use Rattle.std.proofs.lemmas.Nat.{div_below, le-div}
+use Rattle.std.proofs.Common.{◌≡◌, ℕ, suc, zero, ◌+◌, ◌-◌, ◌*◌, ◌/◌, ◌%◌, ◌<◌, ◌≤◌, Bool, ap, subst, ◌∙◌, arith, if◌then◌else◌, ne_eqb}
+use Rattle.std.proofs.Math.Nat.{add-mul-div_left}
+use Rattle.std.proofs.lemmas.Nat.{div-add-mod', div_below, le-div}
 use native.Mathlib.Nat.{div-mul-le_self}
 use Rattle.tbl_layout.specs.Columns.{share}
 
@@ -32,3 +33,23 @@ share-within more (suc front) behind =
 pub share-most : (more front all : ℕ) → front ≤ all → share more front all ≤ more
 share-most more front all within =
     subst (λ (n : ℕ). share more front n ≤ more) (omega (arith, within)) (share-within more front (all - front))
+
+-- the front of a spread, whole parts apart: these are alike for all that it is spread over
+parts-front : (n more count : ℕ) → 0 < count → n * more / count ≡ n * (more % count) / count + n * (more / count)
+parts-front n more count some =
+    let split : n * (more / count * count + more % count) ≡ n * more = ap (λ (m : ℕ). n * m) (div-add-mod' more count) in
+    let whole : n * more ≡ n * (more % count) + count * (n * (more / count)) = omega (arith, split) in
+    ap (λ (m : ℕ). m / count) whole ∙ add-mul-div_left (n * (more % count)) (n * (more / count)) some
+
+-- a longer front of what is spread evenly has no less
+pub part-grows : (at more count : ℕ) → 0 < count → at * more / count ≤ (at + 1) * more / count
+part-grows at more count some =
+    le-div (at * more / count) ((at + 1) * more) count some (omega (arith, div-mul-le_self (at * more) count))
+
+-- so the part of one is a whole part, and what its front adds to the rest
+pub part-is : (at more count : ℕ) → 0 < count
+    → more / count + ((at + 1) * (more % count) / count - at * (more % count) / count) ≡ suc at * more / count - at * more / count
+part-is at more count some =
+    let next : suc at * more / count ≡ (at + 1) * more / count = ap (λ (n : ℕ). n * more / count) (omega arith) in
+    let grows = part-grows at (more % count) count some in
+    omega (arith, next, grows, parts-front (at + 1) more count some, parts-front at more count some)

@@ -21,15 +21,15 @@ kind-stands key from glyphs width None = refl
 kind-stands key from glyphs width (Some s) = refl
 
 -- and so does a text as its field is kept
-pub text-stands : (measure : ℕ) (key : Key) (from : ℕ) (text : List ℕ)
-    → stands_of key (text_entry (is_number key) from text) ≡ stands measure key (Text text)
-text-stands measure key from [] =
+pub text-stands : (key : Key) (from : ℕ) (text : List ℕ)
+    → stands_of key (text_entry (is_number key) from text) ≡ stands key (Text text)
+text-stands key from [] =
     let m = measured (is_number key) [] in
     let end : from ≡ from + 0 = omega arith in
     ap (λ (split : Option Split). stands_by key (kind_with from (from + m.glyphs) m.width split) (from == from + 0))
     (empty-split (is_number key))
     ∙ ap (λ (is_empty : Bool). stands_by key (TextKind (from + m.glyphs) m.width) is_empty) (eq-eqb from (from + 0) end)
-text-stands measure key from (b ∷ text) =
+text-stands key from (b ∷ text) =
     let m = measured (is_number key) (b ∷ text) in
     let some : (from == from + length (b ∷ text)) ≡ false = ne_eqb from (from + length (b ∷ text)) (λ same. omega (arith, same)) in
     ap (λ (is_empty : Bool). stands_by key (kind_with from (from + m.glyphs) m.width m.split) is_empty) some

@@ -5,12 +5,9 @@ use Rattle.std.proofs.lemmas.Option.{slice_get-get_or}
 use Rattle.std.proofs.lemmas.List.{drop-drop, get_or-append_right, length-map, map-append}
 use Rattle.tbl_format.specs.Format.{FormatRow}
 use Rattle.tbl_format.specs.declared.format.FormatKey.{FormatKey}
-use Rattle.tbl_format.specs.declared.format.Key.{Key}
-use Rattle.tbl_layout.specs.Columns.{stands}
-use Rattle.tbl_layout.specs.Entries.{Content, Ruled, Text, completed, field_at}
+use Rattle.tbl_layout.specs.Entries.{Content, Ruled, Text, completed}
 use Rattle.tbl_layout.specs.KeptEntries.{all_entries, content_of, entry_under, no_entry, rule_of}
 use Rattle.tbl_layout.specs.RuleKeys.{in_front_of, rule_sign, under_keys}
-use Rattle.tbl_layout.specs.declared.columns.Stands.TheVariants.{Nowhere}
 use Rattle.tbl_layout.specs.declared.data_lines.RuleSign.{RuleSign}
 use Rattle.tbl_layout.specs.declared.entry.Entry.{Entry}
 
@@ -96,27 +93,6 @@ module _ {A : Type 0} (ruled : RuleSign → A) (empty : A) where
   map-under f (k ∷ keys) =
       map-in_front f (rule_sign k.key) (under_keys ruled empty keys)
       ∙ ap (λ fields. in_front_of (λ (s : RuleSign). f (ruled s)) (f empty) (rule_sign k.key) fields) (map-under f keys)
-
--- rules and empty texts under keys stand nowhere
-module _ (measure : ℕ) (key : Key) where
-  under-nowhere : (sign : Option RuleSign) → stands measure key (by_sign Ruled (Text []) sign) ≡ Nowhere
-  under-nowhere (Some sign) = refl
-  under-nowhere None = refl
-
-  key-nowhere : (k : Option FormatKey) → stands measure key (by_key Ruled (Text []) k) ≡ Nowhere
-  key-nowhere None = refl
-  key-nowhere (Some k) = under-nowhere (rule_sign k.key)
-
-  stands-under : (fields : List Content) (keys : List FormatKey) (column : ℕ)
-      → stands measure key (field_at (fields ++ under_keys Ruled (Text []) keys) column) ≡ stands measure key (field_at fields column)
-  stands-under [] keys column = ap (stands measure key) (get_or-under Ruled (Text []) keys column) ∙ key-nowhere (slice_get keys column)
-  stands-under (field ∷ fields) keys zero = refl
-  stands-under (field ∷ fields) keys (suc column) = stands-under fields keys column
-
-  -- so the fields of a row stand as they did before it was completed
-  pub stands-completed : (format : FormatRow) (fields : List Content) (column : ℕ)
-      → stands measure key (field_at (completed format fields) column) ≡ stands measure key (field_at fields column)
-  stands-completed format fields column = stands-under fields (drop (length fields) format.keys) column
 
 -- the fields of a row that is kept, with what stands behind them
 pub contents-completed : (bytes : List ℕ) (format : FormatRow) (entries : List Entry)

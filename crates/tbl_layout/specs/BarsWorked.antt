@@ -34,7 +34,7 @@ edges boxing line = edges_by boxing (format_of line)
 
 -- a column that begins at a place, 5 columns wide
 abbrev pub column_from : ℕ → Column
-column_from start = record { needs = needs_of []; measure = 0; bars = 0; width = 5; start = start }
+column_from start = record { needs = needs_of []; bars = 0; width = 5; start = start }
 
 -- how far behind a column so many bars begin, where so many places are left behind it
 abbrev pub behind_column : ℕ → ℕ → ℕ

@@ -1,9 +1,10 @@
 -- The columns of a table: how wide they are, and where they begin (Lesk, "Tbl": Format, Formatting).
-use Rattle.std.specs.Prelude.{ℕ, suc, ◌+◌, ◌-◌, ◌*◌, ◌/◌, ◌≤◌, max, min, Bool, not, ◌&&◌, List, [], ◌∷◌, length, map, Contains, Option, None, Some, unwrap_or, if◌then◌else◌, ◌==◌}
+use Rattle.std.specs.Prelude.{ℕ, suc, ◌+◌, ◌-◌, ◌*◌, ◌/◌, ◌≤◌, max, min, Bool, not, ◌&&◌, List, [], ◌∷◌, ◌++◌, get_or, map, replicate, Contains, Option, None, Some, unwrap_or, if◌then◌else◌, ◌==◌}
 use Rattle.tbl_format.specs.declared.format.Asked.{Asked}
+use Rattle.tbl_format.specs.declared.format.FormatKey.{FormatKey}
 use Rattle.tbl_format.specs.declared.format.Key.{Key}
-use Rattle.tbl_format.specs.declared.format.Key.TheVariants.{Alphabetic, Center, Numeric, Right}
-use Rattle.tbl_layout.specs.Entries.{Block, Command, Content, Element, Row, Rule, Text, field_at, is_number, key_at}
+use Rattle.tbl_format.specs.declared.format.Key.TheVariants.{Alphabetic, Center, Left, Numeric, Right, WideNumeric}
+use Rattle.tbl_layout.specs.Entries.{Block, Command, Content, Element, Row, Rule, Text, is_number}
 use Rattle.tbl_layout.specs.Widths.{left_edge, right_edge, separation}
 use Rattle.tbl_layout.specs.declared.bars.Bars.{Bars}
 use Rattle.tbl_layout.specs.declared.columns.Column.{Column}
@@ -29,12 +30,12 @@ text_stands key columns (Some s) = Apart s.left (columns - s.left)
 abbrev pub block_stands : ℕ → Key → List Part → Stands
 block_stands measure key parts = if has_word parts then unsplit key (widest (lines_of measure parts)) else Nowhere
 
--- the entry that a field is under its key; its column gives its blocks this measure; rules are none
-abbrev pub stands : ℕ → Key → Content → Stands
-stands measure key (Text []) = Nowhere
-stands measure key (Text (b ∷ bytes)) = let m = measured (is_number key) (b ∷ bytes) in text_stands key m.width m.split
-stands measure key (Block lines) = block_stands measure key (parts_of lines)
-stands measure key field = Nowhere
+-- the entry that a field is under its key; rules are none
+abbrev pub stands : Key → Content → Stands
+stands key (Text []) = Nowhere
+stands key (Text (b ∷ bytes)) = let m = measured (is_number key) (b ∷ bytes) in text_stands key m.width m.split
+stands key (Block measure lines) = block_stands measure key (parts_of lines)
+stands key field = Nowhere
 
 -- the greatest of some numbers, 0 of none
 abbrev pub greatest : List ℕ → ℕ
@@ -107,27 +108,39 @@ pub record IsLeast (asked : Asked) (entries : List Stands) : Type 0 where
   pub holds : Holds asked entries (width_of asked entries)
   pub least : (width : ℕ) → Holds asked entries width → width_of asked entries ≤ width
 
--- the measure of a column's blocks, where the table has so many columns: what is asked of it, else its part of the line
-abbrev pub measure_of : ℕ → ℕ → Asked → ℕ
-measure_of line_length count asked = unwrap_or asked.least (max 1 (line_length / (count + 1)))
+-- how a cell of so many columns stands in them: in its one column, and in none of several
+abbrev pub in_columns : ℕ → Stands → List Stands
+in_columns count entry = if count == 1 then entry ∷ [] else replicate count Nowhere
 
--- the entries of a column, whose blocks have this measure
-abbrev pub entries_of : ℕ → ℕ → List Element → List Stands
-entries_of measure column [] = []
-entries_of measure column (Row rules format fields ∷ elements) =
-    stands measure (key_at format column) (field_at fields column) ∷ entries_of measure column elements
-entries_of measure column (Rule sign ∷ elements) = entries_of measure column elements
-entries_of measure column (Command bytes ∷ elements) = entries_of measure column elements
+-- and how all fields of a row do, under its keys, the first of which has a cell behind so many columns
+abbrev pub row_stands : {A : Type 0} → (Key → A → Stands) → ℕ → List FormatKey → List A → List Stands
+row_stands entry_of from keys [] = []
+row_stands entry_of from [] (field ∷ fields) = entry_of Left field ∷ row_stands entry_of (suc from) [] fields
+row_stands entry_of from (k ∷ keys) (field ∷ fields) =
+    in_columns (k.end - from) (entry_of k.key field) ++ row_stands entry_of k.end keys fields
 
--- the columns of a table that has so many, from one on: what their entries need
-abbrev pub columns_from : ℕ → ℕ → List Element → ℕ → List Asked → List Column
-columns_from line_length count elements column [] = []
-columns_from line_length count elements column (a ∷ asked) =
-    let measure = measure_of line_length count a in
-    record { needs = needs_of (entries_of measure column elements); measure = measure; bars = a.bars; width = 0; start = 0 }
-    ∷ columns_from line_length count elements (suc column) asked
+-- the entries of a column
+abbrev pub entries_of : ℕ → List Element → List Stands
+entries_of column [] = []
+entries_of column (Row rules format fields ∷ elements) =
+    get_or (row_stands stands 0 format.keys fields) column Nowhere ∷ entries_of column elements
+entries_of column (Rule sign ∷ elements) = entries_of column elements
+entries_of column (Command bytes ∷ elements) = entries_of column elements
 
--- each gets the width that it needs
+-- the columns of a table from one on: what their entries need
+abbrev pub columns_from : List Element → ℕ → List Asked → List Column
+columns_from elements column [] = []
+columns_from elements column (a ∷ asked) =
+    record { needs = needs_of (entries_of column elements); bars = a.bars; width = 0; start = 0 }
+    ∷ columns_from elements (suc column) asked
+
+-- columns with the most bars behind each
+abbrev pub with_bars : List Asked → List Column → List Column
+with_bars [] columns = columns
+with_bars (a ∷ asked) [] = []
+with_bars (a ∷ asked) (c ∷ columns) = record c { bars = a.bars } ∷ with_bars asked columns
+
+-- each gets the width that its own entries need
 abbrev pub with_widths : List Asked → List Column → List Column
 with_widths [] columns = columns
 with_widths (a ∷ asked) [] = []
@@ -210,16 +223,6 @@ laid_by bars is_expanded line_length asked columns =
     let width = width_of_all bars columns asked in
     laid_with bars (lacking is_expanded line_length width (total (gaps bars asked))) width asked columns
 
--- the columns of these elements with their widths, by what is asked of each
-abbrev pub columns_laid : ℕ → List Asked → List Element → List Column
-columns_laid line_length asked elements =
-    equalled asked (with_widths asked (columns_from line_length (length asked) elements 0 asked))
-
--- and with their places
-abbrev pub laid : Bars → Bool → ℕ → List Asked → List Element → Laid
-laid bars is_expanded line_length asked elements =
-    laid_by bars is_expanded line_length asked (columns_laid line_length asked elements)
-
 -- where so many bars begin between two columns
 abbrev pub bar_place : ℕ → Column → Column → ℕ
 bar_place count c d = let end = c.start + c.width in end + (d.start - end - count) / 2
@@ -234,6 +237,7 @@ abbrev pub shift : Key → ℕ → ℕ
 shift Right spare = spare
 shift Center spare = spare / 2
 shift Numeric spare = spare / 2
+shift WideNumeric spare = spare / 2
 shift (_) spare = 0
 
 abbrev pub place_in : Column → Key → Stands → ℕ

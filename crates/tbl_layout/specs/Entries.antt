@@ -15,11 +15,11 @@ use Rattle.tbl_text.specs.Measuring.{measured}
 use Rattle.tbl_text.specs.declared.measure.Measured.{Measured}
 use Rattle.tbl_text.specs.declared.measure.Split.{Split}
 
--- a field: a text; a text block by its lines, of which requests are passed over; a rule over its column, or one as wide as the
--- column's widest text; or a byte that is repeated over the column
+-- a field: a text; a text block by its measure, which is 0 while it is read, and by its lines, of which requests are passed over; a
+-- rule over its cell, or one as wide as the widest text of the cell's first column; or a byte that is repeated over the cell
 pub data Content : Type 0 where
   Text : (bytes : List ℕ) → Content
-  Block : (lines : List (List ℕ)) → Content
+  Block : (measure : ℕ) (lines : List (List ℕ)) → Content
   Ruled : (sign : RuleSign) → Content
   Short : Content
   Repeated : (byte : ℕ) → Content
@@ -45,16 +45,16 @@ content_read field = content_by_kind (field_kind field) field
 abbrev pub content_under : Key → List ℕ → Content
 content_under key field = content_by_kind (kind_under key field) field
 
--- the fields of a row under its keys: a rule key for which it has none rules its column still
+-- the fields of a row under its keys: a rule key for which it has none rules its cell still
 abbrev pub completed : FormatRow → List Content → List Content
 completed format fields = fields ++ under_keys Ruled (Text []) (drop (length fields) format.keys)
 
--- the key and the field of a column: short rows of the format go on with `l`, and those of the data with empty fields
+-- the key and the field of a cell of a row: short rows of the format go on with `l`, and those of the data with empty fields
 abbrev pub key_at : FormatRow → ℕ → Key
-key_at format column = get_or (map (λ k. k.key) format.keys) column Left
+key_at format cell = get_or (map (λ k. k.key) format.keys) cell Left
 
 abbrev pub field_at : List Content → ℕ → Content
-field_at fields column = get_or fields column (Text [])
+field_at fields cell = get_or fields cell (Text [])
 
 -- whether texts under a key are numbers, which are split
 abbrev pub is_number : Key → Bool
@@ -96,12 +96,12 @@ block_line [] = []
 block_line (EmptyLine ∷ parts) = further_words parts
 block_line (OneWord w ∷ parts) = blanks (leading w) ∷ run_of_word w ∷ further_words parts
 
--- the lines of a text or a block, under its key; its column gives its blocks this measure
-abbrev pub lines_of_field : ℕ → Key → Content → List (List Run)
-lines_of_field measure key (Text []) = []
-lines_of_field measure key (Text (b ∷ bytes)) = (run_of (measured (is_number key) (b ∷ bytes)) (b ∷ bytes) ∷ []) ∷ []
-lines_of_field measure key (Block lines) = map block_line (lines_of measure (parts_of lines))
-lines_of_field measure key field = []
+-- the lines of a text or a block, under its key
+abbrev pub lines_of_field : Key → Content → List (List Run)
+lines_of_field key (Text []) = []
+lines_of_field key (Text (b ∷ bytes)) = (run_of (measured (is_number key) (b ∷ bytes)) (b ∷ bytes) ∷ []) ∷ []
+lines_of_field key (Block measure lines) = map block_line (lines_of measure (parts_of lines))
+lines_of_field key field = []
 
 -- the columns of what stands on a line
 abbrev pub columns_of : List Run → ℕ

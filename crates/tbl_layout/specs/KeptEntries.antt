@@ -42,7 +42,7 @@ text_entry is_number from text = entry_by from (length text) (measured is_number
 
 -- a text block that isn't filled
 abbrev pub not_filled : BlockEntry
-not_filled = record { lines = 0; width = 0; has_word = false }
+not_filled = record { measure = 0; lines = 0; width = 0; has_word = false }
 
 -- the field of a rule that begins at a place and has so many bytes
 abbrev pub rule_entry : ℕ → ℕ → EntryKind → Entry
@@ -70,9 +70,10 @@ opened_at from = record { from = from; to = from; kind = BlockKind not_filled }
 abbrev pub with_end : ℕ → Entry → Entry
 with_end to e = record e { to = to }
 
--- one that is filled: its lines, the columns of the widest, and whether it has a word
-abbrev pub filled_with : ℕ → ℕ → Bool → Entry → Entry
-filled_with lines width has_word e = record e { kind = BlockKind (record { lines = lines; width = width; has_word = has_word }) }
+-- one that is filled in a measure: its lines, the columns of the widest, and whether it has a word
+abbrev pub filled_with : ℕ → ℕ → ℕ → Bool → Entry → Entry
+filled_with measure lines width has_word e =
+    record e { kind = BlockKind (record { measure = measure; lines = lines; width = width; has_word = has_word }) }
 
 -- the lines of a block, which lie behind the line that ends at a place: each has a newline in front of it, and the last one ends
 -- at the other place
@@ -83,7 +84,7 @@ block_lines bytes from to = if from == to then [] else lines_in (slice_range byt
 abbrev pub content_by : EntryKind → List ℕ → ℕ → ℕ → Content
 content_by (TextKind glyphs width) bytes from to = Text (slice_range bytes from to)
 content_by (SplitKind s) bytes from to = Text (slice_range bytes from to)
-content_by (BlockKind b) bytes from to = Block (block_lines bytes from to)
+content_by (BlockKind b) bytes from to = Block b.measure (block_lines bytes from to)
 content_by (RuledKind sign) bytes from to = Ruled sign
 content_by ShortKind bytes from to = Short
 content_by (RepeatedKind b) bytes from to = Repeated b
@@ -109,6 +110,11 @@ lines_by (SplitKind s) = 1
 lines_by (BlockKind b) = b.lines
 lines_by kind = 1
 
+-- the measure of a block, else 0
+abbrev pub measure_by : EntryKind → ℕ
+measure_by (BlockKind b) = b.measure
+measure_by kind = 0
+
 -- a text is kept as what it measures, and lies within the table's bytes
 pub record IsText (bytes : List ℕ) (is_number : Bool) (e : Entry) : Type 0 where
   pub order : e.from ≤ e.to
@@ -129,7 +135,7 @@ pub record IsOpened (bytes : List ℕ) (e : Entry) : Type 0 where
 abbrev pub block_filled : ℕ → List (List ℕ) → BlockEntry
 block_filled measure lines =
     let filled = lines_of measure (parts_of lines) in
-    record { lines = length filled; width = widest filled; has_word = has_word (parts_of lines) }
+    record { measure = measure; lines = length filled; width = widest filled; has_word = has_word (parts_of lines) }
 
 pub record IsFilled (bytes : List ℕ) (measure : ℕ) (e : Entry) : Type 0 where
   pub lies : Lies bytes e
@@ -145,12 +151,12 @@ IsKeptBy kind bytes key e = Lies bytes e
 abbrev pub IsKept : List ℕ → Key → Entry → Type 0
 IsKept bytes key e = IsKeptBy e.kind bytes key e
 
--- a field is laid out: its block is filled in the measure of its column
-abbrev pub IsLaidBy : EntryKind → List ℕ → ℕ → Key → Entry → Type 0
-IsLaidBy (TextKind glyphs width) bytes measure key e = IsText bytes (is_number key) e
-IsLaidBy (SplitKind s) bytes measure key e = IsText bytes (is_number key) e
-IsLaidBy (BlockKind b) bytes measure key e = IsFilled bytes measure e
-IsLaidBy kind bytes measure key e = Lies bytes e
+-- a field is laid out: its block is filled in its measure
+abbrev pub IsLaidBy : EntryKind → List ℕ → Key → Entry → Type 0
+IsLaidBy (TextKind glyphs width) bytes key e = IsText bytes (is_number key) e
+IsLaidBy (SplitKind s) bytes key e = IsText bytes (is_number key) e
+IsLaidBy (BlockKind b) bytes key e = IsFilled bytes b.measure e
+IsLaidBy kind bytes key e = Lies bytes e
 
-abbrev pub IsLaid : List ℕ → ℕ → Key → Entry → Type 0
-IsLaid bytes measure key e = IsLaidBy e.kind bytes measure key e
+abbrev pub IsLaid : List ℕ → Key → Entry → Type 0
+IsLaid bytes key e = IsLaidBy e.kind bytes key e

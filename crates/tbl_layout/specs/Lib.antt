@@ -7,4 +7,6 @@ pub mod Widths
 pub mod BarsWorked
 pub mod RulesWorked
 pub mod LayoutLaws
+pub mod Spans
+pub mod SpanLaws
 pub mod KeptEntries

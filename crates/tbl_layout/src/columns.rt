@@ -1,17 +1,19 @@
 //! The columns of a table: how wide they are, and where they begin (Lesk, "Tbl": Format,
 //! Formatting).
 
-ghost use Rattle.std.specs.Prelude.{◌≡◌, ◌+◌, ◌-◌, ◌<◌, ◌^◌, min};
-ghost use Rattle.tbl_layout.specs.Columns.{bar_place, bars_end};
+ghost use Rattle.std.specs.Prelude.{◌≡◌, ◌+◌, ◌-◌, ◌<◌, ◌^◌, length, map, min};
+ghost use Rattle.tbl_layout.specs.Columns.{alone, bar_place, bars_end};
 ghost use Rattle.tbl_layout.specs.Columns.{equal_width, equal_widths, equalled, gaps};
 ghost use Rattle.tbl_layout.specs.Columns.{greatest};
 ghost use Rattle.tbl_layout.specs.Columns.{in_strip};
-ghost use Rattle.tbl_layout.specs.Columns.{lacking, made_equal, measure_of, needing, place_in};
+ghost use Rattle.tbl_layout.specs.Columns.{lacking, made_equal, needing, place_in};
 ghost use Rattle.tbl_layout.specs.Columns.{place_of_rule, placed_with, share, shift, shift_of_rule};
 ghost use Rattle.tbl_layout.specs.Columns.{total, unsplit, widest_entry, width_by};
-ghost use Rattle.tbl_layout.specs.Columns.{width_of_all, with_equal, with_widths};
+ghost use Rattle.tbl_layout.specs.Columns.{width_of_all, with_bars, with_equal, with_widths};
+ghost use Rattle.tbl_layout.specs.Spans.{lacks, spread_over};
 
 use crate::bars::Bars;
+use crate::spread::{lacks, spread_over};
 use crate::widths::{left_edge, right_edge, separation};
 use tbl_format::format::{Asked, Key};
 
@@ -48,14 +50,26 @@ pub struct Needs {
 pub struct Column {
     /// What its entries need.
     pub needs: Needs,
-    /// The measure of its blocks.
-    pub measure: u32,
     /// The most bars that any row has behind it.
     pub bars: u8,
     /// How wide it is.
     pub width: usize,
     /// Where it begins.
     pub start: usize,
+}
+
+impl Stands {
+    /// The columns of an entry that stands alone, else 0.
+    pub fn alone(self) -> u64
+        ensures { result ≡ alone self }
+    {
+        match self {
+            Stands::Nowhere => 0,
+            Stands::Apart(_, _) => 0,
+            Stands::InStrip(_) => 0,
+            Stands::Alone(columns) => columns,
+        }
+    }
 }
 
 impl Needs {
@@ -129,29 +143,51 @@ pub fn unsplit(key: Key, columns: u64) -> Stands
     }
 }
 
-/// The measure of the blocks of a column, in a table of so many: what is asked of it, else its part
-/// of the line.
-pub fn block_measure(line_length: u32, columns: usize, asked: Asked) -> u64
-    requires { columns < 2 ^ 63 }
-    ensures { result ≡ measure_of line_length columns asked }
+/// Columns have room for an entry that is so wide, which goes over all of them: what it lacks is
+/// spread.
+pub fn fit(columns: &mut [Column], bars: Bars, asked: &[Asked], width: u64)
+    requires few { length columns.old < 2 ^ 32 }
+    ensures { columns.new ≡ spread_over (lacks bars asked.now columns.old width)
+        (length columns.old) 0 columns.old }
 {
-    match asked.least {
-        Some(least) => u64::from(least),
-        None => (u64::from(line_length) / (columns as u64 + 1)).max(1),
+    let more = lacks(columns, bars, asked, width);
+    if more > 0 {
+        spread_over(columns, more);
     }
 }
 
-/// Gives each column the width that it needs, and those with `e` the greatest of these.
-pub fn set_widths(columns: &mut [Column], asked: &[Asked])
-    ensures { columns.new ≡ equalled asked.now (with_widths asked.now columns.old) }
+/// How wide columns are together, or 2^64 - 1 if they are wider.
+pub(crate) fn total_width(columns: &[Column]) -> usize
+    ensures { result ≡ min (total (map (λ c. c.width) columns.now)) (2 ^ 64 - 1) }
 {
-    set_needed(columns, asked);
+    let mut width: usize = 0;
+    for column in columns {
+        width = width.saturating_add(column.width);
+    }
+    width
+}
+
+/// Each column has the most bars behind it.
+pub fn set_bars(columns: &mut [Column], asked: &[Asked])
+    ensures { columns.new ≡ with_bars asked.now columns.old }
+{
+    for at in 0..columns.len().min(asked.len()) {
+        let mut column = columns[at];
+        column.bars = asked[at].bars;
+        columns[at] = column;
+    }
+}
+
+/// Gives those with `e` the greatest of their widths.
+pub fn make_equal(columns: &mut [Column], asked: &[Asked])
+    ensures { columns.new ≡ equalled asked.now columns.old }
+{
     let width = equal_width(columns, asked);
     set_equal(columns, asked, width);
 }
 
-/// Gives each column the width that it needs.
-fn set_needed(columns: &mut [Column], asked: &[Asked])
+/// Gives each column the width that its own entries need.
+pub fn set_needed(columns: &mut [Column], asked: &[Asked])
     ensures { columns.new ≡ with_widths asked.now columns.old }
 {
     for at in 0..columns.len().min(asked.len()) {
@@ -198,11 +234,7 @@ pub fn all_gaps(bars: Bars, asked: &[Asked]) -> usize
 pub fn width_of_all(bars: Bars, columns: &[Column], asked: &[Asked]) -> usize
     ensures { result ≡ min (width_of_all bars columns.now asked.now) (2 ^ 64 - 1) }
 {
-    let mut width: usize = 0;
-    for column in columns {
-        width = width.saturating_add(column.width);
-    }
-    width
+    total_width(columns)
         .saturating_add(all_gaps(bars, asked))
         .saturating_add(left_edge(bars) + right_edge(bars, asked))
 }
@@ -254,7 +286,6 @@ impl Column {
     /// A column without an entry.
     pub const EMPTY: Column = Column {
         needs: Needs::NOTHING,
-        measure: 0,
         bars: 0,
         width: 0,
         start: 0,
@@ -274,7 +305,6 @@ impl Column {
         if asked.is_equal {
             return Column {
                 needs: self.needs,
-                measure: self.measure,
                 bars: self.bars,
                 width,
                 start: self.start,
@@ -350,7 +380,7 @@ fn shift(key: Key, spare: usize) -> usize
 {
     match key {
         Key::Right => spare,
-        Key::Center | Key::Numeric => spare / 2,
+        Key::Center | Key::Numeric | Key::WideNumeric => spare / 2,
         _ => 0,
     }
 }

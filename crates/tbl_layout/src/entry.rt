@@ -7,7 +7,7 @@ ghost use Rattle.tbl_layout.specs.KeptEntries.{rule_entry};
 ghost use Rattle.tbl_layout.specs.RuleKeys.{rule_sign};
 ghost use Rattle.tbl_layout.specs.KeptEntries.{stands_of};
 ghost use Rattle.tbl_text.specs.Measuring.{SplitLies};
-ghost use Rattle.tbl_layout.specs.KeptEntries.{kind_by, lines_by, split_by, with_end};
+ghost use Rattle.tbl_layout.specs.KeptEntries.{kind_by, lines_by, measure_by, split_by, with_end};
 
 use crate::columns::{Stands, unsplit};
 use crate::data_lines::RuleSign;
@@ -63,6 +63,8 @@ pub struct SplitEntry {
 /// A text block. Before it is filled it has no line.
 #[derive(Clone, Copy)]
 pub struct BlockEntry {
+    /// The columns in which its lines are filled, 0 before.
+    pub measure: u32,
     /// How many lines it has.
     pub lines: u32,
     /// The columns of the widest.
@@ -129,6 +131,7 @@ impl Entry {
             from: from as u32,
             to: from as u32,
             kind: EntryKind::Block(BlockEntry {
+                measure: 0,
                 lines: 0,
                 width: 0,
                 has_word: false,
@@ -148,15 +151,16 @@ impl Entry {
         }
     }
 
-    /// A text block that is filled so.
-    pub fn filled(self, block: Filled) -> Entry
+    /// A text block that is filled so in a measure.
+    pub fn filled(self, measure: u32, block: Filled) -> Entry
         requires { block.lines < 2 ^ 32 }
-        ensures { result ≡ filled_with block.lines block.width block.has_word self }
+        ensures { result ≡ filled_with measure block.lines block.width block.has_word self }
     {
         Entry {
             from: self.from,
             to: self.to,
             kind: EntryKind::Block(BlockEntry {
+                measure,
                 lines: block.lines as u32,
                 width: block.width,
                 has_word: block.has_word,
@@ -175,6 +179,16 @@ impl Entry {
             EntryKind::Ruled(_) => 1,
             EntryKind::Short => 1,
             EntryKind::Repeated(_) => 1,
+        }
+    }
+
+    /// The measure of a block, in columns of the page, else 0.
+    pub fn measure(self) -> u32
+        ensures { result ≡ measure_by self.kind }
+    {
+        match self.kind {
+            EntryKind::Block(block) => block.measure,
+            _ => 0,
         }
     }
 

@@ -3,7 +3,10 @@
 ghost use Rattle.std.specs.Prelude.{◌≡◌, ℕ, Bool, List, length};
 ghost use Rattle.tbl_format.specs.declared.format.Asked.{Asked};
 ghost use Rattle.tbl_layout.specs.Columns.{IsLeast, laid_by};
+ghost use Rattle.tbl_layout.specs.Entries.{Element};
 ghost use Rattle.tbl_layout.specs.LayoutLaws.{AreInOrder, HaveRoom, IsAsWide};
+ghost use Rattle.tbl_layout.specs.SpanLaws.{AreFitted, HoldAll};
+ghost use Rattle.tbl_layout.specs.Spans.{Wide};
 ghost use Rattle.tbl_layout.specs.declared.bars.Bars.{Bars};
 ghost use Rattle.tbl_layout.specs.declared.columns.Column.{Column};
 ghost use Rattle.tbl_layout.specs.declared.columns.Stands.{Stands};
@@ -33,4 +36,18 @@ pub fn in_order()
 /// bars ask. One bar stands at one of the two places of two.
 pub fn bars_apart()
     ensures { (bars : Bars) (a : Asked) (c d : Column) → HaveRoom bars a c d }
+{}
+
+/// Entries of several columns get room: no column becomes narrower, and in the end each of them
+/// fits its columns and the separations between, also those that came first.
+pub fn fitted()
+    ensures { (bars : Bars) (asked : List Asked) (entries : List Wide) (columns : List Column)
+        → AreFitted bars asked entries columns }
+{}
+
+/// The columns of a table are no narrower than their own entries need, and its entries of several
+/// columns fit them.
+pub fn hold_all()
+    ensures { (bars : Bars) (line_length : ℕ) (asked : List Asked) (elements : List Element)
+        → HoldAll bars line_length asked elements }
 {}

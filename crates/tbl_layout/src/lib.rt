@@ -8,6 +8,8 @@ pub mod data;
 pub mod data_lines;
 pub mod entry;
 pub mod laws;
+pub mod measures;
 pub mod rule_keys;
+mod spread;
 pub mod widths;
 pub mod worked_rows;

@@ -9,6 +9,7 @@ ghost use Rattle.tbl_layout.specs.declared.entry.Entry.{Entry};
 
 use crate::data_lines::RuleSign;
 use crate::entry::{Entry, EntryKind};
+use tbl_format::cells::columns_of;
 use tbl_format::format::{FormatKey, Key};
 
 /// How the rule of a key is drawn, if it is a rule key.
@@ -22,13 +23,14 @@ pub fn rule_sign(key: Key) -> Option<RuleSign>
         Key::Right => None,
         Key::Center => None,
         Key::Numeric => None,
+        Key::WideNumeric => None,
         Key::Alphabetic => None,
         Key::Spanned => None,
         Key::Above => None,
     }
 }
 
-/// Whether all of a row's keys are rule keys.
+/// Whether all of a row's keys are rule keys, `s` among them not.
 pub fn is_rule_row(keys: &[FormatKey]) -> bool
     ensures { (bars : ℕ) → result ≡ is_rule_row (record { keys = keys.now; bars = bars }) }
 {
@@ -37,7 +39,7 @@ pub fn is_rule_row(keys: &[FormatKey]) -> bool
             return false;
         }
     }
-    true
+    columns_of(keys) == keys.len()
 }
 
 /// How many columns a row fills that has so many fields, under its keys: rule keys behind the last

@@ -12,8 +12,9 @@ ghost use Rattle.tbl_layout.specs.DataLines.{field_kind, is_laid_out, line_kind,
 ghost use Rattle.tbl_layout.specs.DataLines.{kind_under};
 ghost use Rattle.tbl_layout.specs.Entries.{Block, Command as OneCommand, Row as OneRow};
 ghost use Rattle.tbl_layout.specs.Entries.{Ruled as OneRule, Text as OneText, completed};
-ghost use Rattle.tbl_layout.specs.RuleKeys.{rule_rows};
-ghost use Rattle.tbl_layout.specs.RulesWorked.{column_at, row_of};
+ghost use Rattle.tbl_layout.specs.RuleKeys.{is_rule_row, rule_rows};
+ghost use Rattle.tbl_layout.specs.RulesWorked.{column_at, no_bars, row_of};
+ghost use Rattle.tbl_layout.specs.Spans.{cells_of, columns_laid, measure_of};
 ghost use Rattle.tbl_layout.specs.declared.columns.Stands.TheVariants.{Alone, Apart, InStrip};
 ghost use Rattle.tbl_layout.specs.declared.columns.Stands.TheVariants.{Nowhere};
 ghost use Rattle.tbl_layout.specs.declared.data_lines.BlockLineKind.TheVariants.{End, Request};
@@ -52,15 +53,15 @@ pub fn lines()
 
 /// How entries stand, and how wide their columns are.
 pub fn entries()
-    ensures number { stands 9 Numeric (OneText (codes "12.5")) ≡ Apart 2 2 }
-    ensures units { stands 9 Numeric (OneText (codes "7")) ≡ Apart 1 0 }
-    ensures none { stands 9 Numeric (OneText (codes "none")) ≡ Alone 4 }
-    ensures ampersand { stands 9 Numeric (OneText (codes "3\\&x")) ≡ Apart 1 1 }
-    ensures strip { stands 9 Alphabetic (OneText (codes "ab")) ≡ InStrip 2 }
-    ensures empty { stands 9 Alphabetic (OneText []) ≡ Nowhere }
-    ensures block { stands 4 Left (Block (codes "one two" ∷ [])) ≡ Alone 3 }
-    ensures blanks { stands 4 Left (Block (codes "  " ∷ [])) ≡ Nowhere }
-    ensures rule { stands 4 Left (OneRule Single) ≡ Nowhere }
+    ensures number { stands Numeric (OneText (codes "12.5")) ≡ Apart 2 2 }
+    ensures units { stands Numeric (OneText (codes "7")) ≡ Apart 1 0 }
+    ensures none { stands Numeric (OneText (codes "none")) ≡ Alone 4 }
+    ensures ampersand { stands Numeric (OneText (codes "3\\&x")) ≡ Apart 1 1 }
+    ensures strip { stands Alphabetic (OneText (codes "ab")) ≡ InStrip 2 }
+    ensures empty { stands Alphabetic (OneText []) ≡ Nowhere }
+    ensures block { stands Left (Block 4 (codes "one two" ∷ [])) ≡ Alone 3 }
+    ensures blanks { stands Left (Block 4 (codes "  " ∷ [])) ≡ Nowhere }
+    ensures rule { stands Left (OneRule Single) ≡ Nowhere }
     ensures widest { widest_entry (needs_of (Apart 1 3 ∷ InStrip 5 ∷ Alone 2 ∷ [])) ≡ 5 }
     ensures widest_split { widest_entry (needs_of (Apart 1 3 ∷ Apart 2 0 ∷ [])) ≡ 4 }
     ensures sides { width_of nothing_asked (Apart 1 3 ∷ Apart 2 0 ∷ Alone 4 ∷ []) ≡ 5 }
@@ -103,4 +104,36 @@ pub fn bars()
         ≡ 0 ∷ 0 ∷ 1 ∷ 1 ∷ 2 ∷ [] }
     ensures places_of_two { map (λ places. behind_column places 2) (3 ∷ 4 ∷ 5 ∷ 6 ∷ [])
         ≡ 0 ∷ 1 ∷ 1 ∷ 2 ∷ [] }
+{}
+
+/// Cells of several columns: the measures of their blocks, and the room that their columns get.
+pub fn spans()
+    ensures widths { measure_of no_bars 65 3
+        (record nothing_asked { least = Some 10 } ∷ nothing_asked ∷ []) ≡ 13 }
+    ensures nothing_wide { measure_of no_bars 65 3
+        (record nothing_asked { least = Some 0 } ∷ []) ≡ 0 }
+    ensures part { measure_of no_bars 65 3 (nothing_asked ∷ nothing_asked ∷ []) ≡ 32 }
+    ensures short_line { measure_of no_bars 2 3 (nothing_asked ∷ []) ≡ 1 }
+    ensures spread { map (λ c. c.width) (columns_laid no_bars 65
+        (nothing_asked ∷ nothing_asked ∷ nothing_asked ∷ [])
+        (OneRow [] (record { keys = plain_key 0 Left 2 ∷ []; bars = 0 })
+        (OneText (codes "abcdefghijklmn") ∷ []) ∷ []))
+        ≡ 2 ∷ 3 ∷ 3 ∷ [] }
+    ensures in_order { map (λ c. c.width) (columns_laid no_bars 65
+        (nothing_asked ∷ nothing_asked ∷ nothing_asked ∷ [])
+        (OneRow [] (record { keys = plain_key 0 Left 1 ∷ []; bars = 0 })
+        (OneText (codes "abcdefgh") ∷ []) ∷ OneRow [] (record {
+          keys = plain_key 0 Left 2 ∷ [];
+          bars = 0;
+        }) (OneText (codes "abcdefghijklmn") ∷ []) ∷ []))
+        ≡ 3 ∷ 4 ∷ 1 ∷ [] }
+    ensures equal { map (λ c. c.width) (columns_laid no_bars 65
+        (record nothing_asked { is_equal = true } ∷ record nothing_asked { is_equal = true } ∷ [])
+        (OneRow [] (record { keys = plain_key 0 Left 1 ∷ []; bars = 0 })
+        (OneText (codes "abcdefgh") ∷ []) ∷ []))
+        ≡ 3 ∷ 3 ∷ [] }
+    ensures cells { map (λ c. c.width) (cells_of (plain_key 0 Left 1 ∷ [])
+        (column_at 0 2 0 ∷ column_at 5 4 0 ∷ column_at 12 1 0 ∷ [])) ≡ 9 ∷ 1 ∷ [] }
+    ensures no_rule_row { is_rule_row (record { keys = plain_key 0 RuleKey 1 ∷ []; bars = 0 })
+        ≡ false }
 {}

@@ -1,14 +1,13 @@
 -- What stands in a row is laid out, also under keys for which it has no field.
-use Rattle.std.proofs.Common.{◌≡◌, ℕ, suc, ◌+◌, ◌-◌, ◌≤◌, max, Bool, true, false, List, [], ◌∷◌, ◌++◌, length, drop, map, Option, Some, None, refl, arith, length-append}
+use Rattle.std.proofs.Common.{◌≡◌, ℕ, suc, ◌≤◌, max, Bool, true, false, List, [], ◌∷◌, ◌++◌, length, drop, map, Option, Some, None, refl, arith, length-append}
 use Rattle.std.proofs.lemmas.List.{length-drop}
 use Rattle.tbl_format.specs.Format.{FormatRow}
 use Rattle.tbl_format.specs.declared.format.FormatKey.{FormatKey}
-use Rattle.tbl_kept.specs.Rows.{AreLaid, height_of, measures}
+use Rattle.tbl_kept.specs.Rows.{AreLaid, height_of}
 use Rattle.tbl_layout.specs.Columns.{greatest}
 use Rattle.tbl_layout.specs.Entries.{is_number, key_at}
 use Rattle.tbl_layout.specs.KeptEntries.{IsLaid, all_entries, lines_by, no_entry, rule_of, text_entry}
 use Rattle.tbl_layout.specs.RuleKeys.{in_front_of, rule_sign, under_keys}
-use Rattle.tbl_layout.specs.declared.columns.Column.{Column}
 use Rattle.tbl_layout.specs.declared.data_lines.RuleSign.{RuleSign}
 use Rattle.tbl_layout.specs.declared.entry.Entry.{Entry}
 
@@ -22,26 +21,26 @@ empty-text true = refl
 empty-text false = refl
 
 -- all of it is laid out
-module _ (bytes : List ℕ) (columns : List Column) (format : FormatRow) where
-  empty-laid : (column : ℕ) → IsLaid bytes (measures columns column) (key_at format column) no_entry
-  empty-laid column = record { order = omega arith; within = omega arith; is = empty-text (is_number (key_at format column)) }
+module _ (bytes : List ℕ) (format : FormatRow) where
+  empty-laid : (cell : ℕ) → IsLaid bytes (key_at format cell) no_entry
+  empty-laid cell = record { order = omega arith; within = omega arith; is = empty-text (is_number (key_at format cell)) }
 
-  front-laid : (sign : Option RuleSign) (column : ℕ) (entries : List Entry) → ((n : ℕ) → AreLaid bytes columns format n entries)
-      → AreLaid bytes columns format column (in_front_of rule_of no_entry sign entries)
-  front-laid (Some sign) column entries laid = (record { order = omega arith; within = omega arith }, laid (suc column))
-  front-laid None column [] laid = tt
-  front-laid None column (e ∷ entries) laid = (empty-laid column, laid (suc column))
+  front-laid : (sign : Option RuleSign) (cell : ℕ) (entries : List Entry) → ((n : ℕ) → AreLaid bytes format n entries)
+      → AreLaid bytes format cell (in_front_of rule_of no_entry sign entries)
+  front-laid (Some sign) cell entries laid = (record { order = omega arith; within = omega arith }, laid (suc cell))
+  front-laid None cell [] laid = tt
+  front-laid None cell (e ∷ entries) laid = (empty-laid cell, laid (suc cell))
 
-  under-laid : (keys : List FormatKey) (column : ℕ) → AreLaid bytes columns format column (under keys)
-  under-laid [] column = tt
-  under-laid (k ∷ keys) column = front-laid (rule_sign k.key) column (under keys) (under-laid keys)
+  under-laid : (keys : List FormatKey) (cell : ℕ) → AreLaid bytes format cell (under keys)
+  under-laid [] cell = tt
+  under-laid (k ∷ keys) cell = front-laid (rule_sign k.key) cell (under keys) (under-laid keys)
 
-  laid-append : (column : ℕ) (entries more : List Entry) → AreLaid bytes columns format column entries
-      → ((n : ℕ) → AreLaid bytes columns format n more) → AreLaid bytes columns format column (entries ++ more)
-  laid-append column [] more laid behind = behind column
-  laid-append column (e ∷ entries) more laid behind = (laid.0, laid-append (suc column) entries more laid.1 behind)
+  laid-append : (cell : ℕ) (entries more : List Entry) → AreLaid bytes format cell entries
+      → ((n : ℕ) → AreLaid bytes format n more) → AreLaid bytes format cell (entries ++ more)
+  laid-append cell [] more laid behind = behind cell
+  laid-append cell (e ∷ entries) more laid behind = (laid.0, laid-append (suc cell) entries more laid.1 behind)
 
-  pub all-laid : (entries : List Entry) → AreLaid bytes columns format 0 entries → AreLaid bytes columns format 0 (all_entries format entries)
+  pub all-laid : (entries : List Entry) → AreLaid bytes format 0 entries → AreLaid bytes format 0 (all_entries format entries)
   all-laid entries laid = laid-append 0 entries (under (drop (length entries) format.keys)) laid (under-laid (drop (length entries) format.keys))
 
 -- it is no more than the row has fields, or keys

@@ -1,5 +1,6 @@
 pub mod BlockColumns
 pub mod CellsGiven
+pub mod CellsLent
 pub mod FrontCells
 pub mod RowMarks
 pub mod RowCells

@@ -52,22 +52,22 @@ lines-one : (from glyphs width : ℕ) (split : Option Split) → lines_by (kind_
 lines-one from glyphs width None = refl
 lines-one from glyphs width (Some s) = refl
 
-text-high : (measure : ℕ) (key : Key) (all : List ℕ) → max 1 (length (lines_of_field measure key (Text all))) ≡ 1
-text-high measure key [] = omega arith
-text-high measure key (b ∷ all) = omega arith
+text-high : (key : Key) (all : List ℕ) → max 1 (length (lines_of_field key (Text all))) ≡ 1
+text-high key [] = omega arith
+text-high key (b ∷ all) = omega arith
 
 -- what is left of a text or a block that begins is that
 record FieldSame (bytes : List ℕ) (c : Column) (end : ℕ) (key : Key) (e : Entry) (f : Content) : Type 0 where
   begins : begins_by e.kind c key e ≡ c.start + place_in c key (stands_of key e)
-  stands : stands_of key e ≡ stands c.measure key f
-  lines : lines_left_by e.kind bytes 0 c end e (first_place e) ≡ lines_of_field c.measure key f
-  high : max 1 (length (lines_of_field c.measure key f)) ≡ max 1 (lines_by e.kind)
+  stands : stands_of key e ≡ stands key f
+  lines : lines_left_by e.kind bytes 0 c end e (first_place e) ≡ lines_of_field key f
+  high : max 1 (length (lines_of_field key f)) ≡ max 1 (lines_by e.kind)
 
 module _ (bytes : List ℕ) (c : Column) (end : ℕ) (key : Key) (e : Entry) where
   text-lines-by : (p : BlockPlace) (split : Option Split) (all : List ℕ) → (measured (is_number key) all).split ≡ split → slice_range bytes e.from e.to ≡ all
       → e.from ≤ e.to → e.to ≤ length bytes
       → lines_left_by (kind_with e.from (e.from + (measured (is_number key) all).glyphs) (measured (is_number key) all).width split) bytes 0 c end e p
-      ≡ lines_of_field c.measure key (Text all)
+      ≡ lines_of_field key (Text all)
   text-lines-by p None [] is slice order within =
       let none : e.from ≡ e.to = omega (arith, order, ap length slice, length-slice_range bytes e.from e.to within) in
       let m = measured (is_number key) [] in
@@ -94,13 +94,13 @@ module _ (bytes : List ℕ) (c : Column) (end : ℕ) (key : Key) (e : Entry) whe
       let kind : e.kind ≡ kind_with e.from (e.from + m.glyphs) m.width m.split = ap (λ (x : Entry). x.kind) laid.is in
       record {
         begins = ap (λ (k : EntryKind). begins_by k c key e) kind ∙ text-begins e.from (e.from + m.glyphs) m.width m.split;
-        stands = ap (stands_of key) laid.is ∙ text-stands c.measure key e.from all;
+        stands = ap (stands_of key) laid.is ∙ text-stands key e.from all;
         lines =
             ap (λ (k : EntryKind). lines_left_by k bytes 0 c end e (first_place e)) kind
             ∙ text-lines-by (first_place e) m.split all refl refl laid.order laid.within;
         high =
             let one : lines_by e.kind ≡ 1 = ap lines_by kind ∙ lines-one e.from (e.from + m.glyphs) m.width m.split in
-            text-high c.measure key all ∙ omega (arith, one);
+            text-high key all ∙ omega (arith, one);
       }
 
   block-parts : (t : Bool) → nat_lt e.from e.to ≡ t → e.from ≤ e.to
@@ -112,10 +112,10 @@ module _ (bytes : List ℕ) (c : Column) (end : ℕ) (key : Key) (e : Entry) whe
       let none : (e.from == e.to) ≡ true = eq-eqb e.from e.to (omega (arith, order, ltb-false e.from e.to is)) in
       ap (λ (t : Bool). parts_of (if t then [] else lines_in (block_text bytes e))) (sym none)
 
-  block-field : IsFilled bytes c.measure e → FieldSame bytes c end key e (Block (block_lines bytes e.from e.to))
-  block-field laid =
+  block-field : (measure : ℕ) → IsFilled bytes measure e → FieldSame bytes c end key e (Block measure (block_lines bytes e.from e.to))
+  block-field measure laid =
       let lines = block_lines bytes e.from e.to in
-      let f : List Part → List (List Run) = λ parts. map block_line (lines_of c.measure parts) in
+      let f : List Part → List (List Run) = λ parts. map block_line (lines_of measure parts) in
       record {
         begins = ap (λ (k : EntryKind). begins_by k c key e) laid.is;
         stands = ap (λ (k : EntryKind). stands_by key k (e.from == e.to)) laid.is;
@@ -123,7 +123,7 @@ module _ (bytes : List ℕ) (c : Column) (end : ℕ) (key : Key) (e : Entry) whe
             ap (λ (k : EntryKind). lines_left_by k bytes 0 c end e (first_place e)) laid.is
             ∙ ap f (block-parts (nat_lt e.from e.to) refl laid.lies.order);
         high =
-            ap (λ (n : ℕ). max 1 n) (length-map (lines_of c.measure (parts_of lines)) block_line)
+            ap (λ (n : ℕ). max 1 n) (length-map (lines_of measure (parts_of lines)) block_line)
             ∙ ap (λ (k : EntryKind). max 1 (lines_by k)) (sym laid.is);
       }
 
@@ -150,11 +150,11 @@ module _ (bars : ℕ) (bytes : List ℕ) (c : Column) (columns : List Column) (k
   cell_by k = record { at = begins_by k c key e; lines = lines_left_by k bytes 0 c (end_by bars k c columns entries) e (first_place e); below = [] }
 
   field-cell : (f : Content) → FieldSame bytes c (end_by bars e.kind c columns entries) key e f → content_of bytes e ≡ f
-      → cell_of bars key c columns next f ≡ record { at = c.start + place_in c key (stands c.measure key f); lines = lines_of_field c.measure key f; below = [] }
+      → cell_of bars key c columns next f ≡ record { at = c.start + place_in c key (stands key f); lines = lines_of_field key f; below = [] }
       → CellSame
   field-cell f same content is =
       let cell : ℕ → List (List Run) → Cell = λ at lines. record { at = at; lines = lines; below = [] } in
-      let lines = lines_of_field c.measure key f in
+      let lines = lines_of_field key f in
       record {
         cell =
             ap (cell_of bars key c columns next) content ∙ is
@@ -171,7 +171,7 @@ module _ (bars : ℕ) (bytes : List ℕ) (c : Column) (columns : List Column) (k
     high = ap (λ (x : EntryKind). max 1 (length (cell_by x).lines)) (sym is) ∙ high ∙ ap (λ (x : EntryKind). max 1 (lines_by x)) is;
   }
 
-  pub cell-same : (k : EntryKind) → k ≡ e.kind → IsLaidBy k bytes c.measure key e
+  pub cell-same : (k : EntryKind) → k ≡ e.kind → IsLaidBy k bytes key e
       → ((sign : RuleSign) → rule_end bars sign c columns next ≡ rule_end_by bars sign c columns entries) → CellSame
   cell-same (TextKind glyphs width) is laid ends =
       field-cell (Text (slice_range bytes e.from e.to)) (text-field bytes c (end_by bars e.kind c columns entries) key e laid)
@@ -180,7 +180,7 @@ module _ (bars : ℕ) (bytes : List ℕ) (c : Column) (columns : List Column) (k
       field-cell (Text (slice_range bytes e.from e.to)) (text-field bytes c (end_by bars e.kind c columns entries) key e laid)
       (ap (λ (k : EntryKind). content_by k bytes e.from e.to) (sym is)) refl
   cell-same (BlockKind b) is laid ends =
-      field-cell (Block (block_lines bytes e.from e.to)) (block-field bytes c (end_by bars e.kind c columns entries) key e laid)
+      field-cell (Block b.measure (block_lines bytes e.from e.to)) (block-field bytes c (end_by bars e.kind c columns entries) key e b.measure laid)
       (ap (λ (k : EntryKind). content_by k bytes e.from e.to) (sym is)) refl
   cell-same (RuledKind sign) is laid ends =
       rule-cell (RuledKind sign) is (ap (λ (end : ℕ). one_run c.start (repeated (sign_byte sign) (end - c.start))) (ends sign)) refl

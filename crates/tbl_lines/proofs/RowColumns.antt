@@ -1,7 +1,7 @@
--- The columns of a row, by their places.
+-- The cells of a row, by their places.
 use Rattle.std.proofs.Common.{◌≡◌, ℕ, zero, suc, ◌+◌, ◌<◌, ◌≤◌, List, [], ◌∷◌, ◌++◌, length, take, drop, get_or, map, refl, sym, ap, subst, ◌∙◌, arith, if◌then◌else◌}
 use Rattle.std.specs.List.{AllByRecursion}
-use Rattle.std.proofs.lemmas.List.{drop-map, drop_more}
+use Rattle.std.proofs.lemmas.List.{drop-map}
 use Rattle.tbl_format.specs.Format.{FormatRow}
 use Rattle.tbl_format.specs.declared.format.FormatKey.{FormatKey}
 use Rattle.tbl_options.specs.declared.options.Boxing.{Boxing}
@@ -54,7 +54,7 @@ among-past (x ∷ keys) last zero past = absurd (omega (arith, past))
 among-past (x ∷ keys) last (suc at) past = among-past keys last at (omega (arith, past))
 
 module _ (boxing : Boxing) (format : FormatRow) where
-  -- the column at a place
+  -- the cell at a place
   pub row-column : (k at : ℕ) (columns : List Column) (entries : List Entry) (places : List BlockPlace) (c : Column) (e : Entry) (p : BlockPlace)
       → at < length entries → length entries ≤ length columns → at < length places
       → drop at (row_columns boxing format k columns entries places)
@@ -116,21 +116,13 @@ module _ (boxing : Boxing) (format : FormatRow) where
       ap (λ (more : List RowColumn). record { column = c; key = key_of format.keys k; entry = e; place = b; end = end_by (bars_between boxing format (suc k)) e.kind c columns entries } ∷ more)
       (row_columns-push (suc k) columns entries places behind p r rest is)
 
--- where a rule ends in front of a column, and in the last one
-rule_end-before : (bars : ℕ) (sign : RuleSign) (c d : Column) (at : ℕ) (columns : List Column) (entries : List Entry)
+-- where a rule ends in front of a cell, and in the last one
+pub rule_end-before : (bars : ℕ) (sign : RuleSign) (c d : Column) (at : ℕ) (columns : List Column) (entries : List Entry)
     → rule_end_by bars sign c (d ∷ columns) (drop at entries)
     ≡ (if is_ruled_by sign (get_or entries at no_entry).kind then joint bars c d else c.start + c.width)
 rule_end-before bars sign c d at columns [] = ap (rule_end_by bars sign c (d ∷ columns)) (drop-none at)
 rule_end-before bars sign c d zero columns (e ∷ entries) = refl
 rule_end-before bars sign c d (suc at) columns (e ∷ entries) = rule_end-before bars sign c d at columns entries
-
-pub rule_end-next : (bars : ℕ) (sign : RuleSign) (c : Column) (at : ℕ) (columns : List Column) (entries : List Entry) (d : Column)
-    → at < length columns
-    → rule_end_by bars sign c (drop at columns) (drop at entries)
-    ≡ (if is_ruled_by sign (get_or entries at no_entry).kind then joint bars c (get_or columns at d) else c.start + c.width)
-rule_end-next bars sign c at columns entries d column =
-    ap (λ (cs : List Column). rule_end_by bars sign c cs (drop at entries)) (drop_more columns at d column)
-    ∙ rule_end-before bars sign c (get_or columns at d) at (drop (at + 1) columns) entries
 
 pub rule_end-last : (bars : ℕ) (sign : RuleSign) (c : Column) (columns : List Column) (entries : List Entry) → columns ≡ []
     → rule_end_by bars sign c columns entries ≡ c.start + c.width

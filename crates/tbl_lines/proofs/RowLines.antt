@@ -1,9 +1,9 @@
 -- The lines of a row that begins are those of its fields in the table.
-use Rattle.std.proofs.Common.{◌≡◌, ℕ, zero, suc, ◌+◌, ◌-◌, ◌≤◌, max, Bool, true, false, List, [], ◌∷◌, ◌++◌, length, drop, get_or, map, codes, Option, Some, None, refl, sym, ap, subst, ◌∙◌, arith, if◌then◌else◌}
+use Rattle.std.proofs.Common.{◌≡◌, ℕ, zero, suc, ◌+◌, ◌-◌, ◌≤◌, max, Bool, true, false, List, [], ◌∷◌, ◌++◌, length, drop, get_or, map, codes, Option, Some, None, refl, sym, ap, ◌∙◌, arith, if◌then◌else◌}
 use Rattle.std.specs.List.{AllByRecursion}
 use Rattle.std.proofs.lemmas.List.{drop-drop, drop-map}
 use Rattle.tbl_format.specs.Format.{FormatRow}
-use Rattle.tbl_kept.specs.Rows.{AreLaid, RowLaid, fields_of, measures}
+use Rattle.tbl_kept.specs.Rows.{AreLaid, RowLaid, fields_of}
 use Rattle.tbl_format.specs.RowsServed.{row_at}
 use Rattle.tbl_layout.specs.Columns.{greatest}
 use Rattle.tbl_layout.specs.Entries.{Content, field_at, up_to_last_glyph, Run, Text, key_at}
@@ -21,6 +21,7 @@ use Rattle.tbl_layout.specs.declared.data_lines.RuleSign.{RuleSign}
 use Rattle.roff_source.specs.Bytes.{newline}
 use Rattle.tbl_lines.proofs.AllEntries.{fields-all}
 use Rattle.tbl_lines.proofs.AllLaid.{all-high, all-laid, all-short}
+use Rattle.tbl_lines.proofs.CellsLent.{length-cells_of}
 use Rattle.tbl_lines.proofs.RowColumns.{drop-next}
 use Rattle.tbl_lines.proofs.RowCells.{CellSame, cell-same, drop-past, get-at, get-past, ruled-same}
 
@@ -138,103 +139,100 @@ joined-two (RuledKind sign) bytes e f = ap (λ (t : Bool). if t then Some sign e
 joined-two ShortKind bytes e f = refl
 joined-two (RepeatedKind b) bytes e f = refl
 
-module _ (boxing : Boxing) (bytes : List ℕ) (format : FormatRow) (all_columns : List Column) (all_entries : List Entry) where
+module _ (boxing : Boxing) (bytes : List ℕ) (format : FormatRow) (all_entries : List Entry) where
   abbrev fields : List Content
   fields = map (content_of bytes) all_entries
 
-  past-same : (column : ℕ) (columns : List Column) → drop column all_entries ≡ [] → SameLines (cells_from boxing column columns format fields) []
-  past-same column [] past = tt
-  past-same column (c ∷ columns) past =
-      let none : field_at fields column ≡ Text [] =
-      get-past column fields (Text []) (drop-map (content_of bytes) column all_entries ∙ ap (map (content_of bytes)) past) in (
-        ap (λ (f : Content). (cell_of (bars_between boxing format (suc column)) (key_at format column) c columns (field_at fields (suc column)) f).lines) none,
-        ap (λ (f : Content). (cell_of (bars_between boxing format (suc column)) (key_at format column) c columns (field_at fields (suc column)) f).below) none,
-        past-same (suc column) columns (drop-past column all_entries past),
+  past-same : (cell : ℕ) (columns : List Column) → drop cell all_entries ≡ [] → SameLines (cells_from boxing cell columns format fields) []
+  past-same cell [] past = tt
+  past-same cell (c ∷ columns) past =
+      let none : field_at fields cell ≡ Text [] =
+      get-past cell fields (Text []) (drop-map (content_of bytes) cell all_entries ∙ ap (map (content_of bytes)) past) in (
+        ap (λ (f : Content). (cell_of (bars_between boxing format (suc cell)) (key_at format cell) c columns (field_at fields (suc cell)) f).lines) none,
+        ap (λ (f : Content). (cell_of (bars_between boxing format (suc cell)) (key_at format cell) c columns (field_at fields (suc cell)) f).below) none,
+        past-same (suc cell) columns (drop-past cell all_entries past),
       )
 
   -- a field of the row, and where a rule ends in front of it
-  content-at : (column : ℕ) (e : Entry) (entries : List Entry) → drop column all_entries ≡ e ∷ entries → field_at fields column ≡ content_of bytes e
-  content-at column e entries at =
-      get-at column fields (content_of bytes e) (map (content_of bytes) entries) (Text [])
-      (drop-map (content_of bytes) column all_entries ∙ ap (map (content_of bytes)) at)
+  content-at : (cell : ℕ) (e : Entry) (entries : List Entry) → drop cell all_entries ≡ e ∷ entries → field_at fields cell ≡ content_of bytes e
+  content-at cell e entries at =
+      get-at cell fields (content_of bytes e) (map (content_of bytes) entries) (Text [])
+      (drop-map (content_of bytes) cell all_entries ∙ ap (map (content_of bytes)) at)
 
-  ends-same : (bars column : ℕ) (c : Column) (columns : List Column) (entries : List Entry) → drop column all_entries ≡ entries
-      → (sign : RuleSign) → rule_end bars sign c columns (field_at fields column) ≡ rule_end_by bars sign c columns entries
-  ends-same bars column c [] entries at sign = refl
-  ends-same bars column c (d ∷ columns) [] at sign =
+  ends-same : (bars cell : ℕ) (c : Column) (columns : List Column) (entries : List Entry) → drop cell all_entries ≡ entries
+      → (sign : RuleSign) → rule_end bars sign c columns (field_at fields cell) ≡ rule_end_by bars sign c columns entries
+  ends-same bars cell c [] entries at sign = refl
+  ends-same bars cell c (d ∷ columns) [] at sign =
       ap (rule_end bars sign c (d ∷ columns))
-      (get-past column fields (Text []) (drop-map (content_of bytes) column all_entries ∙ ap (map (content_of bytes)) at))
-  ends-same bars column c (d ∷ columns) (e ∷ entries) at sign =
-      ap (rule_end bars sign c (d ∷ columns)) (content-at column e entries at)
+      (get-past cell fields (Text []) (drop-map (content_of bytes) cell all_entries ∙ ap (map (content_of bytes)) at))
+  ends-same bars cell c (d ∷ columns) (e ∷ entries) at sign =
+      ap (rule_end bars sign c (d ∷ columns)) (content-at cell e entries at)
       ∙ ap (λ (t : Bool). if t then joint bars c d else c.start + c.width) (ruled-same sign e.kind bytes e.from e.to)
 
-  field-at : (column : ℕ) (c : Column) (columns : List Column) (e : Entry) (entries : List Entry) → drop column all_columns ≡ c ∷ columns
-      → drop (suc column) all_entries ≡ entries → IsLaid bytes (measures all_columns column) (key_at format column) e
-      → CellSame (bars_between boxing format (suc column)) bytes c columns (key_at format column) e (field_at fields (suc column)) entries
-  field-at column c columns e entries at behind laid =
-      let m : measures all_columns column ≡ c.measure =
-      get-at column (map (λ (x : Column). x.measure) all_columns) c.measure (map (λ (x : Column). x.measure) columns) 0
-      (drop-map (λ (x : Column). x.measure) column all_columns ∙ ap (map (λ (x : Column). x.measure)) at) in
-      cell-same (bars_between boxing format (suc column)) bytes c columns (key_at format column) e (field_at fields (suc column)) entries e.kind refl
-      (subst (λ (n : ℕ). IsLaid bytes n (key_at format column) e) m laid) (ends-same (bars_between boxing format (suc column)) (suc column) c columns entries behind)
+  field-at : (cell : ℕ) (c : Column) (columns : List Column) (e : Entry) (entries : List Entry)
+      → drop (suc cell) all_entries ≡ entries → IsLaid bytes (key_at format cell) e
+      → CellSame (bars_between boxing format (suc cell)) bytes c columns (key_at format cell) e (field_at fields (suc cell)) entries
+  field-at cell c columns e entries behind laid =
+      cell-same (bars_between boxing format (suc cell)) bytes c columns (key_at format cell) e (field_at fields (suc cell)) entries e.kind refl laid
+      (ends-same (bars_between boxing format (suc cell)) (suc cell) c columns entries behind)
 
-  cells-same : (column : ℕ) (columns : List Column) (entries : List Entry) → drop column all_columns ≡ columns → drop column all_entries ≡ entries
-      → length entries ≤ length columns → AreLaid bytes all_columns format column entries
-      → SameLines (cells_from boxing column columns format fields) (map (cell_left bytes 0) (row_columns boxing format column columns entries (map first_place entries)))
-  cells-same column [] [] at_columns at_entries short laid = tt
-  cells-same column [] (e ∷ entries) at_columns at_entries short laid = absurd (omega (arith, short))
-  cells-same column (c ∷ columns) [] at_columns at_entries short laid = past-same column (c ∷ columns) at_entries
-  cells-same column (c ∷ columns) (e ∷ entries) at_columns at_entries short laid =
-      let behind = drop-next column all_entries e entries at_entries in (
-        ap (cell_of (bars_between boxing format (suc column)) (key_at format column) c columns (field_at fields (suc column))) (content-at column e entries at_entries)
-            ∙ (field-at column c columns e entries at_columns behind laid.0).cell,
-        cells-same (suc column) columns entries (drop-next column all_columns c columns at_columns) behind (omega (arith, short)) laid.1,
+  cells-same : (cell : ℕ) (columns : List Column) (entries : List Entry) → drop cell all_entries ≡ entries
+      → length entries ≤ length columns → AreLaid bytes format cell entries
+      → SameLines (cells_from boxing cell columns format fields) (map (cell_left bytes 0) (row_columns boxing format cell columns entries (map first_place entries)))
+  cells-same cell [] [] at_entries short laid = tt
+  cells-same cell [] (e ∷ entries) at_entries short laid = absurd (omega (arith, short))
+  cells-same cell (c ∷ columns) [] at_entries short laid = past-same cell (c ∷ columns) at_entries
+  cells-same cell (c ∷ columns) (e ∷ entries) at_entries short laid =
+      let behind = drop-next cell all_entries e entries at_entries in (
+        ap (cell_of (bars_between boxing format (suc cell)) (key_at format cell) c columns (field_at fields (suc cell))) (content-at cell e entries at_entries)
+            ∙ (field-at cell c columns e entries behind laid.0).cell,
+        cells-same (suc cell) columns entries behind (omega (arith, short)) laid.1,
       )
 
-  rows-high : (column : ℕ) (columns : List Column) (entries : List Entry) → drop column all_columns ≡ columns → drop column all_entries ≡ entries
-      → length entries ≤ length columns → AreLaid bytes all_columns format column entries
-      → max 1 (greatest (map (λ c. length c.lines) (map (cell_left bytes 0) (row_columns boxing format column columns entries (map first_place entries)))))
+  rows-high : (cell : ℕ) (columns : List Column) (entries : List Entry) → drop cell all_entries ≡ entries
+      → length entries ≤ length columns → AreLaid bytes format cell entries
+      → max 1 (greatest (map (λ c. length c.lines) (map (cell_left bytes 0) (row_columns boxing format cell columns entries (map first_place entries)))))
       ≡ max 1 (greatest (map (λ e. lines_by e.kind) entries))
-  rows-high column [] [] at_columns at_entries short laid = refl
-  rows-high column [] (e ∷ entries) at_columns at_entries short laid = absurd (omega (arith, short))
-  rows-high column (c ∷ columns) [] at_columns at_entries short laid = refl
-  rows-high column (c ∷ columns) (e ∷ entries) at_columns at_entries short laid =
-      let behind = drop-next column all_entries e entries at_entries in
+  rows-high cell [] [] at_entries short laid = refl
+  rows-high cell [] (e ∷ entries) at_entries short laid = absurd (omega (arith, short))
+  rows-high cell (c ∷ columns) [] at_entries short laid = refl
+  rows-high cell (c ∷ columns) (e ∷ entries) at_entries short laid =
+      let behind = drop-next cell all_entries e entries at_entries in
       omega (
         arith,
-        (field-at column c columns e entries at_columns behind laid.0).high,
-        rows-high (suc column) columns entries (drop-next column all_columns c columns at_columns) behind (omega (arith, short)) laid.1,
+        (field-at cell c columns e entries behind laid.0).high,
+        rows-high (suc cell) columns entries behind (omega (arith, short)) laid.1,
       )
 
-  -- what stands between columns
-  joined-same : (column : ℕ) (entries : List Entry) → drop column all_entries ≡ entries
-      → joined_sign (field_at fields column) (field_at fields (suc column)) ≡ joined_first entries
-  joined-same column [] at =
-      ap (λ (f : Content). joined_sign f (field_at fields (suc column)))
-      (get-past column fields (Text []) (drop-map (content_of bytes) column all_entries ∙ ap (map (content_of bytes)) at))
-  joined-same column (e ∷ []) at =
-      let behind = drop-next column all_entries e [] at in
-      ap (λ (f : Content). joined_sign f (field_at fields (suc column))) (content-at column e [] at)
+  -- what stands between cells
+  joined-same : (cell : ℕ) (entries : List Entry) → drop cell all_entries ≡ entries
+      → joined_sign (field_at fields cell) (field_at fields (suc cell)) ≡ joined_first entries
+  joined-same cell [] at =
+      ap (λ (f : Content). joined_sign f (field_at fields (suc cell)))
+      (get-past cell fields (Text []) (drop-map (content_of bytes) cell all_entries ∙ ap (map (content_of bytes)) at))
+  joined-same cell (e ∷ []) at =
+      let behind = drop-next cell all_entries e [] at in
+      ap (λ (f : Content). joined_sign f (field_at fields (suc cell))) (content-at cell e [] at)
       ∙ ap (joined_sign (content_of bytes e))
-      (get-past (suc column) fields (Text []) (drop-map (content_of bytes) (suc column) all_entries ∙ ap (map (content_of bytes)) behind))
+      (get-past (suc cell) fields (Text []) (drop-map (content_of bytes) (suc cell) all_entries ∙ ap (map (content_of bytes)) behind))
       ∙ joined-last e.kind bytes e.from e.to
-  joined-same column (e ∷ f ∷ entries) at =
-      let behind = drop-next column all_entries e (f ∷ entries) at in
-      ap (λ (x : Content). joined_sign x (field_at fields (suc column))) (content-at column e (f ∷ entries) at)
-      ∙ ap (joined_sign (content_of bytes e)) (content-at (suc column) f entries behind)
+  joined-same cell (e ∷ f ∷ entries) at =
+      let behind = drop-next cell all_entries e (f ∷ entries) at in
+      ap (λ (x : Content). joined_sign x (field_at fields (suc cell))) (content-at cell e (f ∷ entries) at)
+      ∙ ap (joined_sign (content_of bytes e)) (content-at (suc cell) f entries behind)
       ∙ joined-two e.kind bytes e f
 
-  all-between-same : (column : ℕ) (columns : List Column) (entries : List Entry) → drop column all_entries ≡ entries
-      → all_between boxing column columns format fields ≡ all_between_by boxing format column columns entries
-  all-between-same column [] entries at = refl
-  all-between-same column (c ∷ []) entries at = refl
-  all-between-same column (c ∷ d ∷ columns) entries at =
-      let next : suc column ≡ column + 1 = omega arith in
-      let behind : drop (suc column) all_entries ≡ drop 1 entries =
-      ap (λ (n : ℕ). drop n all_entries) next ∙ sym (drop-drop 1 column all_entries) ∙ ap (λ (es : List Entry). drop 1 es) at in
-      let bars = bars_between boxing format (suc column) in
-      ap (λ (sign : Option RuleSign). bars_by sign bars c d ∷ all_between boxing (suc column) (d ∷ columns) format fields) (joined-same column entries at)
-      ∙ ap (λ (xs : List Cell). bars_by (joined_first entries) bars c d ∷ xs) (all-between-same (suc column) (d ∷ columns) (drop 1 entries) behind)
+  all-between-same : (cell : ℕ) (columns : List Column) (entries : List Entry) → drop cell all_entries ≡ entries
+      → all_between boxing cell columns format fields ≡ all_between_by boxing format cell columns entries
+  all-between-same cell [] entries at = refl
+  all-between-same cell (c ∷ []) entries at = refl
+  all-between-same cell (c ∷ d ∷ columns) entries at =
+      let next : suc cell ≡ cell + 1 = omega arith in
+      let behind : drop (suc cell) all_entries ≡ drop 1 entries =
+      ap (λ (n : ℕ). drop n all_entries) next ∙ sym (drop-drop 1 cell all_entries) ∙ ap (λ (es : List Entry). drop 1 es) at in
+      let bars = bars_between boxing format (suc cell) in
+      ap (λ (sign : Option RuleSign). bars_by sign bars c d ∷ all_between boxing (suc cell) (d ∷ columns) format fields) (joined-same cell entries at)
+      ∙ ap (λ (xs : List Cell). bars_by (joined_first entries) bars c d ∷ xs) (all-between-same (suc cell) (d ∷ columns) (drop 1 entries) behind)
 
 fronts-same : (bars : Bars) (width : ℕ) (bytes : List ℕ) (format : FormatRow) (columns : List Column) (entries : List Entry)
     → fronts (record { bars = bars; width = width; columns = columns }) format (map (content_of bytes) entries)
@@ -243,11 +241,11 @@ fronts-same bars width bytes format columns entries =
     let b = bars.boxing in
     let all : List Cell → List Cell = λ xs.
     if bars.has_any then bars_at 0 (bars_at_edge b format 0) ∷ xs ++ right_bars width (bars_at_edge b format (length columns)) ∷ [] else [] in
-    ap all (all-between-same b bytes format columns entries 0 columns entries refl)
+    ap all (all-between-same b bytes format entries 0 columns entries refl)
 
 -- a row that begins: how high it is, and its lines
 module _ (bytes : List ℕ) (formats : List FormatRow) (bars : Bars) (width : ℕ) (columns : List Column) (keys rules height : ℕ) (entries : List Entry)
-    (laid : RowLaid bytes formats columns keys rules height entries) where
+    (laid : RowLaid bytes formats (length columns) keys rules height entries) where
   abbrev row_now : WalkedRow
   row_now = walked bytes formats bars width columns keys height entries
 
@@ -264,45 +262,45 @@ module _ (bytes : List ℕ) (formats : List FormatRow) (bars : Bars) (width : �
   cells_of_row = cells_by (map (content_of bytes) stand)
 
   abbrev cells_of_fields : List Cell
-  cells_of_fields = cells_from bars.boxing 0 columns format_now (map (content_of bytes) stand)
+  cells_of_fields = cells_from bars.boxing 0 row_now.columns format_now (map (content_of bytes) stand)
 
   abbrev fields_of_row : List Cell
-  fields_of_row = map (cell_left bytes 0) (row_columns bars.boxing format_now 0 columns stand (map first_place stand))
+  fields_of_row = map (cell_left bytes 0) (row_columns bars.boxing format_now 0 row_now.columns stand (map first_place stand))
 
-  stand-short : length stand ≤ length columns
-  stand-short = omega (arith, all-short format_now entries, laid.short, laid.few)
+  stand-short : length stand ≤ length row_now.columns
+  stand-short = omega (arith, all-short format_now entries, laid.short, length-cells_of format_now.keys columns laid.cells)
 
-  stand-laid : AreLaid bytes columns format_now 0 stand
-  stand-laid = all-laid bytes columns format_now entries laid.laid
+  stand-laid : AreLaid bytes format_now 0 stand
+  stand-laid = all-laid bytes format_now entries laid.laid
 
   same-cells : cells_by (fields_of bytes format_now entries) ≡ cells_of_row
   same-cells = ap cells_by (fields-all bytes format_now entries)
 
   same-fields : SameLines cells_of_fields fields_of_row
-  same-fields = cells-same bars.boxing bytes format_now columns stand 0 columns stand refl refl stand-short stand-laid
+  same-fields = cells-same bars.boxing bytes format_now stand 0 row_now.columns stand refl stand-short stand-laid
 
-  same-fronts : fronts (record { bars = bars; width = width; columns = columns }) format_now (map (content_of bytes) stand)
-      ≡ fronts_by bars width format_now columns stand
-  same-fronts = fronts-same bars width bytes format_now columns stand
+  same-fronts : fronts (record { bars = bars; width = width; columns = row_now.columns }) format_now (map (content_of bytes) stand)
+      ≡ fronts_by bars width format_now row_now.columns stand
+  same-fronts = fronts-same bars width bytes format_now row_now.columns stand
 
   stand-high : row_height cells_of_row ≡ height
   stand-high =
-      let low = fronts-low bars width format_now columns stand in
+      let low = fronts-low bars width format_now row_now.columns stand in
       omega (
         arith,
         laid.high,
         all-high format_now entries,
         ap (λ (fs : List Cell). greatest (map (λ c. length c.lines) (with_fronts fs cells_of_fields))) same-fronts,
-        highest-fronts (fronts_by bars width format_now columns stand) cells_of_fields low,
+        highest-fronts (fronts_by bars width format_now row_now.columns stand) cells_of_fields low,
         highest-same cells_of_fields fields_of_row same-fields,
-        rows-high bars.boxing bytes format_now columns stand 0 columns stand refl refl stand-short stand-laid,
+        rows-high bars.boxing bytes format_now stand 0 row_now.columns stand refl stand-short stand-laid,
       )
 
   stand-begun : lines_from 0 (row_height cells_of_row) cells_of_row ≡ lines_from 0 (height - 0) (line_cells row_now 0 (map first_place stand))
   stand-begun =
       let high : row_height cells_of_row ≡ height - 0 = omega (arith, stand-high) in
       ap (λ (n : ℕ). lines_from 0 n cells_of_row) high
-      ∙ ap (λ (fs : List Cell). lines_from 0 (height - 0) (with_fronts fs cells_of_fields)) (same-fronts ∙ sym (from-first (fronts_by bars width format_now columns stand)))
+      ∙ ap (λ (fs : List Cell). lines_from 0 (height - 0) (with_fronts fs cells_of_fields)) (same-fronts ∙ sym (from-first (fronts_by bars width format_now row_now.columns stand)))
       ∙ lines-same 0 (height - 0) (with_fronts (fronts_of row_now 0) cells_of_fields) (line_cells row_now 0 (map first_place stand))
       (written-same (fronts_of row_now 0) cells_of_fields fields_of_row same-fields)
 

@@ -7,10 +7,9 @@ use Rattle.std.proofs.lemmas.List.{drop-drop, take-take, take_all}
 use Rattle.std.proofs.lemmas.Slice.{between_is}
 use Rattle.tbl_format.specs.Format.{FormatRow}
 use Rattle.tbl_format.specs.declared.format.Key.{Key}
-use Rattle.tbl_kept.specs.Rows.{AreLaid, measures}
+use Rattle.tbl_kept.specs.Rows.{AreLaid}
 use Rattle.tbl_layout.specs.Entries.{Run, key_at, run_of, without}
 use Rattle.tbl_layout.specs.KeptEntries.{IsLaidBy, Lies, split_by}
-use Rattle.tbl_layout.specs.declared.columns.Column.{Column}
 use Rattle.tbl_layout.specs.declared.entry.Entry.{Entry}
 use Rattle.tbl_layout.specs.declared.entry.EntryKind.{EntryKind}
 use Rattle.tbl_layout.specs.declared.entry.EntryKind.TheVariants.{Block as BlockKind, Repeated as RepeatedKind, Ruled as RuledKind, Short as ShortKind, Split as SplitKind, Text as TextKind}
@@ -74,19 +73,19 @@ module _ (bytes : List ℕ) (e : Entry) where
       ∙ ap (λ (split : Option Split). run (without split all) (without split (take m.glyphs all))) (sym is)
 
 -- what is kept of a row lies in the table's bytes
-entry-lies : (k : EntryKind) (bytes : List ℕ) (measure : ℕ) (key : Key) (e : Entry) → IsLaidBy k bytes measure key e → Lies bytes e
-entry-lies (TextKind glyphs width) bytes measure key e laid = record { order = laid.order; within = laid.within }
-entry-lies (SplitKind s) bytes measure key e laid = record { order = laid.order; within = laid.within }
-entry-lies (BlockKind b) bytes measure key e laid = record { order = laid.lies.order; within = laid.lies.within }
-entry-lies (RuledKind sign) bytes measure key e laid = record { order = laid.order; within = laid.within }
-entry-lies ShortKind bytes measure key e laid = record { order = laid.order; within = laid.within }
-entry-lies (RepeatedKind b) bytes measure key e laid = record { order = laid.order; within = laid.within }
+entry-lies : (k : EntryKind) (bytes : List ℕ) (key : Key) (e : Entry) → IsLaidBy k bytes key e → Lies bytes e
+entry-lies (TextKind glyphs width) bytes key e laid = record { order = laid.order; within = laid.within }
+entry-lies (SplitKind s) bytes key e laid = record { order = laid.order; within = laid.within }
+entry-lies (BlockKind b) bytes key e laid = record { order = laid.lies.order; within = laid.lies.within }
+entry-lies (RuledKind sign) bytes key e laid = record { order = laid.order; within = laid.within }
+entry-lies ShortKind bytes key e laid = record { order = laid.order; within = laid.within }
+entry-lies (RepeatedKind b) bytes key e laid = record { order = laid.order; within = laid.within }
 
-pub entries-lie : (bytes : List ℕ) (columns : List Column) (format : FormatRow) (column : ℕ) (entries : List Entry)
-    → AreLaid bytes columns format column entries → AllByRecursion (Lies bytes) entries
-entries-lie bytes columns format column [] laid = tt
-entries-lie bytes columns format column (e ∷ entries) laid =
-    (entry-lies e.kind bytes (measures columns column) (key_at format column) e laid.0, entries-lie bytes columns format (suc column) entries laid.1)
+pub entries-lie : (bytes : List ℕ) (format : FormatRow) (cell : ℕ) (entries : List Entry)
+    → AreLaid bytes format cell entries → AllByRecursion (Lies bytes) entries
+entries-lie bytes format cell [] laid = tt
+entries-lie bytes format cell (e ∷ entries) laid =
+    (entry-lies e.kind bytes (key_at format cell) e laid.0, entries-lie bytes format (suc cell) entries laid.1)
 
 -- its blocks begin within them
 first-by : (t : Bool) (block : List ℕ) → IsWithin block (if t then AtLine 0 None else AtEnd)

@@ -9,7 +9,7 @@ use Rattle.tbl_layout.specs.declared.columns.Column.{Column}
 use Rattle.tbl_layout.specs.declared.entry.Entry.{Entry}
 use Rattle.tbl_layout.specs.declared.entry.EntryKind.{EntryKind}
 use Rattle.tbl_layout.specs.declared.entry.EntryKind.TheVariants.{Block, Repeated, Ruled, Short, Split, Text}
-use Rattle.tbl_layout.specs.KeptEntries.{Lies}
+use Rattle.tbl_layout.specs.KeptEntries.{Lies, measure_by}
 use Rattle.tbl_lines.specs.PictureLines.{Cell}
 use Rattle.tbl_lines.specs.RowsLeft.{begins_at, behind_first, block_text, cell_left, first_of, lines_left_by}
 use Rattle.tbl_lines.specs.RowsWalked.{IsBlock}
@@ -61,7 +61,7 @@ drop-of-none (suc n) (x ∷ xs) none = absurd (cc)
 
 -- the lines of a block are those of what is left of it
 block-by : (k : EntryKind) (bytes : List ℕ) (line : ℕ) (c : Column) (end : ℕ) (e : Entry) (p : BlockPlace) → IsBlock k
-    → lines_left_by k bytes line c end e p ≡ map block_line (lines_of c.measure (parts_at (block_text bytes e) p))
+    → lines_left_by k bytes line c end e p ≡ map block_line (lines_of (measure_by k) (parts_at (block_text bytes e) p))
 block-by (Text glyphs width) bytes line c end e p is = absurd is
 block-by (Split s) bytes line c end e p is = absurd is
 block-by (Block b) bytes line c end e p is = refl
@@ -71,11 +71,11 @@ block-by (Repeated b) bytes line c end e p is = absurd is
 
 module _ (bytes : List ℕ) (line : ℕ) (r : RowColumn) (is : IsBlock r.entry.kind) where
   pub block-first : first_of (cell_left bytes line r)
-      ≡ get_or (map block_line (lines_of r.column.measure (parts_at (block_text bytes r.entry) r.place))) 0 []
+      ≡ get_or (map block_line (lines_of (measure_by r.entry.kind) (parts_at (block_text bytes r.entry) r.place))) 0 []
   block-first = ap (λ (lines : List (List Run)). get_or lines 0 []) (block-by r.entry.kind bytes line r.column r.end r.entry r.place is)
 
-  pub block-moved : (p : BlockPlace) → map block_line (lines_of r.column.measure (parts_at (block_text bytes r.entry) p))
-      ≡ drop 1 (map block_line (lines_of r.column.measure (parts_at (block_text bytes r.entry) r.place)))
+  pub block-moved : (p : BlockPlace) → map block_line (lines_of (measure_by r.entry.kind) (parts_at (block_text bytes r.entry) p))
+      ≡ drop 1 (map block_line (lines_of (measure_by r.entry.kind) (parts_at (block_text bytes r.entry) r.place)))
       → cell_left bytes (suc line) (record r { place = p }) ≡ behind_first (cell_left bytes line r)
   block-moved p moved =
       let cell : List (List Run) → Cell = λ lines. record { at = begins_at r; lines = lines; below = [] } in

@@ -1,6 +1,7 @@
 -- The lines of a table's picture, as the formatter reads them (Lesk, "Tbl": Formatting).
 use Rattle.std.specs.Prelude.{ℕ, zero, suc, nat_lt, ◌+◌, ◌-◌, max, Bool, true, false, ◌&&◌, List, [], ◌∷◌, ◌++◌, length, map, replicate, get_or, Option, None, Some, is_none, is_some, codes, if◌then◌else◌, ◌==◌}
 use Rattle.roff_source.specs.Bytes.{blank, newline}
+use Rattle.tbl_format.specs.Cells.{cell_behind}
 use Rattle.tbl_format.specs.Format.{FormatRow}
 use Rattle.tbl_format.specs.declared.format.FormatKey.{FormatKey}
 use Rattle.tbl_format.specs.declared.format.Key.{Key}
@@ -10,6 +11,7 @@ use Rattle.tbl_layout.specs.DataLines.{is_same_sign, sign_byte}
 use Rattle.tbl_layout.specs.Entries.{Command, Content, Element, Repeated, Row, Rule, Ruled, Run, Short, blanks, columns_of, field_at, key_at, lines_of_field, up_to_last_glyph}
 use Rattle.tbl_layout.specs.LayoutLaws.{first_start, last_end}
 use Rattle.tbl_layout.specs.RuleKeys.{rule_sign}
+use Rattle.tbl_layout.specs.Spans.{cells_of}
 use Rattle.tbl_layout.specs.Widths.{edge_bars, inner_bars}
 use Rattle.tbl_layout.specs.declared.bars.Bars.{Bars}
 use Rattle.tbl_layout.specs.declared.columns.Column.{Column}
@@ -32,22 +34,22 @@ abbrev pub is_ruled : RuleSign → Content → Bool
 is_ruled sign (Ruled other) = is_same_sign sign other
 is_ruled sign field = false
 
--- how many bars a row of the formats has in front of the key of a column, or behind its last key
+-- how many bars a row of the formats has in front of the key of a cell, or behind its last key
 abbrev pub bars_among : List FormatKey → ℕ → ℕ → ℕ
 bars_among [] last zero = last
-bars_among [] last (suc column) = 0
+bars_among [] last (suc cell) = 0
 bars_among (k ∷ keys) last zero = k.bars
-bars_among (k ∷ keys) last (suc column) = bars_among keys last column
+bars_among (k ∷ keys) last (suc cell) = bars_among keys last cell
 
 abbrev pub bars_of : FormatRow → ℕ → ℕ
-bars_of format column = bars_among format.keys format.bars column
+bars_of format cell = bars_among format.keys format.bars cell
 
--- how many bars stand in rows that it serves, at an edge of the picture, and in front of a column that isn't the first
+-- how many bars stand in rows that it serves, at an edge of the picture, and in front of a cell that isn't the first
 abbrev pub bars_at_edge : Boxing → FormatRow → ℕ → ℕ
-bars_at_edge boxing format column = edge_bars boxing (bars_of format column)
+bars_at_edge boxing format cell = edge_bars boxing (bars_of format cell)
 
 abbrev pub bars_between : Boxing → FormatRow → ℕ → ℕ
-bars_between boxing format column = inner_bars boxing (bars_of format column)
+bars_between boxing format cell = inner_bars boxing (bars_of format cell)
 
 -- where a rule over a column ends that goes on with the next one: there, or where so many bars stand between them
 abbrev pub joint : ℕ → Column → Column → ℕ
@@ -69,21 +71,22 @@ pub record Cell : Type 0 where
 abbrev pub one_run : ℕ → Run → Cell
 one_run at run = record { at = at; lines = (run ∷ []) ∷ []; below = [] }
 
--- the cell that a field is under its key in a column, behind which so many bars stand, these columns come, and this field
+-- the cell that a field is under its key in its columns, which are one, behind which so many bars stand, those of these cells come, and
+-- this field
 abbrev pub cell_of : ℕ → Key → Column → List Column → Content → Content → Cell
 cell_of bars key c columns next (Ruled sign) =
     one_run c.start (repeated (sign_byte sign) (rule_end bars sign c columns next - c.start))
 cell_of bars key c columns next Short = one_run (c.start + place_of_rule c key) (repeated (sign_byte Single) (widest_entry c.needs))
 cell_of bars key c columns next (Repeated b) = one_run c.start (repeated b c.width)
 cell_of bars key c columns next field =
-    record { at = c.start + place_in c key (stands c.measure key field); lines = lines_of_field c.measure key field; below = [] }
+    record { at = c.start + place_in c key (stands key field); lines = lines_of_field key field; below = [] }
 
--- the cells of a row, from a column on
+-- the cells of a row, from one on
 abbrev pub cells_from : Boxing → ℕ → List Column → FormatRow → List Content → List Cell
-cells_from boxing column [] format fields = []
-cells_from boxing column (c ∷ columns) format fields =
-    cell_of (bars_between boxing format (suc column)) (key_at format column) c columns (field_at fields (suc column)) (field_at fields column)
-    ∷ cells_from boxing (suc column) columns format fields
+cells_from boxing cell [] format fields = []
+cells_from boxing cell (c ∷ columns) format fields =
+    cell_of (bars_between boxing format (suc cell)) (key_at format cell) c columns (field_at fields (suc cell)) (field_at fields cell)
+    ∷ cells_from boxing (suc cell) columns format fields
 
 -- nothing that stands in a row
 abbrev pub nothing_there : Cell
@@ -114,13 +117,13 @@ bars_by joined zero c d = nothing_there
 bars_by None (suc n) c d = bars_at (bar_place (suc n) c d) (suc n)
 bars_by (Some sign) (suc n) c d = crossed_at (bar_place (suc n) c d) (suc n) sign d.start
 
--- what stands between columns from one on, each but the first
+-- what stands between cells from one on, each but the first
 abbrev pub all_between : Boxing → ℕ → List Column → FormatRow → List Content → List Cell
-all_between boxing column [] format fields = []
-all_between boxing column (c ∷ []) format fields = []
-all_between boxing column (c ∷ d ∷ columns) format fields =
-    bars_by (joined_sign (field_at fields column) (field_at fields (suc column))) (bars_between boxing format (suc column)) c d
-    ∷ all_between boxing (suc column) (d ∷ columns) format fields
+all_between boxing cell [] format fields = []
+all_between boxing cell (c ∷ []) format fields = []
+all_between boxing cell (c ∷ d ∷ columns) format fields =
+    bars_by (joined_sign (field_at fields cell) (field_at fields (suc cell))) (bars_between boxing format (suc cell)) c d
+    ∷ all_between boxing (suc cell) (d ∷ columns) format fields
 
 -- what stands at the right edge of a picture that is so wide
 abbrev pub right_bars : ℕ → ℕ → Cell
@@ -132,7 +135,11 @@ pub record Sheet : Type 0 where
   pub width : ℕ
   pub columns : List Column
 
--- what stands in front of each column of a row, and behind the last: in a picture without bars nothing
+-- a picture, for a row with these keys: the columns of each cell are one
+abbrev pub in_cells : List FormatKey → Sheet → Sheet
+in_cells keys s = record s { columns = cells_of keys s.columns }
+
+-- what stands in front of each cell of a row, and behind the last: in a picture without bars nothing
 abbrev pub fronts : Sheet → FormatRow → List Content → List Cell
 fronts s format fields =
     let boxing = s.bars.boxing in
@@ -149,7 +156,8 @@ with_fronts (f ∷ fronts) (c ∷ cells) = f ∷ c ∷ with_fronts fronts cells
 
 -- all that stands on the lines of a row
 abbrev pub row_cells : Sheet → FormatRow → List Content → List Cell
-row_cells s format fields = with_fronts (fronts s format fields) (cells_from s.bars.boxing 0 s.columns format fields)
+row_cells s format fields =
+    let row = in_cells format.keys s in with_fronts (fronts row format fields) (cells_from s.bars.boxing 0 row.columns format fields)
 
 -- a row is as high as its highest cell, and one line at least
 abbrev pub height : List Cell → ℕ
@@ -190,19 +198,30 @@ pub data Neighbour : Type 0 where
 abbrev pub rules_behind : FormatRow → ℕ → Bool
 rules_behind format column = nat_lt column (length format.keys)
 
--- how many bars a line shows at an edge, which is in front of a column or behind the last, and how many behind a column. A row has
--- none where two same rules cross them on its first line. That of rule keys shows those of the line behind it where it isn't ruled, and
--- it rules no edge
+-- how many bars the first line of a row of these keys with these fields shows in front of a cell, or another line; none, where two same
+-- rules cross them on the first; and none in front of the first cell, or of none
+abbrev pub shown_in_front : Boxing → Bool → FormatRow → List Content → Option ℕ → ℕ
+shown_in_front boxing is_first format fields None = 0
+shown_in_front boxing is_first format fields (Some zero) = 0
+shown_in_front boxing is_first format fields (Some (suc cell)) =
+    if is_first && is_some (joined_sign (field_at fields cell) (field_at fields (suc cell))) then 0
+    else bars_between boxing format (suc cell)
+
+abbrev pub edge_of_cell : Boxing → FormatRow → Option ℕ → ℕ
+edge_of_cell boxing format None = 0
+edge_of_cell boxing format (Some cell) = bars_at_edge boxing format cell
+
+-- how many bars a line shows at an edge, which is in front of a column or behind the last, and how many behind a column: a row shows
+-- none inside a cell. That of rule keys shows those of the line behind it where it isn't ruled, and it rules no edge
 abbrev pub shown_at_edge : Boxing → Neighbour → ℕ → ℕ
 shown_at_edge boxing NoRow column = 0
-shown_at_edge boxing (OfRow is_first format fields) column = bars_at_edge boxing format column
+shown_at_edge boxing (OfRow is_first format fields) column = edge_of_cell boxing format (cell_behind format.keys column)
 shown_at_edge boxing (OfRules format behind) column = max (bars_at_edge boxing format column) (shown_at_edge boxing behind column)
 
 abbrev pub shown_behind : Boxing → Neighbour → ℕ → ℕ
 shown_behind boxing NoRow column = 0
 shown_behind boxing (OfRow is_first format fields) column =
-    if is_first && is_some (joined_sign (field_at fields column) (field_at fields (suc column))) then 0
-    else bars_between boxing format (suc column)
+    shown_in_front boxing is_first format fields (cell_behind format.keys (suc column))
 shown_behind boxing (OfRules format behind) column =
     if rules_behind format column then 0 else max (bars_between boxing format (suc column)) (shown_behind boxing behind column)
 

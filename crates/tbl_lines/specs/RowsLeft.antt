@@ -9,7 +9,7 @@ use Rattle.tbl_options.specs.declared.options.Boxing.{Boxing}
 use Rattle.tbl_layout.specs.Columns.{place_in, place_of_rule, widest_entry}
 use Rattle.tbl_layout.specs.DataLines.{is_same_sign, sign_byte}
 use Rattle.tbl_layout.specs.Entries.{Run, block_line, further_words, run_of_word, up_to_last_glyph}
-use Rattle.tbl_layout.specs.KeptEntries.{stands_of}
+use Rattle.tbl_layout.specs.KeptEntries.{measure_by, stands_of}
 use Rattle.tbl_layout.specs.declared.bars.Bars.{Bars}
 use Rattle.tbl_layout.specs.declared.columns.Column.{Column}
 use Rattle.tbl_layout.specs.declared.data_lines.RuleSign.{RuleSign}
@@ -63,7 +63,7 @@ repeated_lines line b count = drop line ((repeated b count ∷ []) ∷ [])
 abbrev pub lines_left_by : EntryKind → List ℕ → ℕ → Column → ℕ → Entry → BlockPlace → List (List Run)
 lines_left_by (Text glyphs width) bytes line c end e place = drop line (text_lines (e.from == e.to) (text_run bytes e glyphs width))
 lines_left_by (Split s) bytes line c end e place = drop line ((split_run bytes e s ∷ []) ∷ [])
-lines_left_by (Block b) bytes line c end e place = map block_line (lines_of c.measure (parts_at (block_text bytes e) place))
+lines_left_by (Block b) bytes line c end e place = map block_line (lines_of b.measure (parts_at (block_text bytes e) place))
 lines_left_by (Ruled sign) bytes line c end e place = repeated_lines line (sign_byte sign) (end - c.start)
 lines_left_by Short bytes line c end e place = repeated_lines line (sign_byte Single) (widest_entry c.needs)
 lines_left_by (Repeated b) bytes line c end e place = repeated_lines line b c.width
@@ -199,7 +199,7 @@ abbrev pub word_given : List ℕ → ℕ → List Cell → ℕ → BlockWord →
 word_given bytes line fronts count w width behind [] = []
 word_given bytes line fronts count w width behind (r ∷ columns) =
     let block = block_text bytes r.entry in
-    let words = rest_of_line r.column.measure width (parts_at block behind) in
+    let words = rest_of_line (measure_by r.entry.kind) width (parts_at block behind) in
     given_of count (run_of_word (word_at block w) ∷ further_words words)
     ++ given (one_less count) (begins_at r + width_behind width words) (with_fronts fronts (map (cell_left bytes line) columns))
 

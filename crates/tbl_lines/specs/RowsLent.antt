@@ -1,8 +1,10 @@
 -- A row whose lines are given, with all that stands in it, as it is lent to those that give them.
-use Rattle.std.specs.Prelude.{ℕ, ◌≤◌, List, length, map, nat_lt, None, if◌then◌else◌}
+use Rattle.std.specs.Prelude.{◌≡◌, ℕ, ◌<◌, ◌≤◌, true, List, length, map, nat_lt, None, if◌then◌else◌}
 use Rattle.std.specs.List.{AllByRecursion}
-use Rattle.tbl_format.specs.Format.{FormatRow}
+use Rattle.tbl_format.specs.Format.{FormatRow, columns_of}
+use Rattle.tbl_format.specs.FormatRows.{AreWithin}
 use Rattle.tbl_format.specs.RowsServed.{row_at}
+use Rattle.tbl_layout.specs.Spans.{cells_of}
 use Rattle.tbl_layout.specs.declared.bars.Bars.{Bars}
 use Rattle.tbl_layout.specs.declared.columns.Column.{Column}
 use Rattle.tbl_layout.specs.declared.entry.Entry.{Entry}
@@ -10,12 +12,12 @@ use Rattle.tbl_layout.specs.KeptEntries.{Lies, all_entries}
 use Rattle.tbl_lines.specs.PictureLines.{Cell, with_fronts}
 use Rattle.tbl_lines.specs.RowsLeft.{cell_left, from_line, fronts_by, row_columns}
 use Rattle.tbl_lines.specs.RowsWalked.{AreNarrow, PlacesLie}
-use Rattle.tbl_lines.specs.declared.row_columns.RowLent.{RowLent}
+use Rattle.tbl_lines.specs.declared.row_lent.RowLent.{RowLent}
 use Rattle.tbl_text.specs.declared.block_parts.BlockPlace.{BlockPlace}
 use Rattle.tbl_text.specs.declared.block_parts.BlockPlace.TheVariants.{AtEnd, AtLine as AtPlace}
 
--- a row that is walked: its picture's bars, and how wide that is, the table's bytes, the row of the formats, the columns, its lines
--- and its fields
+-- a row that is walked: its picture's bars, and how wide that is, the table's bytes, the row of the formats, the columns of each cell as
+-- one, its lines and its fields
 pub record WalkedRow : Type 0 where
   pub bars : Bars
   pub width : ℕ
@@ -33,13 +35,24 @@ lent_format row = record { keys = row.keys.now; bars = row.last_bars }
 abbrev pub lent_entries : RowLent → List Entry
 lent_entries row = all_entries (lent_format row) row.entries.now
 
+-- the columns of each of its cells as one
+abbrev pub lent_columns : RowLent → List Column
+lent_columns row = cells_of row.keys.now row.columns.now
+
+-- its cells have their columns
+pub record LiesInColumns (row : RowLent) : Type 0 where
+  pub cells : AreWithin (length row.columns.now) row.keys.now
+  pub narrow : AreNarrow row.columns.now
+  pub few : length row.columns.now < 4294967296
+  pub plain : row.is_plain ≡ true → columns_of row.keys.now ≡ length row.keys.now
+
 abbrev pub lent_row : RowLent → WalkedRow
 lent_row row = record {
   bars = row.bars;
   width = row.width;
   bytes = row.bytes.now;
   format = lent_format row;
-  columns = row.columns.now;
+  columns = lent_columns row;
   height = row.height;
   entries = lent_entries row;
 }
@@ -60,7 +73,7 @@ walked bytes formats bars width columns keys height entries = record {
   width = width;
   bytes = bytes;
   format = row_at formats keys;
-  columns = columns;
+  columns = cells_of (row_at formats keys).keys columns;
   height = height;
   entries = all_entries (row_at formats keys) entries;
 }

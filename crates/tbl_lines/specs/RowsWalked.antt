@@ -2,6 +2,7 @@
 use Rattle.std.specs.Prelude.{◌≡◌, ℕ, zero, suc, ◌+◌, ◌<◌, max, List, [], ◌∷◌, drop, length, map}
 use Rattle.std.specs.List.{AllByRecursion}
 use Rattle.tbl_layout.specs.Entries.{Run, block_line, up_to_last_glyph}
+use Rattle.tbl_layout.specs.KeptEntries.{measure_by}
 use Rattle.tbl_layout.specs.declared.columns.Column.{Column}
 use Rattle.tbl_layout.specs.declared.entry.Entry.{Entry}
 use Rattle.tbl_layout.specs.declared.entry.EntryKind.{EntryKind}
@@ -16,10 +17,9 @@ use Rattle.tbl_text.specs.BlockPlaces.{IsWithin, LiesBehind, left_at, parts_at}
 use Rattle.tbl_text.specs.declared.block_parts.BlockPlace.{BlockPlace}
 use Rattle.tbl_text.specs.declared.block_words.BlockWord.{BlockWord}
 
--- a column is narrow, and stands where no sum of places overflows
+-- a column ends where no sum of places overflows
 pub record IsNarrow (c : Column) : Type 0 where
-  pub start : c.start < 4294967296
-  pub width : c.width < 4294967296
+  pub end : c.start + c.width < 4294967296
 
 abbrev pub AreNarrow : List Column → Type 0
 AreNarrow columns = AllByRecursion IsNarrow columns
@@ -67,8 +67,8 @@ pub record StandsNext (bytes : List ℕ) (word : BlockWord) (width : ℕ) (place
   pub block : IsBlock r.entry.kind
   pub lies : LiesBehind (block_text bytes r.entry) 0 word
   pub within : IsWithin (block_text bytes r.entry) place
-  pub rest : map block_line (lines_of r.column.measure (behind_rest r.column.measure width (parts_at (block_text bytes r.entry) place)))
-      ≡ drop 1 (map block_line (lines_of r.column.measure (parts_at (block_text bytes r.entry) r.place)))
+  pub rest : map block_line (lines_of (measure_by r.entry.kind) (behind_rest (measure_by r.entry.kind) width (parts_at (block_text bytes r.entry) place)))
+      ≡ drop 1 (map block_line (lines_of (measure_by r.entry.kind) (parts_at (block_text bytes r.entry) r.place)))
 
 abbrev pub StandsInFirst : List ℕ → BlockWord → ℕ → BlockPlace → List RowColumn → Type 0
 StandsInFirst bytes word width place [] = ⊥

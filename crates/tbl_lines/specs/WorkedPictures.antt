@@ -1,16 +1,17 @@
 -- The pictures of small tables, by the lines of their data.
 use Rattle.std.specs.Prelude.{ℕ, true, false, not, List, [], ◌∷◌, map, Option, ◌==◌}
-use Rattle.tbl_format.specs.Format.{FormatRow, nothing_asked, plain_key}
+use Rattle.tbl_format.specs.Format.{FormatRow, nothing_asked}
 use Rattle.tbl_format.specs.declared.format.Asked.{Asked}
 use Rattle.tbl_format.specs.declared.format.FormatKey.{FormatKey}
 use Rattle.tbl_format.specs.declared.format.Key.{Key}
 use Rattle.tbl_options.specs.declared.options.Boxing.{Boxing}
-use Rattle.tbl_layout.specs.Columns.{laid}
 use Rattle.tbl_layout.specs.Data.{fields}
 use Rattle.tbl_layout.specs.DataLines.{line_kind}
-use Rattle.tbl_layout.specs.Entries.{Command, Element, Row, Rule, content_read}
+use Rattle.tbl_layout.specs.Entries.{Block, Command, Element, Row, Rule, content_read}
 use Rattle.tbl_layout.specs.declared.data_lines.LineKind.{LineKind}
 use Rattle.tbl_layout.specs.declared.data_lines.LineKind.TheVariants.{Command as CommandKind, Rule as RuleKind}
+use Rattle.tbl_layout.specs.RulesWorked.{row_of}
+use Rattle.tbl_layout.specs.Spans.{filled, laid}
 use Rattle.tbl_layout.specs.declared.bars.Bars.{Bars}
 use Rattle.tbl_lines.specs.PictureLines.{picture_lines}
 
@@ -23,12 +24,14 @@ element_by format kind line = Row [] format (map content_read (fields 58 line))
 abbrev pub elements_read : FormatRow → List (List ℕ) → List Element
 elements_read format lines = map (λ line. element_by format (line_kind line) line) lines
 
--- the lines of a picture that is boxed so, with columns of which this is asked, and rows of such a format
-abbrev pub lines_laid_out : Bars → List Asked → FormatRow → List (List ℕ) → List ℕ
-lines_laid_out bars asked format lines =
-    let elements = elements_read format lines in
+-- the lines of a picture that is boxed so, with columns of which this is asked, and these elements; and with rows of such a format
+abbrev pub lines_of_elements : Bars → List Asked → List Element → List ℕ
+lines_of_elements bars asked elements =
     let table = laid bars false 65 asked elements in
-    picture_lines (record { bars = bars; width = table.width; columns = table.columns }) elements
+    picture_lines (record { bars = bars; width = table.width; columns = table.columns }) (filled bars 65 asked elements)
+
+abbrev pub lines_laid_out : Bars → List Asked → FormatRow → List (List ℕ) → List ℕ
+lines_laid_out bars asked format lines = lines_of_elements bars asked (elements_read format lines)
 
 -- how a picture is boxed: not, by `box`, by `allbox`, by `doublebox`, and by both of these
 abbrev pub not_boxed : Boxing
@@ -50,7 +53,7 @@ double_each = record { bars = 2; is_inside = true }
 abbrev pub lines_boxed : Boxing → Option ℕ → List Key → List (List ℕ) → List ℕ
 lines_boxed boxing least keys lines =
     lines_laid_out (record { boxing = boxing; front = 0; has_any = not (boxing.bars == 0) })
-    (map (λ k. record nothing_asked { least = least }) keys) (record { keys = map (plain_key 0) keys; bars = 0 }) lines
+    (map (λ k. record nothing_asked { least = least }) keys) (row_of keys) lines
 
 -- and of one that isn't boxed
 abbrev pub lines_of_data : Option ℕ → List Key → List (List ℕ) → List ℕ
@@ -89,15 +92,13 @@ with_rules (rules ∷ further) (Command bytes ∷ elements) = Command bytes ∷ 
 
 -- a row of rule keys
 abbrev pub keys_alone : List Key → FormatRow
-keys_alone keys = record { keys = map (plain_key 0) keys; bars = 0 }
+keys_alone keys = row_of keys
 
 -- the lines of a picture with these bars, whose format asks for the bars of these keys, and has such rows of rule keys in front of those
 -- of its rows
 abbrev pub lines_ruled_by : Bars → List FormatKey → ℕ → List (List FormatRow) → List (List ℕ) → List ℕ
 lines_ruled_by bars keys last rules lines =
-    let elements = with_rules rules (elements_read (record { keys = keys; bars = last }) lines) in
-    let table = laid bars false 65 (bars_asked keys last) elements in
-    picture_lines (record { bars = bars; width = table.width; columns = table.columns }) elements
+    lines_of_elements bars (bars_asked keys last) (with_rules rules (elements_read (record { keys = keys; bars = last }) lines))
 
 -- of one that may have bars and is boxed so, and of one that has none
 abbrev pub lines_ruled : Boxing → List FormatKey → ℕ → List (List FormatRow) → List (List ℕ) → List ℕ
@@ -106,4 +107,21 @@ lines_ruled boxing keys last rules lines =
 
 abbrev pub lines_ruled_alone : List Key → List (List FormatRow) → List (List ℕ) → List ℕ
 lines_ruled_alone keys rules lines =
-    lines_ruled_by (record { boxing = not_boxed; front = 0; has_any = false }) (map (plain_key 0) keys) 0 rules lines
+    lines_ruled_by (record { boxing = not_boxed; front = 0; has_any = false }) (row_of keys).keys 0 rules lines
+
+-- what stands in a table with rows of several formats: rows of these keys, and one that has a block of these lines in front of other fields
+abbrev pub rows_under : List FormatKey → List (List ℕ) → List Element
+rows_under keys lines = elements_read (record { keys = keys; bars = 0 }) lines
+
+abbrev pub row_with_block : List FormatKey → List (List ℕ) → List ℕ → Element
+row_with_block keys block line = Row [] (record { keys = keys; bars = 0 }) (Block 0 block ∷ map content_read (fields 58 line))
+
+-- its lines: it may have bars and is boxed so, and asks for so many bars behind each column; and where its columns are at least so wide
+abbrev pub lines_of_rows : Boxing → List ℕ → List Element → List ℕ
+lines_of_rows boxing bars elements =
+    lines_of_elements (record { boxing = boxing; front = 0; has_any = true }) (map (λ n. record nothing_asked { bars = n }) bars) elements
+
+abbrev pub lines_of_widths : Boxing → List (Option ℕ) → List Element → List ℕ
+lines_of_widths boxing widths elements =
+    lines_of_elements (record { boxing = boxing; front = 0; has_any = not (boxing.bars == 0) })
+    (map (λ least. record nothing_asked { least = least }) widths) elements

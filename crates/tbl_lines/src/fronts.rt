@@ -1,22 +1,24 @@
-//! What stands in front of the columns of a row, and behind the last, in a picture that has bars
+//! What stands in front of the cells of a row, and behind the last, in a picture that has bars
 //! (Lesk, "Tbl": Options, Format).
 
 ghost use Rattle.std.specs.Prelude.{◌≡◌, ℕ, suc, ◌-◌, ◌<◌, ◌^◌, ◌∷◌, length, drop};
 ghost use Rattle.tbl_lines.specs.RowsLeft.{cell_of_front, fronts_by, is_there};
 ghost use Rattle.tbl_lines.specs.RowsLeft.{joined_first, joined_kinds};
 ghost use Rattle.tbl_lines.specs.PictureLines.{bars_at, bars_by};
-ghost use Rattle.tbl_lines.specs.RowsWalked.{AreNarrow, HasBars, IsNarrow};
-ghost use Rattle.tbl_lines.specs.RowsLent.{lent_entries, lent_format};
+ghost use Rattle.tbl_lines.specs.RowsWalked.{HasBars, IsNarrow};
+ghost use Rattle.tbl_lines.specs.RowsLent.{LiesInColumns, lent_columns, lent_entries};
+ghost use Rattle.tbl_lines.specs.RowsLent.{lent_format};
 ghost use Rattle.tbl_layout.specs.KeptEntries.{all_entries};
 
-use crate::row_columns::{RowLent, is_ruled};
+use crate::row_columns::is_ruled;
+use crate::row_lent::RowLent;
 use tbl_format::format::FormatKey;
 use tbl_layout::columns::{Column, bar_place};
 use tbl_layout::data_lines::RuleSign;
 use tbl_layout::entry::{Entry, EntryKind};
 use tbl_layout::rule_keys::entry_at;
 
-/// What stands in front of a column.
+/// What stands in front of a cell.
 #[derive(Clone, Copy)]
 pub enum Front {
     /// Nothing.
@@ -28,29 +30,29 @@ pub enum Front {
     Crossed(usize, u8, RuleSign, usize),
 }
 
-/// What stands in front of a column, or behind the last.
+/// What stands in front of a cell, or behind the last.
 pub fn front_at(row: &RowLent<'_>, at: usize) -> Front
     requires within { at < length (fronts_by row.now.bars row.now.width (lent_format row.now)
-        row.now.columns.now (lent_entries row.now)) }
-    requires narrow { AreNarrow row.now.columns.now }
+        (lent_columns row.now) (lent_entries row.now)) }
+    requires lies { LiesInColumns row.now }
     ensures at { let all = fronts_by row.now.bars row.now.width (lent_format row.now)
-        row.now.columns.now (lent_entries row.now) in
+        (lent_columns row.now) (lent_entries row.now) in
         drop at all ≡ cell_of_front result ∷ drop (suc at) all }
     ensures some { HasBars result }
 {
     if at == 0 {
         return edge_front(0, row.edge_bars(0));
     }
-    if at >= row.columns.len() {
-        let bars = row.edge_bars(row.columns.len());
+    let cells = row.cells();
+    if at >= cells {
+        let bars = row.edge_bars(cells);
         return edge_front(row.width.saturating_sub(bars as usize), bars);
     }
-    let bars = row.bars_between(at);
     between(
-        bars,
+        row.bars_between(at),
         joined_at(row.keys, row.entries, at - 1),
-        row.columns[at - 1],
-        row.columns[at],
+        row.cell(at - 1),
+        row.cell(at),
     )
 }
 
@@ -66,7 +68,7 @@ fn edge_front(place: usize, bars: u8) -> Front
     }
 }
 
-/// So many bars between a column and the next, which rules of this sign may cross.
+/// So many bars between a cell and the next, which rules of this sign may cross.
 fn between(bars: u8, joined: Option<RuleSign>, column: Column, next: Column) -> Front
     requires { IsNarrow column }
     ensures cell { cell_of_front result ≡ bars_by joined bars column next }
@@ -82,7 +84,7 @@ fn between(bars: u8, joined: Option<RuleSign>, column: Column, next: Column) -> 
     }
 }
 
-/// The sign of the field of a column and the next, if they are the same rule, in a row that has
+/// The sign of the field of a cell and the next, if they are the same rule, in a row that has
 /// these keys and these fields.
 pub fn joined_at(keys: &[FormatKey], entries: &[Entry], at: usize) -> Option<RuleSign>
     requires { at < 2 ^ 64 - 1 }

@@ -4,7 +4,9 @@
 
 pub mod fronts;
 pub mod row_columns;
+pub mod row_lent;
 pub mod worked_bars;
 pub mod worked_boxes;
 pub mod worked_rule_keys;
 pub mod worked_rules;
+pub mod worked_spans;

@@ -1,56 +1,36 @@
-//! The columns of a row whose lines are given.
+//! The cells of a row whose lines are given.
 
-ghost use Rattle.std.specs.Prelude.{◌≡◌, ℕ, suc, ◌+◌, ◌-◌, ◌<◌, ◌≤◌, ◌^◌, List, [], ◌∷◌, length, drop};
-ghost use Rattle.std.specs.Prelude.{map, get_or, true, false, if◌then◌else◌};
+ghost use Rattle.std.specs.Prelude.{◌≡◌, ℕ, suc, ◌+◌, ◌-◌, ◌<◌, ◌≤◌, ◌^◌, List, [], ◌∷◌};
+ghost use Rattle.std.specs.Prelude.{length, drop, map, get_or, true, false, if◌then◌else◌};
 ghost use Rattle.tbl_layout.specs.KeptEntries.{Lies};
 ghost use Rattle.tbl_lines.specs.RowsLeft.{begins_at, block_text, cell_left, first_cell};
-ghost use Rattle.tbl_lines.specs.RowsLeft.{end_by, first_of, is_ruled_by, repeated_lines, row_columns};
-ghost use Rattle.tbl_lines.specs.RowsLeft.{rule_end_by, split_run};
-ghost use Rattle.tbl_lines.specs.PictureLines.{bars_among, bars_at_edge, bars_between, joint};
-ghost use Rattle.tbl_lines.specs.RowsWalked.{AreGlyphless, AreNarrow, HasGlyph};
+ghost use Rattle.tbl_lines.specs.RowsLeft.{end_by, first_of, is_ruled_by, repeated_lines};
+ghost use Rattle.tbl_lines.specs.RowsLeft.{row_columns, rule_end_by, split_run};
+ghost use Rattle.tbl_lines.specs.PictureLines.{bars_between, joint};
+ghost use Rattle.tbl_lines.specs.RowsWalked.{AreGlyphless, HasGlyph};
 ghost use Rattle.tbl_lines.specs.RowsWalked.{IsNarrow, LastHasGlyph};
-ghost use Rattle.tbl_lines.specs.RowsLent.{CellsLie, lent_entries, lent_format, lent_row};
+ghost use Rattle.tbl_lines.specs.RowsLent.{CellsLie, LiesInColumns, lent_columns, lent_entries};
+ghost use Rattle.tbl_lines.specs.RowsLent.{lent_format, lent_row};
 ghost use Rattle.tbl_layout.specs.DataLines.{is_same_sign};
 ghost use Rattle.tbl_layout.specs.Entries.{block_line, up_to_last_glyph};
 ghost use Rattle.tbl_text.specs.BlockLines.{lines_of};
 ghost use Rattle.tbl_text.specs.BlockPlaces.{IsWithin, parts_at};
 
+use crate::row_lent::RowLent;
 use roff_escape::OpenEscapes;
-use tbl_format::format::{FormatKey, Key};
+use tbl_format::format::Key;
 use tbl_kept::rows::key_at;
-use tbl_layout::bars::{Bars, edge_bars, inner_bars};
 use tbl_layout::columns::{Column, bar_place};
 use tbl_layout::data_lines::{RuleSign, sign_byte};
 use tbl_layout::entry::{Entry, EntryKind, SplitEntry};
 use tbl_layout::rule_keys::entry_at;
 use tbl_text::block_parts::{BlockPart, BlockPlace, next_part};
 
-/// A row, lent.
-#[derive(Clone, Copy)]
-pub struct RowLent<'a> {
-    /// The bars of the table's picture.
-    pub bars: Bars,
-    /// How wide it is.
-    pub width: usize,
-    /// The table's bytes.
-    pub bytes: &'a [u8],
-    /// The keys of the row of the formats that serves it.
-    pub keys: &'a [FormatKey],
-    /// How many bars it has behind the last of them.
-    pub last_bars: u8,
-    /// The table's columns.
-    pub columns: &'a [Column],
-    /// The fields that it has: rule keys behind them rule their columns still.
-    pub entries: &'a [Entry],
-    /// How many lines it has.
-    pub height: u32,
-}
-
-/// A column of a row: its key, its field, and where the block or the rule that this is goes on or
-/// ends.
+/// A cell of a row: its columns as one, its key, its field, and where the block or the rule that
+/// this is goes on or ends.
 #[derive(Clone, Copy)]
 pub struct RowColumn {
-    /// The column.
+    /// Its columns as one.
     pub column: Column,
     /// Its key.
     pub key: Key,
@@ -58,23 +38,23 @@ pub struct RowColumn {
     pub entry: Entry,
     /// Where the block goes on.
     pub place: BlockPlace,
-    /// The column of the page where the rule over the column ends, else 0.
+    /// The column of the page where the rule over the cell ends, else 0.
     pub end: usize,
 }
 
-/// A column of a row that has a field in it, whose blocks go on at these places.
+/// A cell of a row that has a field in it, whose blocks go on at these places.
 // It is called for each cell.
 #[inline(always)]
 pub fn column_at(row: &RowLent<'_>, places: &[BlockPlace], at: usize) -> RowColumn
     requires given { at < length row.now.entries.now }
-    requires column { length (lent_entries row.now) ≤ length row.now.columns.now }
+    requires cells { length (lent_entries row.now) ≤ length (lent_columns row.now) }
     requires place { at < length places.now }
-    requires narrow { AreNarrow row.now.columns.now }
-    ensures { let all = row_columns row.now.bars.boxing (lent_format row.now) 0 row.now.columns.now
-        (lent_entries row.now) places.now in
+    requires lies { LiesInColumns row.now }
+    ensures { let all = row_columns row.now.bars.boxing (lent_format row.now) 0
+        (lent_columns row.now) (lent_entries row.now) places.now in
         drop at all ≡ result ∷ drop (suc at) all }
 {
-    let column = row.columns[at];
+    let column = row.cell(at);
     let entry = row.entries[at];
     RowColumn {
         column,
@@ -85,19 +65,19 @@ pub fn column_at(row: &RowLent<'_>, places: &[BlockPlace], at: usize) -> RowColu
     }
 }
 
-/// Any column of a row, also behind the last field.
-// A column behind the last field is rare.
+/// Any cell of a row, also behind the last field.
+// A cell behind the last field is rare.
 #[inline(never)]
 pub fn column_behind(row: &RowLent<'_>, places: &[BlockPlace], at: usize) -> RowColumn
     requires entry { at < length (lent_entries row.now) }
-    requires column { length (lent_entries row.now) ≤ length row.now.columns.now }
+    requires cells { length (lent_entries row.now) ≤ length (lent_columns row.now) }
     requires place { at < length places.now }
-    requires narrow { AreNarrow row.now.columns.now }
-    ensures { let all = row_columns row.now.bars.boxing (lent_format row.now) 0 row.now.columns.now
-        (lent_entries row.now) places.now in
+    requires lies { LiesInColumns row.now }
+    ensures { let all = row_columns row.now.bars.boxing (lent_format row.now) 0
+        (lent_columns row.now) (lent_entries row.now) places.now in
         drop at all ≡ result ∷ drop (suc at) all }
 {
-    let column = row.columns[at];
+    let column = row.cell(at);
     let entry = entry_at(row.keys, row.entries, at);
     RowColumn {
         column,
@@ -108,16 +88,17 @@ pub fn column_behind(row: &RowLent<'_>, places: &[BlockPlace], at: usize) -> Row
     }
 }
 
-/// The column of the page where a field of this kind ends in a column, if it is a rule over it,
-/// else 0.
+/// The column of the page where a field of this kind ends in its columns, if it is a rule over
+/// them, else 0.
 // It is called for each cell.
 #[inline(always)]
 fn end_at(row: &RowLent<'_>, at: usize, column: Column, kind: EntryKind) -> usize
+    requires lies { LiesInColumns row.now }
     requires entry { at < length (lent_entries row.now) }
-    requires column { length (lent_entries row.now) ≤ length row.now.columns.now }
+    requires cells { length (lent_entries row.now) ≤ length (lent_columns row.now) }
     requires narrow { IsNarrow column }
     ensures { result ≡ end_by (bars_between row.now.bars.boxing (lent_format row.now) (suc at)) kind
-        column (drop (suc at) row.now.columns.now) (drop (suc at) (lent_entries row.now)) }
+        column (drop (suc at) (lent_columns row.now)) (drop (suc at) (lent_entries row.now)) }
 {
     match kind {
         EntryKind::Ruled(sign) => rule_end(row, at, column, sign),
@@ -125,26 +106,27 @@ fn end_at(row: &RowLent<'_>, at: usize, column: Column, kind: EntryKind) -> usiz
     }
 }
 
-/// Where a rule over a column ends: one that is drawn alike goes on with it.
+/// Where a rule over a cell ends: one that is drawn alike goes on with it.
 // Such a rule is rare.
 #[inline(never)]
 fn rule_end(row: &RowLent<'_>, at: usize, column: Column, sign: RuleSign) -> usize
+    requires lies { LiesInColumns row.now }
     requires entry { at < length (lent_entries row.now) }
-    requires column { length (lent_entries row.now) ≤ length row.now.columns.now }
+    requires cells { length (lent_entries row.now) ≤ length (lent_columns row.now) }
     requires narrow { IsNarrow column }
     ensures { result ≡ rule_end_by (bars_between row.now.bars.boxing (lent_format row.now) (suc at))
-        sign column (drop (suc at) row.now.columns.now) (drop (suc at) (lent_entries row.now)) }
+        sign column (drop (suc at) (lent_columns row.now)) (drop (suc at) (lent_entries row.now)) }
 {
     let next = at + 1;
-    if next < row.columns.len() {
+    if next < row.cells() {
         let is_joined = is_ruled(sign, entry_at(row.keys, row.entries, next).kind);
-        rule_end_before(row.bars_between(next), is_joined, column, row.columns[next])
+        rule_end_before(row.bars_between(next), is_joined, column, row.cell(next))
     } else {
         column.start + column.width
     }
 }
 
-/// Where it ends in front of another column, which a rule goes on with or not.
+/// Where it ends in front of another cell, which a rule goes on with or not.
 fn rule_end_before(bars: u8, is_joined: bool, column: Column, next: Column) -> usize
     requires { IsNarrow column }
     ensures { result
@@ -157,7 +139,7 @@ fn rule_end_before(bars: u8, is_joined: bool, column: Column, next: Column) -> u
     }
 }
 
-/// Where a rule over a column ends that goes on with the next one, with so many bars between them.
+/// Where a rule over a cell ends that goes on with the next one, with so many bars between them.
 fn joint(bars: u8, column: Column, next: Column) -> usize
     requires { IsNarrow column }
     ensures { result ≡ joint bars column next }
@@ -169,36 +151,7 @@ fn joint(bars: u8, column: Column, next: Column) -> usize
     }
 }
 
-/// How many bars stand in front of a key of a row, or behind the last, of which there are so many.
-pub fn bars_among(keys: &[FormatKey], last_bars: u8, at: usize) -> u8
-    ensures { result ≡ bars_among keys.now last_bars at }
-{
-    if at < keys.len() {
-        keys[at].bars
-    } else if at == keys.len() {
-        last_bars
-    } else {
-        0
-    }
-}
-
-impl RowLent<'_> {
-    /// How many bars stand in front of a column, or behind the last.
-    pub fn edge_bars(&self, at: usize) -> u8
-        ensures { result ≡ bars_at_edge self.now.bars.boxing (lent_format self.now) at }
-    {
-        edge_bars(self.bars.boxing, bars_among(self.keys, self.last_bars, at))
-    }
-
-    /// How many bars stand in front of a column that isn't the first.
-    pub fn bars_between(&self, at: usize) -> u8
-        ensures { result ≡ bars_between self.now.bars.boxing (lent_format self.now) at }
-    {
-        inner_bars(self.bars.boxing, bars_among(self.keys, self.last_bars, at))
-    }
-}
-
-/// Whether a field is a rule over its column that is drawn with this sign.
+/// Whether a field is a rule over its cell that is drawn with this sign.
 pub fn is_ruled(sign: RuleSign, kind: EntryKind) -> bool
     ensures { result ≡ is_ruled_by sign kind }
 {
@@ -329,7 +282,7 @@ fn begins_with_word(escapes: &mut OpenEscapes, block: &[u8], place: BlockPlace) 
     }
 }
 
-/// Whether a column of a row has a glyph on a line, where its blocks go on at these places.
+/// Whether a cell of a row has a glyph on a line, where its blocks go on at these places.
 // It is called for each cell.
 #[inline(always)]
 pub fn has_glyph_at(
@@ -339,14 +292,15 @@ pub fn has_glyph_at(
     line: u32,
     at: usize,
 ) -> bool
+    requires lies { LiesInColumns row.now }
     requires cells { CellsLie (lent_row row.now) places.now }
     requires within { at < length (lent_entries row.now) }
     ensures yes { result ≡ true → HasGlyph (first_of (first_cell (drop at
         (map (cell_left row.now.bytes.now line) (row_columns row.now.bars.boxing
-        (lent_format row.now) 0 row.now.columns.now (lent_entries row.now) places.now))))) }
+        (lent_format row.now) 0 (lent_columns row.now) (lent_entries row.now) places.now))))) }
     ensures no { result ≡ false → up_to_last_glyph (first_of (first_cell (drop at
         (map (cell_left row.now.bytes.now line) (row_columns row.now.bars.boxing
-        (lent_format row.now) 0 row.now.columns.now (lent_entries row.now) places.now))))) ≡ [] }
+        (lent_format row.now) 0 (lent_columns row.now) (lent_entries row.now) places.now))))) ≡ [] }
     ensures room { escapes.new.room ≡ escapes.old.room }
 {
     if at < row.entries.len() {
@@ -356,20 +310,21 @@ pub fn has_glyph_at(
     }
 }
 
-/// How many columns there are up to the last that has a glyph on a line.
+/// How many cells there are up to the last that has a glyph on a line.
 pub fn count_to_glyph(
     escapes: &mut OpenEscapes,
     row: &RowLent<'_>,
     places: &[BlockPlace],
     line: u32,
 ) -> usize
+    requires lies { LiesInColumns row.now }
     requires cells { CellsLie (lent_row row.now) places.now }
     ensures few { result ≤ length (lent_entries row.now) }
     ensures last { LastHasGlyph result (map (cell_left row.now.bytes.now line)
-        (row_columns row.now.bars.boxing (lent_format row.now) 0 row.now.columns.now
+        (row_columns row.now.bars.boxing (lent_format row.now) 0 (lent_columns row.now)
         (lent_entries row.now) places.now)) }
     ensures behind { AreGlyphless (drop result (map (cell_left row.now.bytes.now line)
-        (row_columns row.now.bars.boxing (lent_format row.now) 0 row.now.columns.now
+        (row_columns row.now.bars.boxing (lent_format row.now) 0 (lent_columns row.now)
         (lent_entries row.now) places.now))) }
     ensures room { escapes.new.room ≡ escapes.old.room }
 {

@@ -10,14 +10,14 @@ ghost use Rattle.tbl_lines.specs.WorkedPictures.{lines_without_bars, not_boxed};
 /// cross them.
 pub fn between()
     ensures rows { lines_barred not_boxed
-        (plain_key 0 Left ∷ plain_key 1 Center ∷ plain_key 2 Right ∷ []) 0
+        (plain_key 0 Left 0 ∷ plain_key 1 Center 1 ∷ plain_key 2 Right 2 ∷ []) 0
         (codes "a:bb:c" ∷ codes "_" ∷ codes "dd:e:ff" ∷ [])
         ≡ codes "\\&a  | bb ||  c\n\\&---+----++---\n\\&dd | e  || ff\n" }
-    ensures rules { lines_barred not_boxed (plain_key 0 Left ∷ plain_key 1 Left ∷ []) 0
+    ensures rules { lines_barred not_boxed (plain_key 0 Left 0 ∷ plain_key 1 Left 1 ∷ []) 0
         (codes "_" ∷ codes "=" ∷ codes "a:b" ∷ codes "=" ∷ [])
         ≡ codes "\\&-----\n\\&==+==\n\\&a | b\n\\&==+==\n" }
     ensures short { lines_barred not_boxed
-        (plain_key 0 Left ∷ plain_key 1 Left ∷ plain_key 1 Left ∷ []) 0
+        (plain_key 0 Left 0 ∷ plain_key 1 Left 1 ∷ plain_key 1 Left 2 ∷ []) 0
         (codes "a" ∷ codes "b:c:d" ∷ [])
         ≡ codes "\\&a |   |\n\\&b | c | d\n" }
 {}
@@ -25,40 +25,40 @@ pub fn between()
 /// Bars at the edges (`||l|l||`, `|l l`), and a row without bars where another one has them
 /// (`l l` beside `|l|l|`).
 pub fn edges()
-    ensures both { lines_barred not_boxed (plain_key 2 Left ∷ plain_key 1 Left ∷ []) 2
+    ensures both { lines_barred not_boxed (plain_key 2 Left 0 ∷ plain_key 1 Left 1 ∷ []) 2
         (codes "_" ∷ codes "a:b" ∷ [])
         ≡ codes "\\&++---+---++\n\\&|| a | b ||\n" }
-    ensures one { lines_barred not_boxed (plain_key 1 Left ∷ plain_key 0 Left ∷ []) 0
+    ensures one { lines_barred not_boxed (plain_key 1 Left 0 ∷ plain_key 0 Left 1 ∷ []) 0
         (codes "a:b" ∷ codes "_" ∷ [])
         ≡ codes "\\&| a   b\n\\&+------\n" }
-    ensures other { lines_without_bars (plain_key 1 Left ∷ plain_key 1 Left ∷ []) 1
+    ensures other { lines_without_bars (plain_key 1 Left 0 ∷ plain_key 1 Left 1 ∷ []) 1
         (codes "_" ∷ codes "a:b" ∷ [])
         ≡ codes "\\&---------\n\\&  a   b\n" }
 {}
 
 /// Double boxes (of `l l`, and of `|l||l|`).
 pub fn doubled()
-    ensures around { lines_barred double (plain_key 0 Left ∷ plain_key 0 Left ∷ []) 0
+    ensures around { lines_barred double (plain_key 0 Left 0 ∷ plain_key 0 Left 1 ∷ []) 0
         (codes "a:b" ∷ [])
         ≡ codes "\\&++=======++\n\\&|| a   b ||\n\\&++=======++\n" }
-    ensures fields { lines_barred double_each (plain_key 0 Left ∷ plain_key 0 Left ∷ []) 0
+    ensures fields { lines_barred double_each (plain_key 0 Left 0 ∷ plain_key 0 Left 1 ∷ []) 0
         (codes "a:b" ∷ codes "c:d" ∷ [])
         ≡ codes "\\&++===+===++\n\\&|| a | b ||\n\\&++---+---++\n"
         ++ codes "\\&|| c | d ||\n\\&++===+===++\n" }
-    ensures fewer { lines_barred double (plain_key 1 Left ∷ plain_key 2 Left ∷ []) 1
+    ensures fewer { lines_barred double (plain_key 1 Left 0 ∷ plain_key 2 Left 1 ∷ []) 1
         (codes "a:b" ∷ [])
         ≡ codes "\\&++===++===++\n\\&|| a || b ||\n\\&++===++===++\n" }
 {}
 
 /// Rules over columns that go on over bars (of `l||l`, and of `l|l`).
 pub fn joined()
-    ensures same { lines_barred not_boxed (plain_key 0 Left ∷ plain_key 2 Left ∷ []) 0
+    ensures same { lines_barred not_boxed (plain_key 0 Left 0 ∷ plain_key 2 Left 1 ∷ []) 0
         (codes "_:_" ∷ codes "a:b" ∷ [])
         ≡ codes "\\&--++--\n\\&a || b\n" }
-    ensures others { lines_barred not_boxed (plain_key 0 Left ∷ plain_key 2 Left ∷ []) 0
+    ensures others { lines_barred not_boxed (plain_key 0 Left 0 ∷ plain_key 2 Left 1 ∷ []) 0
         (codes "_:=" ∷ codes "a:b" ∷ [])
         ≡ codes "\\&- || =\n\\&a || b\n" }
-    ensures below { lines_barred not_boxed (plain_key 0 Left ∷ plain_key 1 Left ∷ []) 0
+    ensures below { lines_barred not_boxed (plain_key 0 Left 0 ∷ plain_key 1 Left 1 ∷ []) 0
         (codes "_" ∷ codes "_:_" ∷ codes "a:b" ∷ [])
         ≡ codes "\\&-----\n\\&--+--\n\\&a | b\n" }
 {}

@@ -22,16 +22,16 @@ pub fn alone()
 /// Beside bars (of `l | l | l`, and of `l || l | l`), and behind rules over the whole table.
 pub fn barred()
     ensures rows { lines_ruled not_boxed
-        (plain_key 0 Left ∷ plain_key 1 Left ∷ plain_key 1 Left ∷ []) 0
+        (plain_key 0 Left 0 ∷ plain_key 1 Left 1 ∷ plain_key 1 Left 2 ∷ []) 0
         ((keys_alone (Rule ∷ Rule ∷ Rule ∷ []) ∷ keys_alone (Rule ∷ Rule ∷ []) ∷ []) ∷ [])
         (codes "a:bb:c" ∷ [])
         ≡ codes "\\&----------\n\\&--+----+\n\\&a | bb | c\n" }
     ensures signs { lines_ruled not_boxed
-        (plain_key 0 Left ∷ plain_key 2 Left ∷ plain_key 1 Left ∷ []) 0
+        (plain_key 0 Left 0 ∷ plain_key 2 Left 1 ∷ plain_key 1 Left 2 ∷ []) 0
         ((keys_alone (Rule ∷ DoubleRule ∷ Rule ∷ []) ∷ []) ∷ []) (codes "a:bb:c" ∷ [])
         ≡ codes "\\&--++====+--\n\\&a || bb | c\n" }
     ensures rule { lines_ruled not_boxed
-        (plain_key 0 Left ∷ plain_key 2 Left ∷ plain_key 1 Left ∷ []) 0
+        (plain_key 0 Left 0 ∷ plain_key 2 Left 1 ∷ plain_key 1 Left 2 ∷ []) 0
         ((keys_alone (Rule ∷ []) ∷ keys_alone (Rule ∷ Rule ∷ []) ∷ []) ∷ [])
         (codes "_" ∷ codes "a:bb:c" ∷ [])
         ≡ codes "\\&-----------\n\\&----\n\\&--++----+\n\\&a || bb | c\n" }
@@ -40,11 +40,11 @@ pub fn barred()
 /// Short ones, through which bars are seen that stand below them, or above and below.
 pub fn short()
     ensures through { lines_ruled not_boxed
-        (plain_key 0 Left ∷ plain_key 1 Left ∷ plain_key 2 Left ∷ []) 0
+        (plain_key 0 Left 0 ∷ plain_key 1 Left 1 ∷ plain_key 2 Left 2 ∷ []) 0
         ([] ∷ (keys_alone (Rule ∷ []) ∷ []) ∷ []) (codes "a:bb:c" ∷ codes "d:e:f" ∷ [])
         ≡ codes "\\&a | bb || c\n\\&--+    ||\n\\&d | e  || f\n" }
     ensures rule { lines_ruled not_boxed
-        (plain_key 0 Left ∷ plain_key 1 Left ∷ plain_key 1 Left ∷ []) 0
+        (plain_key 0 Left 0 ∷ plain_key 1 Left 1 ∷ plain_key 1 Left 2 ∷ []) 0
         ([] ∷ (keys_alone (Rule ∷ []) ∷ keys_alone (DoubleRule ∷ Rule ∷ []) ∷ []) ∷ [])
         (codes "a:bb:c" ∷ codes "_" ∷ codes "d:e:f" ∷ [])
         ≡ codes "\\&a | bb | c\n\\&--+----+--\n\\&---\n\\&==+----+\n"
@@ -54,12 +54,12 @@ pub fn short()
 /// In boxes: that of each field has no line beside them.
 pub fn boxed()
     ensures around { lines_ruled around
-        (plain_key 0 Left ∷ plain_key 1 Left ∷ plain_key 1 Left ∷ []) 0
+        (plain_key 0 Left 0 ∷ plain_key 1 Left 1 ∷ plain_key 1 Left 2 ∷ []) 0
         ((keys_alone (Rule ∷ Rule ∷ Rule ∷ []) ∷ keys_alone (Rule ∷ Rule ∷ []) ∷ []) ∷ [])
         (codes "a:bb:c" ∷ [])
         ≡ codes "\\&+------------+\n\\&| ---------- |\n\\&| --+----+   |\n"
         ++ codes "\\&| a | bb | c |\n\\&+---+----+---+\n" }
-    ensures fields { lines_ruled each_field (plain_key 0 Left ∷ plain_key 0 Left ∷ []) 0
+    ensures fields { lines_ruled each_field (plain_key 0 Left 0 ∷ plain_key 0 Left 1 ∷ []) 0
         ([] ∷ (keys_alone (Rule ∷ Rule ∷ []) ∷ keys_alone (Rule ∷ []) ∷ []) ∷ [])
         (codes "a:b" ∷ codes "c:d" ∷ codes "e:f" ∷ [])
         ≡ codes "\\&+---+---+\n\\&| a | b |\n\\&| --+-- |\n\\&| --+   |\n"

@@ -51,7 +51,7 @@ pub record ColumnThere (row : WalkedRow) (w : KeptWalk) : Type 0 where
 pub column-there : (row : WalkedRow) (w : KeptWalk) → InLine row w → length w.behind < length row.entries → ColumnThere row w
 column-there row w line few =
     let before = line.on.before in
-    let no_column : Column = record { needs = record { alone = 0; strip = 0; left = 0; right = 0; split = 0 }; measure = 0; bars = 0; width = 0; start = 0 } in
+    let no_column : Column = record { needs = record { alone = 0; strip = 0; left = 0; right = 0; split = 0 }; bars = 0; width = 0; start = 0 } in
     let no_entry : Entry = record { from = 0; to = 0; kind = Text 0 0 } in
     let less : length w.behind < length w.places = omega (arith, few, length-places row.bytes row.entries w.places before.places) in
     let first = row-column row.bars.boxing row.format 0 (length w.behind) row.columns row.entries w.places no_column no_entry (AtPlace 0 None)

@@ -19,12 +19,13 @@ use Rattle.tbl_picture.specs.declared.walk.beside.Beside.TheVariants.{Nothing as
 use Rattle.tbl_picture.specs.declared.walk.rules.RuleLine.{RuleLine as LineBegun}
 use Rattle.tbl_picture.specs.declared.walk.rules.RuleLine.TheVariants.{OfKeys as KeysBegun}
 use Rattle.tbl_pieces.proofs.Adding.{adds-fewer, adds-fitting, adds-none}
-use Rattle.tbl_lines.proofs.AllLaid.{all-laid, all-short}
+use Rattle.tbl_lines.proofs.AllLaid.{all-laid}
+use Rattle.tbl_lines.proofs.CellsLent.{narrow-cells}
 use Rattle.tbl_picture.proofs.BoxedElements.{boxed-keys}
 use Rattle.tbl_lines.proofs.RowLines.{lines-begun, row-high}
 use Rattle.tbl_lines.proofs.RowsBegun.{entries-lie, first-places}
 use Rattle.tbl_picture.proofs.RowsOn.{some-on}
-use Rattle.tbl_picture.proofs.RowSteps.{row-laid}
+use Rattle.tbl_picture.proofs.RowSteps.{row-laid, stand-few, stand-short}
 use Rattle.tbl_picture.proofs.RulesBegun.{rows-first, unbarred}
 use Rattle.tbl_picture.proofs.StepsGiven.{gives}
 use Rattle.tbl_picture.proofs.LinesBegun.{behind-rule, from-keys, line-begins, lines-behind, one-more, stands-behind, steps-behind}
@@ -150,10 +151,10 @@ module _ (bytes frame : List ℕ) (formats : List FormatRow) (rows : KeptRows) (
         let rest : Bool → List ℕ = λ is_first. lines_on (sheet_of rows w) true (OfRow is_first (row_at formats keys) fields) behind in
         let before_line : BeforeLine row new = record {
           line = omega (arith, laid.high);
-          short = omega (arith, all-short (row_at formats keys) entries, laid.short, laid.few);
-          room = omega (arith, all-short (row_at formats keys) entries, laid.short, laid.few, can.room);
-          narrow = can.narrow;
-          lie = entries-lie bytes rows.columns (row_at formats keys) 0 stand (all-laid bytes rows.columns (row_at formats keys) entries laid.laid);
+          short = stand-short bytes formats rows.columns keys rules height entries laid;
+          room = omega (arith, stand-few bytes formats (length rows.columns) keys rules height entries laid, can.room);
+          narrow = narrow-cells (row_at formats keys).keys rows.columns can.narrow;
+          lie = entries-lie bytes (row_at formats keys) 0 stand (all-laid bytes (row_at formats keys) entries laid.laid);
           places = first-places bytes stand;
         } in
         let same_height : height - 0 ≡ height = omega arith in

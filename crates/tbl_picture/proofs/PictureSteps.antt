@@ -101,7 +101,7 @@ module _ (bytes frame : List ℕ) (formats : List FormatRow) (rows : KeptRows) (
 
     -- a command
     pub command-lies : (from to : ℕ) (elements : List KeptElement) → drop w.element rows.elements ≡ Command from to ∷ elements → CommandLies bytes from to
-    command-lies from to elements at = all-at (ElementLaid bytes formats rows.columns) w.element rows.elements (Command from to) elements can.laid at
+    command-lies from to elements at = all-at (ElementLaid bytes formats (length rows.columns)) w.element rows.elements (Command from to) elements can.laid at
 
     pub command-steps : (from to : ℕ) (elements : List KeptElement) → drop w.element rows.elements ≡ Command from to ∷ elements
         → Adds bytes frame 4 before after (slice_range bytes from to ++ newline ∷ [])

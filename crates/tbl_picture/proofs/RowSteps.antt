@@ -16,7 +16,11 @@ use Rattle.tbl_pieces.specs.Pieces.{AreWithin}
 use Rattle.tbl_picture.specs.RulesWalked.{AreServed, IsRowFirst, IsRowThere, line_of_first, sheet_of}
 use Rattle.tbl_picture.specs.Walks.{IsOn, IsUnderWay, KeptWalk, RowEnds, RowEndsOrGoesOn, RowSteps, Stays, WalkedRow, row_left, row_steps, walked}
 use Rattle.tbl_picture.specs.Nexts.{AtCell, AtElement, AtEnd, AtFront, AtLine, AtRule, AtRuleRow, AtTop, AtWord, Next}
+use Rattle.tbl_format.proofs.CellColumns.{cells-few}
+use Rattle.tbl_layout.specs.KeptEntries.{all_entries}
+use Rattle.tbl_layout.specs.Spans.{cells_of}
 use Rattle.tbl_lines.proofs.AllLaid.{all-short}
+use Rattle.tbl_lines.proofs.CellsLent.{length-cells_of}
 use Rattle.tbl_lines.proofs.RowColumns.{drop-next, drop-none}
 use Rattle.tbl_picture.proofs.RowsOn.{some-on, steps-on}
 use Rattle.tbl_picture.proofs.StepsGiven.{gives}
@@ -32,7 +36,7 @@ pub within-drop : (n : ℕ) (xs : List KeptElement) (x : KeptElement) (rest : Li
 within-drop n xs x rest is = omega (arith, length-drop n xs, ap length is)
 
 -- the rows of elements that are laid out have rows of the formats
-pub rows-served : (bytes : List ℕ) (formats : List FormatRow) (columns : List Column) (elements : List KeptElement)
+pub rows-served : (bytes : List ℕ) (formats : List FormatRow) (columns : ℕ) (elements : List KeptElement)
     → AllByRecursion (ElementLaid bytes formats columns) elements → AreServed formats elements
 rows-served bytes formats columns [] all = tt
 rows-served bytes formats columns (Row keys rules height entries ∷ elements) all =
@@ -46,19 +50,42 @@ all-drop P n [] all = subst (AllByRecursion P) (sym (drop-none n)) tt
 all-drop P zero (x ∷ xs) all = all
 all-drop P (suc n) (x ∷ xs) all = all-drop P n xs all.1
 
-fits-first : (bytes : List ℕ) (formats : List FormatRow) (columns : List Column) (room : ℕ) (elements : List KeptElement)
-    → AllByRecursion (ElementLaid bytes formats columns) elements → length columns ≤ room → FirstFits room formats elements
+-- all that stands in a row has a cell, and no more cells than columns
+pub stand-few : (bytes : List ℕ) (formats : List FormatRow) (columns keys rules height : ℕ) (entries : List Entry)
+    → RowLaid bytes formats columns keys rules height entries → length (all_entries (row_at formats keys) entries) ≤ columns
+stand-few bytes formats columns keys rules height entries laid =
+    omega (
+      arith,
+      all-short (row_at formats keys) entries,
+      laid.short,
+      laid.cells.short,
+      cells-few (row_at formats keys).keys laid.cells.cells,
+    )
+
+pub stand-short : (bytes : List ℕ) (formats : List FormatRow) (columns : List Column) (keys rules height : ℕ) (entries : List Entry)
+    → RowLaid bytes formats (length columns) keys rules height entries
+    → length (all_entries (row_at formats keys) entries) ≤ length (cells_of (row_at formats keys).keys columns)
+stand-short bytes formats columns keys rules height entries laid =
+    omega (
+      arith,
+      all-short (row_at formats keys) entries,
+      laid.short,
+      length-cells_of (row_at formats keys).keys columns laid.cells,
+    )
+
+fits-first : (bytes : List ℕ) (formats : List FormatRow) (columns room : ℕ) (elements : List KeptElement)
+    → AllByRecursion (ElementLaid bytes formats columns) elements → columns ≤ room → FirstFits room formats elements
 fits-first bytes formats columns room [] all fits = tt
 fits-first bytes formats columns room (Row keys rules height entries ∷ elements) all fits =
-    omega (arith, all-short (row_at formats keys) entries, all.0.short, all.0.few, fits)
+    omega (arith, stand-few bytes formats columns keys rules height entries all.0, fits)
 fits-first bytes formats columns room (Rule sign ∷ elements) all fits = tt
 fits-first bytes formats columns room (Command from to ∷ elements) all fits = tt
 
 pub first-fits : (bytes : List ℕ) (formats : List FormatRow) (rows : KeptRows) (w : KeptWalk) → CanWalk bytes formats rows w
     → FirstFits w.room formats (drop w.element rows.elements)
 first-fits bytes formats rows w can =
-    fits-first bytes formats rows.columns w.room (drop w.element rows.elements)
-    (all-drop (ElementLaid bytes formats rows.columns) w.element rows.elements can.laid) can.room
+    fits-first bytes formats (length rows.columns) w.room (drop w.element rows.elements)
+    (all-drop (ElementLaid bytes formats (length rows.columns)) w.element rows.elements can.laid) can.room
 
 -- in a row, what is to come of it, and its steps
 module _ (bytes : List ℕ) (formats : List FormatRow) (rows : KeptRows) (w : KeptWalk) (elements : List KeptElement) where
@@ -168,8 +195,8 @@ module _ (bytes frame : List ℕ) (formats : List FormatRow) (rows : KeptRows) (
         )
 
     -- what is known of an element
-    pub row-laid : RowLaid bytes formats rows.columns keys rules height entries
-    row-laid = all-at (ElementLaid bytes formats rows.columns) w.element rows.elements (Row keys rules height entries) elements can.laid at
+    pub row-laid : RowLaid bytes formats (length rows.columns) keys rules height entries
+    row-laid = all-at (ElementLaid bytes formats (length rows.columns)) w.element rows.elements (Row keys rules height entries) elements can.laid at
 
     -- a step within the row
     row-goes-on : (new : KeptWalk) → IsUnderWay w.next row w → RowSteps frame row w new before after → Steps bytes frame formats rows w new before after

@@ -1,21 +1,23 @@
 -- How many bars a line of a row shows beside a line of rules.
-use Rattle.std.proofs.Common.{◌≡◌, ℕ, zero, suc, Bool, true, false, not, ◌&&◌, ◌||◌, List, [], ◌∷◌, drop, map, Option, Some, None, refl, ap, ◌∙◌, if◌then◌else◌, ◌==◌}
+use Rattle.std.proofs.Common.{◌≡◌, ℕ, zero, suc, ◌+◌, ◌-◌, Bool, ◌&&◌, ◌||◌, List, [], ◌∷◌, drop, map, Option, Some, None, refl, sym, ap, ◌∙◌, arith, if◌then◌else◌, ◌==◌}
+use Rattle.std.specs.Option.{unwrap_or}
 use Rattle.std.specs.Prelude.{is_some}
-use Rattle.std.specs.List.{AllByRecursion}
+use Rattle.tbl_format.specs.Cells.{cell_behind}
 use Rattle.tbl_format.specs.Format.{FormatRow}
 use Rattle.tbl_format.specs.RowsServed.{row_at}
+use Rattle.tbl_format.specs.declared.format.FormatKey.{FormatKey}
 use Rattle.tbl_options.specs.declared.options.Boxing.{Boxing}
-use Rattle.tbl_kept.specs.Rows.{Command, ElementLaid, KeptElement, Row, Rule}
+use Rattle.tbl_kept.specs.Rows.{KeptElement, Row, fields_of}
 use Rattle.tbl_layout.specs.Entries.{Content, Text, field_at}
 use Rattle.tbl_layout.specs.KeptEntries.{all_entries, content_by, content_of}
-use Rattle.tbl_layout.specs.declared.columns.Column.{Column}
+use Rattle.tbl_layout.specs.Widths.{inner_bars}
 use Rattle.tbl_layout.specs.declared.data_lines.RuleSign.{RuleSign}
 use Rattle.tbl_layout.specs.declared.entry.Entry.{Entry}
 use Rattle.tbl_layout.specs.declared.entry.EntryKind.{EntryKind}
 use Rattle.tbl_layout.specs.declared.entry.EntryKind.TheVariants.{Block as BlockKind, Repeated as RepeatedKind, Ruled as RuledKind, Short as ShortKind, Split as SplitKind, Text as TextKind}
-use Rattle.tbl_lines.specs.PictureLines.{bars_between, is_ruled, joined_sign, shown_behind}
+use Rattle.tbl_lines.specs.PictureLines.{bars_among, bars_between, is_ruled, joined_sign, shown_behind, shown_in_front}
 use Rattle.tbl_lines.specs.RowsLeft.{is_ruled_by, joined_first, joined_kinds}
-use Rattle.tbl_picture.specs.RulesWalked.{AreServed, line_beside, line_of_first}
+use Rattle.tbl_picture.specs.RulesWalked.{line_beside, line_of_first}
 use Rattle.tbl_picture.specs.declared.walk.beside.Beside.TheVariants.{Row as RowBeside}
 use Rattle.tbl_lines.proofs.AllEntries.{fields-all}
 
@@ -54,28 +56,57 @@ module _ (bytes : List ℕ) where
   joined-at (e ∷ f ∷ entries) zero = joined-two e.kind e.from e.to f
   joined-at (e ∷ entries) (suc column) = joined-at entries column
 
--- how many bars a line of a row that stands there shows behind a column
+-- how many bars a row shows in front of a cell that isn't the first
+module _ (boxing : Boxing) (is_first : Bool) (format : FormatRow) (fields : List Content) where
+  in-front-some : (cell : Option ℕ) (n : ℕ) → unwrap_or cell 0 ≡ suc n
+      → shown_in_front boxing is_first format fields cell
+      ≡ (if is_first && is_some (joined_sign (field_at fields n) (field_at fields (suc n))) then 0 else bars_between boxing format (suc n))
+  in-front-some None n is = absurd (omega (arith, is))
+  in-front-some (Some zero) n is = absurd (omega (arith, is))
+  in-front-some (Some (suc cell)) n is =
+      let same : cell ≡ n = omega (arith, is) in
+      ap (λ (i : ℕ). if is_first && is_some (joined_sign (field_at fields i) (field_at fields (suc i))) then 0 else bars_between boxing format (suc i)) same
+
+-- how many bars a line of a row that stands there shows behind a column, in front of a cell that isn't the first
 module _ (boxing : Boxing) (bytes : List ℕ) (formats : List FormatRow) (is_below : Bool) (elements : List KeptElement) (at keys rules height : ℕ)
     (entries : List Entry) (rest : List KeptElement) (column : ℕ) (is : drop at elements ≡ Row keys rules height entries ∷ rest) where
-  pub shown-row : shown_behind boxing (line_beside bytes formats is_below elements (RowBeside at)) column
-      ≡ (if (is_below || height == 1) && is_some (joined_first (drop column (all_entries (row_at formats keys) entries))) then 0
-      else bars_between boxing (row_at formats keys) (suc column))
-  shown-row =
-      let format = row_at formats keys in
-      let bars = bars_between boxing format (suc column) in
+  abbrev format : FormatRow
+  format = row_at formats keys
+
+  abbrev cell-there : Option ℕ
+  cell-there = cell_behind format.keys (suc column)
+
+  pub shown-row : (cell : ℕ) → unwrap_or cell-there 0 ≡ suc cell
+      → shown_behind boxing (line_beside bytes formats is_below elements (RowBeside at)) column
+      ≡ (if (is_below || height == 1) && is_some (joined_first (drop cell (all_entries format entries))) then 0
+      else bars_between boxing format (suc cell))
+  shown-row cell there =
+      let bars = bars_between boxing format (suc cell) in
       let by : Option RuleSign → ℕ = λ j. if (is_below || height == 1) && is_some j then 0 else bars in
       ap (λ (es : List KeptElement). shown_behind boxing (line_of_first bytes formats is_below es) column) is
-      ∙ ap (λ (fields : List Content). by (joined_sign (field_at fields column) (field_at fields (suc column)))) (fields-all bytes format entries)
-      ∙ ap by (joined-at bytes (all_entries format entries) column)
+      ∙ in-front-some boxing (is_below || height == 1) format (fields_of bytes format entries) cell-there cell there
+      ∙ ap (λ (fields : List Content). by (joined_sign (field_at fields cell) (field_at fields (suc cell)))) (fields-all bytes format entries)
+      ∙ ap by (joined-at bytes (all_entries format entries) cell)
 
-pub unless : (t : Bool) (n : ℕ) → (if not t then n else 0) ≡ (if t then 0 else n)
-unless true n = refl
-unless false n = refl
+-- a cell that isn't the first
+pub one-behind : (n : ℕ) → (n ≡ 0 → ⊥) → suc (n - 1) ≡ n
+one-behind zero other = absurd (other refl)
+one-behind (suc n) other = omega arith
 
--- the rows of elements that are laid out have rows of the formats
-pub laid-served : (bytes : List ℕ) (formats : List FormatRow) (columns : List Column) (elements : List KeptElement)
-    → AllByRecursion (ElementLaid bytes formats columns) elements → AreServed formats elements
-laid-served bytes formats columns [] all = tt
-laid-served bytes formats columns (Row keys rules height entries ∷ elements) all = (record { serves = all.0.serves; in_front = all.0.in_front }, laid-served bytes formats columns elements all.1)
-laid-served bytes formats columns (Rule sign ∷ elements) all = (tt, laid-served bytes formats columns elements all.1)
-laid-served bytes formats columns (Command from to ∷ elements) all = (tt, laid-served bytes formats columns elements all.1)
+-- the cell that is found behind a column, and its bars
+pub cell-found : (keys : List FormatKey) (format : FormatRow) (column cell : ℕ) (found : Option ℕ) → keys ≡ format.keys
+    → found ≡ cell_behind keys (column + 1) → cell ≡ unwrap_or found 0 → unwrap_or (cell_behind format.keys (suc column)) 0 ≡ cell
+cell-found keys format column cell found keys_are found_is cell_is =
+    let next : suc column ≡ column + 1 = omega arith in
+    ap (λ (ks : List FormatKey). unwrap_or (cell_behind ks (suc column)) 0) (sym keys_are)
+    ∙ ap (λ (n : ℕ). unwrap_or (cell_behind keys n) 0) next
+    ∙ ap (λ (o : Option ℕ). unwrap_or o 0) (sym found_is)
+    ∙ sym cell_is
+
+pub bars-found : (boxing : Boxing) (keys : List FormatKey) (format : FormatRow) (last among shown cell : ℕ) → keys ≡ format.keys → last ≡ format.bars
+    → among ≡ bars_among keys last cell → shown ≡ inner_bars boxing among → shown ≡ bars_between boxing format cell
+bars-found boxing keys format last among shown cell keys_are last_is among_is shown_is =
+    shown_is
+    ∙ ap (inner_bars boxing) among_is
+    ∙ ap (λ (ks : List FormatKey). inner_bars boxing (bars_among ks last cell)) keys_are
+    ∙ ap (λ (n : ℕ). inner_bars boxing (bars_among format.keys n cell)) last_is

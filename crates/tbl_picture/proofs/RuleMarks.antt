@@ -36,10 +36,10 @@ ruled-same (Some sign) true from count at end =
 
 -- where bars stand and end between narrow columns no sum overflows
 pub bar-small : (n : ℕ) (c d : Column) → IsNarrow c → IsNarrow d → bar_place n c d < 2 ^ 40
-bar-small n c d first second = omega (arith, first.start, first.width, second.start, second.width)
+bar-small n c d first second = omega (arith, first.end, second.end)
 
 pub end-small : (c d : Column) → IsNarrow c → IsNarrow d → bars_end c d < 2 ^ 40
-end-small c d first second = omega (arith, first.start, first.width, second.start, second.width)
+end-small c d first second = omega (arith, first.end, second.end)
 
 -- a line of rules between two neighbours
 module _ (s : Sheet) (line : RuleLine) (above below : Neighbour) (rule : RuleBegun) (place : ℕ) where

@@ -28,7 +28,7 @@ use Rattle.tbl_picture.proofs.RulesBegun.{above-next, edge-above, edge-next, row
 -- the first column begins at a small place
 pub first-small : (left : ℕ) (columns : List Column) → AreNarrow columns → 0 < length columns → first_start left columns < 2 ^ 63
 first-small left [] narrow some = absurd (omega (arith, some))
-first-small left (c ∷ columns) narrow some = omega (arith, narrow.0.start)
+first-small left (c ∷ columns) narrow some = omega (arith, narrow.0.end)
 
 -- through no row of rule keys all is seen
 pub shown-alone : (boxing : Boxing) (line : Neighbour) → ShownThrough boxing None line line

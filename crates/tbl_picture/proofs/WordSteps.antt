@@ -3,6 +3,7 @@ use Rattle.std.proofs.Common.{◌≡◌, ℕ, ◌+◌, ◌-◌, List, [], ◌∷
 use Rattle.std.proofs.lemmas.List.Sums.{sum_by-cons}
 use Rattle.roff_source.specs.Bytes.{blank}
 use Rattle.tbl_layout.specs.Entries.{Run, blanks, block_line, columns_of, further_words, run_of_word}
+use Rattle.tbl_layout.specs.KeptEntries.{measure_by}
 use Rattle.tbl_layout.specs.declared.entry.Entry.{Entry}
 use Rattle.tbl_lines.specs.PictureLines.{Cell, at_column, end_of}
 use Rattle.tbl_pieces.specs.PieceQueue.{Adds, KeptPieces}
@@ -29,7 +30,7 @@ module _ (row : WalkedRow) (w : KeptWalk) (r : RowColumn) (at : AtColumn row w r
   pub ended-steps : (frame : List ℕ) (pieces : KeptPieces) → w.next ≡ AtCell → parts_at (block_text row.bytes r.entry) r.place ≡ []
       → RowSteps frame row w (passed row.bars.has_any AtEnd w.place w) pieces pieces
   ended-steps frame pieces next none =
-      let lines = ap (λ (parts : List Part). map block_line (lines_of r.column.measure parts)) none in
+      let lines = ap (λ (parts : List Part). map block_line (lines_of (measure_by r.entry.kind) parts)) none in
       none-steps row w r at next frame pieces AtEnd
       (block-first row.bytes w.line r is ∙ ap (λ (ls : List (List Run)). get_or ls 0 []) lines)
       (block-moved row.bytes w.line r is AtEnd (ap (λ (ls : List (List Run)). drop 1 ls) (sym lines)))
@@ -42,7 +43,7 @@ module _ (row : WalkedRow) (w : KeptWalk) (r : RowColumn) (at : AtColumn row w r
       → RowSteps frame row w (passed row.bars.has_any p w.place w) pieces pieces
   empty-steps frame pieces p next parts within =
       let rest = parts_at (block_text row.bytes r.entry) p in
-      let lines = ap (λ (ps : List Part). map block_line (lines_of r.column.measure ps)) parts ∙ lines-empty r.column.measure rest in
+      let lines = ap (λ (ps : List Part). map block_line (lines_of (measure_by r.entry.kind) ps)) parts ∙ lines-empty (measure_by r.entry.kind) rest in
       none-steps row w r at next frame pieces p
       (block-first row.bytes w.line r is ∙ ap (λ (ls : List (List Run)). get_or ls 0 []) lines)
       (block-moved row.bytes w.line r is p (ap (λ (ls : List (List Run)). drop 1 ls) (sym lines)))
@@ -58,7 +59,7 @@ module _ (row : WalkedRow) (w : KeptWalk) (r : RowColumn) (at : AtColumn row w r
       → RowSteps frame row w (at_word word width p w) before after
   begun-steps frame before after word p gap lead width next parts lies within gap_is lead_is width_is adds =
       let text = block_text row.bytes r.entry in
-      let m = r.column.measure in
+      let m = measure_by r.entry.kind in
       let begun = leading_of word + word.width in
       let one = word_at text word in
       let rest = parts_at text p in

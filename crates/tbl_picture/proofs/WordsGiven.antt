@@ -4,7 +4,7 @@ use Rattle.std.specs.List.{slice_range}
 use Rattle.roff_source.specs.Bytes.{blank}
 use Rattle.tbl_layout.specs.Entries.{blanks, block_line, further_words, run_of_word}
 use Rattle.tbl_layout.specs.declared.entry.Entry.{Entry}
-use Rattle.tbl_layout.specs.KeptEntries.{Lies}
+use Rattle.tbl_layout.specs.KeptEntries.{Lies, measure_by}
 use Rattle.tbl_pieces.specs.PieceQueue.{Adds, KeptPieces}
 use Rattle.tbl_lines.specs.RowsLeft.{begins_at, block_text, end_given, given, given_of, if_given, one_less, word_given}
 use Rattle.tbl_lines.specs.RowsWalked.{StandsInFirst, StandsNext, steps_of_word}
@@ -64,7 +64,7 @@ module _ (row : WalkedRow) (w : KeptWalk) (r : RowColumn) (at : AtColumn row w r
     (next : w.next ≡ AtWord word width p) (stands : StandsNext row.bytes word width p r) where
   -- the rest of the row, and the steps of it
   abbrev words_of_line : List Part
-  words_of_line = rest_of_line r.column.measure width (parts_at (block_text row.bytes r.entry) p)
+  words_of_line = rest_of_line (measure_by r.entry.kind) width (parts_at (block_text row.bytes r.entry) p)
 
   left-word : row_left w.next row w
       ≡ (given_of w.count (run_of_word (word_at (block_text row.bytes r.entry) word) ∷ further_words words_of_line)
@@ -83,10 +83,10 @@ module _ (row : WalkedRow) (w : KeptWalk) (r : RowColumn) (at : AtColumn row w r
 
   -- a word behind which another one goes on with the line
   pub joins-steps : (frame : List ℕ) (before after : KeptPieces) (then_word : BlockWord) (wider : ℕ) (q : BlockPlace) (text : List ℕ)
-      → rest_of_line r.column.measure width (parts_at (block_text row.bytes r.entry) p)
-      ≡ OneWord (word_at (block_text row.bytes r.entry) then_word) ∷ rest_of_line r.column.measure wider (parts_at (block_text row.bytes r.entry) q)
-      → behind_rest r.column.measure width (parts_at (block_text row.bytes r.entry) p)
-      ≡ behind_rest r.column.measure wider (parts_at (block_text row.bytes r.entry) q)
+      → rest_of_line (measure_by r.entry.kind) width (parts_at (block_text row.bytes r.entry) p)
+      ≡ OneWord (word_at (block_text row.bytes r.entry) then_word) ∷ rest_of_line (measure_by r.entry.kind) wider (parts_at (block_text row.bytes r.entry) q)
+      → behind_rest (measure_by r.entry.kind) width (parts_at (block_text row.bytes r.entry) p)
+      ≡ behind_rest (measure_by r.entry.kind) wider (parts_at (block_text row.bytes r.entry) q)
       → wider ≡ width + then_word.gap + then_word.width
       → LiesBehind (block_text row.bytes r.entry) 0 then_word → IsWithin (block_text row.bytes r.entry) q
       → left_at (block_text row.bytes r.entry) q < left_at (block_text row.bytes r.entry) p
@@ -95,7 +95,7 @@ module _ (row : WalkedRow) (w : KeptWalk) (r : RowColumn) (at : AtColumn row w r
       → RowSteps frame row w (at_word then_word wider q w) before after
   joins-steps frame before after then_word wider q text line behind wider_is lies within less text_is adds =
       let block = block_text row.bytes r.entry in
-      let m = r.column.measure in
+      let m = measure_by r.entry.kind in
       let run = run_of_word (word_at block word) in
       let then_run = run_of_word (word_at block then_word) in
       let words = rest_of_line m wider (parts_at block q) in
@@ -127,14 +127,14 @@ module _ (row : WalkedRow) (w : KeptWalk) (r : RowColumn) (at : AtColumn row w r
 
   -- the last word of a line
   pub ends-steps : (frame : List ℕ) (before after : KeptPieces) (reached : ℕ) (text : List ℕ)
-      → rest_of_line r.column.measure width (parts_at (block_text row.bytes r.entry) p) ≡ []
+      → rest_of_line (measure_by r.entry.kind) width (parts_at (block_text row.bytes r.entry) p) ≡ []
       → text ≡ last_given w.count (run_of_word (word_at (block_text row.bytes r.entry) word))
       → given (one_less w.count) reached (cells_behind row w r at) ≡ given (one_less w.count) (begins_at r + width) (cells_behind row w r at)
       → Adds row.bytes frame 4 before after text
       → RowSteps frame row w (passed row.bars.has_any p reached w) before after
   ends-steps frame before after reached text line text_is reached_is adds =
       let block = block_text row.bytes r.entry in
-      let m = r.column.measure in
+      let m = measure_by r.entry.kind in
       let run = run_of_word (word_at block word) in
       let cells = cells_behind row w r at in
       let further = further_lines row w in

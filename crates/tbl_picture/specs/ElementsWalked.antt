@@ -8,6 +8,7 @@ use Rattle.tbl_kept.specs.Rows.{Command, KeptElement, KeptRows, Row, RowsLaid, R
 use Rattle.tbl_layout.specs.DataLines.{sign_byte}
 use Rattle.tbl_layout.specs.Entries.{Element, Row as OneRow, Rule as OneRule}
 use Rattle.tbl_layout.specs.KeptEntries.{all_entries}
+use Rattle.tbl_layout.specs.Spans.{cells_of}
 use Rattle.tbl_layout.specs.declared.bars.Bars.{Bars}
 use Rattle.tbl_layout.specs.declared.columns.Column.{Column}
 use Rattle.tbl_layout.specs.declared.data_lines.RuleSign.{RuleSign}
@@ -170,15 +171,19 @@ pub record CanWalk (bytes : List ℕ) (formats : List FormatRow) (rows : KeptRow
   pub above : IsRowThere rows.elements w.above
   pub next : StandsAt w.next bytes formats rows w (drop w.element rows.elements)
 
--- the most steps of a line of rules over so many columns, and of those of elements: of each row's, with the rows of rule keys in front of
--- it and a rule behind it
+-- the most steps of a line of rules over so many columns, of the lines of a row, and of those of elements: of each row's, with the rows of
+-- rule keys in front of it and a rule behind it
 abbrev pub rule_steps : List Column → ℕ
 rule_steps columns = max 1 (length columns) + 2
+
+abbrev pub steps_of_row : List ℕ → FormatRow → List Column → List Entry → ℕ → ℕ
+steps_of_row bytes format columns entries height =
+    steps_of_lines (front_count (cells_of format.keys columns) + steps_of_columns (most_steps bytes) (all_entries format entries)) height
 
 abbrev pub steps_of : List ℕ → List FormatRow → List Column → List KeptElement → ℕ
 steps_of bytes formats columns [] = 0
 steps_of bytes formats columns (Row keys rules height entries ∷ elements) =
-    suc (rules * suc (rule_steps columns) + steps_of_lines (front_count columns + steps_of_columns (most_steps bytes) (all_entries (row_at formats keys) entries)) height)
+    suc (rules * suc (rule_steps columns) + steps_of_row bytes (row_at formats keys) columns entries height)
     + (rule_steps columns + steps_of bytes formats columns elements)
 steps_of bytes formats columns (Rule sign ∷ elements) = suc (rule_steps columns + steps_of bytes formats columns elements)
 steps_of bytes formats columns (Command from to ∷ elements) = suc (steps_of bytes formats columns elements)
@@ -210,8 +215,7 @@ steps_in_row bytes formats rows w (Command from to ∷ elements) = 0
 abbrev pub steps_before_row : List ℕ → List FormatRow → KeptRows → List KeptElement → ℕ
 steps_before_row bytes formats rows [] = 0
 steps_before_row bytes formats rows (Row keys rules height entries ∷ elements) =
-    steps_of_lines (front_count rows.columns + steps_of_columns (most_steps bytes) (all_entries (row_at formats keys) entries)) height
-    + (rule_steps rows.columns + steps_on bytes formats rows elements)
+    steps_of_row bytes (row_at formats keys) rows.columns entries height + (rule_steps rows.columns + steps_on bytes formats rows elements)
 steps_before_row bytes formats rows (Rule sign ∷ elements) = 0
 steps_before_row bytes formats rows (Command from to ∷ elements) = 0
 

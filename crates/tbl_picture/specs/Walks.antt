@@ -8,7 +8,7 @@ use Rattle.tbl_layout.specs.KeptEntries.{Lies}
 use Rattle.tbl_lines.specs.PictureLines.{Cell, lines_from, with_fronts}
 use Rattle.tbl_pieces.specs.PieceQueue.{AddsFitting, KeptPieces}
 use Rattle.tbl_lines.specs.RowsLeft.{behind_first, block_text, cell_left, from_line, fronts_by, given, one_less, row_columns, then_fronts, word_given}
-pub use Rattle.tbl_lines.specs.RowsLent.{CellsLie, WalkedRow, first_place, fronts_of, lent_entries, lent_format, lent_row, line_cells, walked}
+pub use Rattle.tbl_lines.specs.RowsLent.{CellsLie, LiesInColumns, WalkedRow, first_place, fronts_of, lent_entries, lent_format, lent_row, line_cells, walked}
 use Rattle.tbl_lines.specs.RowsWalked.{AreNarrow, IsNarrow, LastHasGlyph, PlacesLie, StandsInFirst, front_count, most_steps, steps_of_cells, steps_of_columns, steps_of_lines, steps_of_word}
 use Rattle.tbl_lines.specs.declared.row_columns.RowColumn.{RowColumn}
 use Rattle.tbl_picture.specs.Nexts.{AtCell, AtElement, AtEnd, AtFront, AtLine, AtRule, AtRuleRow, AtTop, AtWord, Next, next_by}

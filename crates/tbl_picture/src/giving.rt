@@ -73,7 +73,7 @@ impl Giving {
             pieces: PieceQueue::new(alloc, 2 * (columns as usize) + STEP_PIECES)?,
             rest: Rest::Nothing,
             has_newline: false,
-            walk: Walk::new(alloc, columns as usize)?,
+            walk: Walk::new(alloc, columns)?,
             frame: Vec::with_capacity(alloc, FRAME)?,
             frame_end: 0,
         })

@@ -24,7 +24,7 @@ use tbl_kept::rows::TableRows;
 use tbl_layout::bars::Bars;
 use tbl_layout::entry::Entry;
 use tbl_layout::rule_keys::{entry_at, filled_columns};
-use tbl_lines::row_columns::RowLent;
+use tbl_lines::row_lent::RowLent;
 use tbl_options::options::Boxing;
 use tbl_pieces::piece_queue::PieceQueue;
 use tbl_pieces::pieces::Piece;
@@ -91,7 +91,7 @@ pub struct Walk {
     /// The picture's bars, and how wide it is.
     bars: Bars,
     picture_width: usize,
-    room: usize,
+    room: u32,
 }
 
 impl Model for Walk {
@@ -107,11 +107,11 @@ impl Model for Walk {
 impl Walk {
     ghost use Rattle.tbl_picture.specs.ElementsWalked.{CanWalk, StepsIf, started, still_to_come};
     ghost use Rattle.tbl_lines.specs.RowsWalked.{AreNarrow};
-    ghost use Rattle.tbl_picture.specs.Walks.{IsUnderWay, RowEndsOrGoesOn, lent_entries, lent_row};
-    ghost use Rattle.tbl_picture.specs.Walks.{row_begun};
+    ghost use Rattle.tbl_picture.specs.Walks.{IsUnderWay, LiesInColumns, RowEndsOrGoesOn};
+    ghost use Rattle.tbl_picture.specs.Walks.{lent_entries, lent_row, row_begun};
 
     /// A walk over tables of so many columns at the most.
-    pub fn new(alloc: Global, columns: usize) -> Result<Self, AllocError>
+    pub fn new(alloc: Global, columns: u32) -> Result<Self, AllocError>
         ensures { IfOk result (λ w. w.room ≡ columns) }
     {
         Ok(Walk {
@@ -122,8 +122,8 @@ impl Walk {
             width: 0,
             next: Next::AtElement,
             rule: RuleBegun::NOTHING,
-            places: Vec::with_capacity(alloc, columns)?,
-            behind: Vec::with_capacity(alloc, columns)?,
+            places: Vec::with_capacity(alloc, columns as usize)?,
+            behind: Vec::with_capacity(alloc, columns as usize)?,
             above: Beside::Nothing,
             bars: Bars::NOTHING,
             picture_width: 0,
@@ -195,6 +195,7 @@ impl Walk {
         escapes: &mut OpenEscapes,
         row: &RowLent<'_>,
     ) -> bool
+        requires lies { LiesInColumns row.now }
         requires can { IsUnderWay self.old.next (lent_row row.now) self.old }
         requires fits { length (lent_entries row.now) ≤ self.old.room }
         requires small { row.now.height < 2 ^ 32 }
@@ -217,6 +218,7 @@ impl Walk {
         escapes: &mut OpenEscapes,
         row: &RowLent<'_>,
     ) -> bool
+        requires lies { LiesInColumns row.now }
         requires can { IsUnderWay self.old.next (lent_row row.now) self.old }
         requires fits { length (lent_entries row.now) ≤ self.old.room }
         requires small { row.now.height < 2 ^ 32 }

@@ -4,10 +4,13 @@ use Rattle.std.proofs.lemmas.List.{drop-append-le, drop_all}
 use Rattle.std.proofs.lemmas.List.Sums.{fold-append}
 use Rattle.tbl_format.proofs.FormatReading.{read-last}
 use Rattle.tbl_format.proofs.Parts.{slice_range-rest}
+use Rattle.tbl_format.proofs.RowsHeld.{read-held}
+use Rattle.tbl_format.proofs.RowsWithin.{has_some-begun}
 use Rattle.std.specs.List.{slice_range}
 use Rattle.roff_source.specs.Bytes.{newline}
 use Rattle.tbl_table.specs.Begun.{begun_in, count_of, head_begun}
-use Rattle.tbl_format.specs.Format.{Format, format_byte, format_read, has_some, no_format}
+use Rattle.tbl_format.specs.Format.{Format, columns_of as row_columns, format_byte, format_read, has_some, no_format}
+use Rattle.tbl_format.specs.FormatLaws.{IsRead, Line, NoByte}
 use Rattle.tbl_format.specs.KeyCounts.{Counts}
 use Rattle.tbl_options.specs.Options.{bracketed, options_end, options_end_from, semicolon}
 use Rattle.tbl_table.specs.Table.{columns_of, has_newline, head_columns, head_place}
@@ -18,8 +21,16 @@ use Rattle.tbl_data.specs.declared.phase.Phase.{Phase}
 use Rattle.tbl_data.specs.declared.phase.Phase.TheVariants.{AtHead, Bad, InData, InFormat}
 
 -- a count is what it counts
-pub counts : (f : Format) → Counts f (count_of f)
-counts f = record { place = refl; is_further = refl; has_row = refl; row = refl; bars = refl; columns = refl }
+pub counts : (f : Format) → IsRead f → Counts f (count_of f)
+counts f made = record {
+  place = refl;
+  is_further = refl;
+  has_row = refl;
+  begun = has_some-begun f.row (row_columns f.row) (read-held f made).row.cells refl;
+  row = refl;
+  bars = refl;
+  columns = refl;
+}
 
 pub count_is : (f : Format) (c : KeyCount) → Counts f c → c ≡ count_of f
 count_is f c is =
@@ -28,8 +39,8 @@ count_is f c is =
     ∙ ap (λ (is_further : Bool). k f.place is_further c.has_row c.row c.bars c.columns) (sym is.is_further)
     ∙ ap (λ (has_row : Bool). k f.place (has_some f.earlier) has_row c.row c.bars c.columns) (sym is.has_row)
     ∙ ap (λ (row : ℕ). k f.place (has_some f.earlier) (has_some f.rows) row c.bars c.columns) (sym is.row)
-    ∙ ap (λ (bars : ℕ). k f.place (has_some f.earlier) (has_some f.rows) (length f.row) bars c.columns) (sym is.bars)
-    ∙ ap (λ (columns : ℕ). k f.place (has_some f.earlier) (has_some f.rows) (length f.row) f.bars columns) (sym is.columns)
+    ∙ ap (λ (bars : ℕ). k f.place (has_some f.earlier) (has_some f.rows) (row_columns f.row) bars c.columns) (sym is.bars)
+    ∙ ap (λ (columns : ℕ). k f.place (has_some f.earlier) (has_some f.rows) (row_columns f.row) f.bars columns) (sym is.columns)
 
 -- behind one byte more of a line
 abbrev pub CountsOn : KeyCount → KeyCount → List ℕ → ℕ → Type 0
@@ -39,8 +50,8 @@ CountsOn old new front b = (f : Format) → Counts f old → Counts (format_byte
 pub counts-behind : (line : List ℕ) (old new : KeyCount) (start b : ℕ) → CountsOn old new (slice_range line start (length line)) b → CountsOn old new (drop start line) b
 counts-behind line old new start b on = subst (λ (xs : List ℕ). CountsOn old new xs b) (slice_range-rest line start) on
 
-count-on : (old new : KeyCount) (front : List ℕ) (b : ℕ) (f : Format) → CountsOn old new front b → old ≡ count_of f → new ≡ count_of (format_byte front f b)
-count-on old new front b f on is = count_is (format_byte front f b) new (on f (subst (λ (c : KeyCount). Counts f c) (sym is) (counts f)))
+count-on : (old new : KeyCount) (front : List ℕ) (b : ℕ) (f : Format) → IsRead f → CountsOn old new front b → old ≡ count_of f → new ≡ count_of (format_byte front f b)
+count-on old new front b f made on is = count_is (format_byte front f b) new (on f (subst (λ (c : KeyCount). Counts f c) (sym is) (counts f made)))
 
 -- keys of a format, which begin at a place of their line
 same-keys : (c d : KeyCount) (start s : ℕ) → Keys start c ≡ Keys s d → c ≡ d
@@ -49,12 +60,12 @@ same-keys c d start s is = cc
 same-start : (c d : KeyCount) (start s : ℕ) → Keys start c ≡ Keys s d → start ≡ s
 same-start c d start s is = cc
 
-module _ (old new : KeyCount) (start s b : ℕ) (f : Format) (line rest : List ℕ) (on : CountsOn old new (drop start line) b) (left : drop s line ≡ rest) (is : Keys start old ≡ Keys s (count_of (format_read f rest))) where
+module _ (old new : KeyCount) (start s b : ℕ) (f : Format) (made : IsRead f) (line rest : List ℕ) (on : CountsOn old new (drop start line) b) (left : drop s line ≡ rest) (is : Keys start old ≡ Keys s (count_of (format_read f rest))) where
   pub keys-new : new ≡ count_of (format_read f (rest ++ b ∷ []))
   keys-new =
       let starts = same-start old (count_of (format_read f rest)) start s is in
       let front : drop start line ≡ rest = ap (λ (n : ℕ). drop n line) starts ∙ left in
-      count-on old new rest b (format_read f rest) (subst (λ (xs : List ℕ). CountsOn old new xs b) front on) (same-keys old (count_of (format_read f rest)) start s is)
+      count-on old new rest b (format_read f rest) (Line f rest made) (subst (λ (xs : List ℕ). CountsOn old new xs b) front on) (same-keys old (count_of (format_read f rest)) start s is)
       ∙ ap count_of (sym (read-last f rest b))
 
   pub keys-on : Keys start new ≡ Keys s (count_of (format_read f (rest ++ b ∷ [])))
@@ -134,14 +145,14 @@ module _ (line : List ℕ) (b : ℕ) where
       → Keys start new ≡ head_begun (options_end (line ++ b ∷ [])) (line ++ b ∷ [])
   keys-head old new start None is on begun = absurd (cc)
   keys-head old new start (Some end) is on begun =
-      keys-on old new start (suc end) b no_format line (drop (suc end) line) on refl begun ∙ sym (head-some end is)
+      keys-on old new start (suc end) b no_format NoByte line (drop (suc end) line) on refl begun ∙ sym (head-some end is)
 
-  pub begun-keys : (old new : KeyCount) (start : ℕ) (phase : Phase) (f : Format) → CountsOn old new (drop start line) b → Keys start old ≡ begun_in phase f line
+  pub begun-keys : (old new : KeyCount) (start : ℕ) (phase : Phase) (f : Format) → IsRead f → CountsOn old new (drop start line) b → Keys start old ≡ begun_in phase f line
       → Keys start new ≡ begun_in phase f (line ++ b ∷ [])
-  begun-keys old new start AtHead f on is = keys-head old new start (options_end line) refl on is
-  begun-keys old new start InFormat f on is = keys-on old new start 0 b f line line on refl is
-  begun-keys old new start InData f on is = absurd (cc)
-  begun-keys old new start Bad f on is = absurd (cc)
+  begun-keys old new start AtHead f made on is = keys-head old new start (options_end line) refl on is
+  begun-keys old new start InFormat f made on is = keys-on old new start 0 b f made line line on refl is
+  begun-keys old new start InData f made on is = absurd (cc)
+  begun-keys old new start Bad f made on is = absurd (cc)
 
   pub begun-nothing : (phase : Phase) (f : Format) → Nothing ≡ begun_in phase f line → Nothing ≡ begun_in phase f (line ++ b ∷ [])
   begun-nothing AtHead f is = absurd (nothing-head line (options_end line) is)
@@ -193,11 +204,11 @@ module _ (line : List ℕ) (b : ℕ) where
       → new.columns ≡ head_columns (options_end (line ++ b ∷ [])) (line ++ b ∷ [])
   columns-keys old new start None is on begun = absurd (cc)
   columns-keys old new start (Some end) is on begun =
-      ap (λ (c : KeyCount). c.columns) (keys-new old new start (suc end) b no_format line (drop (suc end) line) on refl begun) ∙ sym (columns-some end is)
+      ap (λ (c : KeyCount). c.columns) (keys-new old new start (suc end) b no_format NoByte line (drop (suc end) line) on refl begun) ∙ sym (columns-some end is)
 
-  pub columns-format : (old new : KeyCount) (start : ℕ) (f : Format) → CountsOn old new (drop start line) b → Keys start old ≡ Keys 0 (count_of (format_read f line))
+  pub columns-format : (old new : KeyCount) (start : ℕ) (f : Format) → IsRead f → CountsOn old new (drop start line) b → Keys start old ≡ Keys 0 (count_of (format_read f line))
       → new.columns ≡ columns_of (format_read f (line ++ b ∷ []))
-  columns-format old new start f on is = ap (λ (c : KeyCount). c.columns) (keys-new old new start 0 b f line line on refl is)
+  columns-format old new start f made on is = ap (λ (c : KeyCount). c.columns) (keys-new old new start 0 b f made line line on refl is)
 
 -- a newline is the last byte
 has_newline-last : (line : List ℕ) (b : ℕ) → has_newline (line ++ b ∷ []) ≡ (b == newline)
@@ -233,11 +244,11 @@ pub place-keys : (line : List ℕ) (old new : KeyCount) (start : ℕ) (end : Opt
     → new.place ≡ head_place end line
 place-keys line old new start None on begun = absurd (cc)
 place-keys line old new start (Some end) on begun =
-    ap (λ (c : KeyCount). c.place) (keys-new old new start (suc end) newline no_format line (drop (suc end) line) on refl begun)
+    ap (λ (c : KeyCount). c.place) (keys-new old new start (suc end) newline no_format NoByte line (drop (suc end) line) on refl begun)
 
-pub place-format : (line : List ℕ) (old new : KeyCount) (start : ℕ) (f : Format) → CountsOn old new (drop start line) newline → Keys start old ≡ Keys 0 (count_of (format_read f line))
+pub place-format : (line : List ℕ) (old new : KeyCount) (start : ℕ) (f : Format) → IsRead f → CountsOn old new (drop start line) newline → Keys start old ≡ Keys 0 (count_of (format_read f line))
     → new.place ≡ (format_read f (line ++ newline ∷ [])).place
-place-format line old new start f on is = ap (λ (c : KeyCount). c.place) (keys-new old new start 0 newline f line line on refl is)
+place-format line old new start f made on is = ap (λ (c : KeyCount). c.place) (keys-new old new start 0 newline f made line line on refl is)
 
 -- a newline ends no options
 pub newline-goes_on : (inside : Bool) → ends_here newline inside ≡ false

@@ -1,19 +1,19 @@
 -- A text block that is open ends with the table: the parts hold together, and give the table that is closed.
-use Rattle.std.proofs.Common.{◌≡◌, ◌==◌, ℕ, ◌+◌, ◌-◌, ◌<◌, ◌≤◌, All, Bool, true, false, List, [], ◌∷◌, ◌++◌, length, map, take, drop, Option, Some, None, refl, sym, ap, subst, ◌∙◌, arith, append-nil, append_assoc, length-append}
+use Rattle.std.proofs.Common.{◌≡◌, ◌==◌, ℕ, ◌+◌, ◌-◌, ◌<◌, ◌≤◌, All, Bool, true, false, List, [], ◌++◌, length, map, take, drop, Option, Some, None, refl, sym, ap, subst, ◌∙◌, arith, append-nil, append_assoc, length-append}
 use Rattle.std.specs.Prelude.{is_some}
 use Rattle.std.proofs.lemmas.List.{drop_at}
 use Rattle.std.proofs.lemmas.List.Elements.{All-drop, All-take}
 use Rattle.std.specs.List.{slice_range, AllByRecursion}
 use Rattle.roff_source.specs.Bytes.{newline}
 use Rattle.tbl_data.specs.DataRead.{closed_block, whole_line}
-use Rattle.tbl_data.specs.TableData.{DataFits, ElementEnds, EndsBy, FitsBehind, OpenBehind, SameRooms, begun_by, table_by}
+use Rattle.tbl_data.specs.TableData.{DataFits, ElementEnds, EndsBy, FitsBehind, OpenBehind, SameRooms, table_by}
 use Rattle.tbl_data.specs.TableRead.{RowBegun, TableRead}
 use Rattle.tbl_data.specs.declared.phase.Phase.{Phase}
 use Rattle.tbl_data.specs.declared.phase.Phase.TheVariants.{AtHead, Bad, InData, InFormat}
 use Rattle.tbl_data.specs.declared.table_data.OpenBlock.{OpenBlock}
 use Rattle.tbl_data.specs.declared.table_data.OpenBlock.TheVariants.{Dropped, Kept, Nothing as NoBlock}
 use Rattle.tbl_data.specs.declared.table_data.TableData.{TableData}
-use Rattle.tbl_format.specs.Format.{Format}
+use Rattle.tbl_format.specs.Cells.{cell_count}
 use Rattle.tbl_format.specs.FormatRows.{KeptFormat}
 use Rattle.tbl_options.specs.Notes.{NotesWithin, told_of_all}
 use Rattle.tbl_format.specs.RowsServed.{all_rows, row_at}
@@ -22,22 +22,21 @@ use Rattle.tbl_options.specs.declared.notes.KeptNote.{KeptNote}
 use Rattle.tbl_options.specs.declared.options.Options.{Options}
 use Rattle.tbl_kept.specs.Joined.{Joined, behind_joined, ends_joined}
 use Rattle.tbl_kept.specs.Rows.{entries_of}
-use Rattle.tbl_kept.specs.RowsLaying.{AreOpened}
 use Rattle.tbl_kept.specs.TableNotes.{KeptNotes}
 use Rattle.tbl_kept.proofs.KeptFields.{AreOpened-kept}
 use Rattle.tbl_kept.specs.TableText.{KeptText, block_of, text_closed}
 use Rattle.tbl_layout.specs.KeptEntries.{content_of}
 use Rattle.tbl_table.specs.Begun.{FewKeys, begun_in}
-use Rattle.tbl_table.specs.Kept.{HasRooms, KeysFit, PartsFit, PhaseFits, block_open, data_read, reading_of, row_open, table_of}
-use Rattle.tbl_table.specs.MayTell.{fault_may_come, line_may_tell}
+use Rattle.tbl_table.specs.Kept.{HasRooms, PartsFit, block_open, reading_of, row_open, table_of}
+use Rattle.tbl_table.specs.MayTell.{line_may_tell}
 use Rattle.tbl_table.specs.Reading.{Reading}
-use Rattle.tbl_table.specs.Steps.{BlockEnds, is_open}
+use Rattle.tbl_table.specs.Steps.{BlockEnds, CanEnd, is_open}
 use Rattle.tbl_table.specs.Table.{closed, closed_line}
 use Rattle.tbl_table.specs.declared.begun.Begun.{Begun}
 use Rattle.tbl_table.proofs.DataGrows.{Lies-behind, behind-less, none-begun, table-more}
 use Rattle.tbl_table.proofs.DataLies.{lies-kept}
 use Rattle.tbl_table.proofs.FormatLines.{IsCounted}
-use Rattle.tbl_table.proofs.LineEnds.{Taken, all-kept, data-reads, fault-most, few-formats, new-counted, new-elements, new-rooms, one-fault, one-read, phase-fits, read-most, slice-last, table-taken}
+use Rattle.tbl_table.proofs.LineEnds.{Taken, all-kept, fault-most, new-counted, new-elements, new-rooms, one-fault, one-read, phase-fits, read-most, slice-last, table-taken}
 use Rattle.tbl_table.proofs.NotesKept.{NotesWithin-more, told-longer}
 use Rattle.tbl_table.proofs.TableFits.{FewKeys-more, behind-append, kept-most}
 
@@ -63,6 +62,19 @@ open-behind AtHead bytes d fits some = absurd fits
 open-behind InFormat bytes d fits some = absurd (no-open d.open fits.closed some)
 open-behind InData bytes d fits some = refl
 open-behind Bad bytes d fits some = absurd (no-open d.open fits.closed some)
+
+-- what its end asks for, where there is room
+pub can-end : (bytes : List ℕ) (d : TableData) → DataFits bytes d → length d.rows.elements < d.rows.element_room → entries_of d.rows < 4294967296
+    → CanEnd d
+can-end bytes d fits room few = record {
+  room = room;
+  serves = fits.served.serves;
+  rules = omega (arith, fits.served.first);
+  columns = fits.columns;
+  short = subst (λ (n : ℕ). length d.rows.row ≤ cell_count (row_at (all_rows d.format.format) d.keys).keys n) fits.columns fits.kept.short;
+  few = few;
+  opened = AreOpened-kept bytes (row_at (all_rows d.format.format) d.keys) 0 d.rows.row fits.kept.row;
+}
 
 -- what is kept of a table that is closed
 pub record Closes (p : Phase) (bytes : List ℕ) (old new : TableData) : Type 0 where
@@ -92,7 +104,7 @@ closes-none p bytes d fits ends closed = record {
   rooms = same-rooms d;
 }
 
-closes-data : (bytes : List ℕ) (old new : TableData) → DataFits bytes old → is_open old.open ≡ true → BlockEnds old new → Closes InData bytes old new
+pub closes-data : (bytes : List ℕ) (old new : TableData) → DataFits bytes old → is_open old.open ≡ true → BlockEnds old new → Closes InData bytes old new
 closes-data bytes old new fits some ends =
     let fits-new = ends.fits bytes fits in
     record {
@@ -208,9 +220,12 @@ module _ (l : TblLimits) (phase : Phase) (begun : Begun) (text : KeptText) (d : 
       let counted = new-counted l phase begun text d fits is options from to 0 p mid taken (length text.read) (omega arith) in
       omega (arith, counted.rows.few, counted.keys, fits.bytes.few, fits.rooms.small, length-append mid.format.format.earlier mid.format.format.rows)
 
-  pub mid-room : is_open mid.open ≡ true → length mid.rows.elements < mid.rows.element_room
-  mid-room opened =
-      omega (
+  pub mid-can : is_open mid.open ≡ true → CanEnd mid
+  mid-can opened =
+      let held : DataFits front mid =
+      subst (λ (q : Phase). FitsBehind q front mid) (open-behind p front mid mid-fits opened) mid-fits in
+      can-end front mid held
+      (omega (
         arith,
         new-elements l phase begun text d fits is options from to 0 p mid taken,
         one-open mid.open opened,
@@ -219,21 +234,8 @@ module _ (l : TblLimits) (phase : Phase) (begun : Begun) (text : KeptText) (d : 
         one-read l phase begun text d fits is,
         fits.bytes.few,
         (new-rooms l phase begun text d fits is options from to 0 p mid taken).elements,
-      )
-
-  pub mid-serves : is_open mid.open ≡ true → mid.keys < length (all_rows mid.format.format)
-  mid-serves opened =
-      let in_data = open-behind p front mid mid-fits opened in
-      (subst (λ (q : Phase). FitsBehind q front mid) in_data mid-fits).served.serves
-
-  pub mid-rules : is_open mid.open ≡ true → mid.rules ≤ mid.keys
-  mid-rules opened =
-      let in_data = open-behind p front mid mid-fits opened in
-      omega (arith, (subst (λ (q : Phase). FitsBehind q front mid) in_data mid-fits).served.first)
-
-  pub mid-few : entries_of mid.rows < 4294967296
-  mid-few =
-      omega (
+      ))
+      (omega (
         arith,
         taken.entries,
         line-len,
@@ -242,13 +244,7 @@ module _ (l : TblLimits) (phase : Phase) (begun : Begun) (text : KeptText) (d : 
         all-kept l phase begun text d fits is (entries_of d.rows),
         fits.bytes.few,
         fits.rooms.small,
-      )
-
-  pub mid-opened : is_open mid.open ≡ true → AreOpened mid.rows.row
-  mid-opened opened =
-      let in_data = open-behind p front mid mid-fits opened in
-      let held : DataFits front mid = subst (λ (q : Phase). FitsBehind q front mid) in_data mid-fits in
-      AreOpened-kept front (row_at (all_rows mid.format.format) mid.keys) 0 mid.rows.row held.kept.row
+      ))
 
   module _ (new : TableData) (closing : Closes p front mid new) where
     pub closed-rooms : HasRooms l text.text_room new
@@ -293,6 +289,7 @@ module _ (l : TblLimits) (phase : Phase) (begun : Begun) (text : KeptText) (d : 
             rows = closed-counted.rows;
             ended = closed-counted.ended;
             stands = closed-counted.stands;
+            made = closed-counted.made;
           };
           rows = record {
             entries = omega (arith, kept-most p (entries_of new.rows), all-kept l phase begun text d fits is (entries_of d.rows), closing.entries, taken.entries, line-len, may, fits.rows.entries, one-read l phase begun text d fits is, read-most p);
@@ -318,114 +315,3 @@ module _ (l : TblLimits) (phase : Phase) (begun : Begun) (text : KeptText) (d : 
     close-told =
         ap (λ (ns : List KeptNote). told_of_all front ns) (ap (λ (k : KeptNotes). k.to_tell) closing.notes ∙ taken.to_tell)
         ∙ told-longer text.settled (behind_joined text.pending []) d.notes.to_tell fits.messages.telling
-
--- one that is open is open in the data
-open-phase : (p : Phase) (settled : List ℕ) (pending : Option Joined) (d : TableData) → PhaseFits p settled pending d → is_open d.open ≡ true → p ≡ InData
-open-phase AtHead settled pending d fits some = absurd (no-open d.open fits.fits.closed some)
-open-phase InFormat settled pending d fits some = absurd (no-open d.open fits.fits.closed some)
-open-phase InData settled pending d fits some = refl
-open-phase Bad settled pending d fits some = absurd (no-open d.open fits.fits.closed some)
-
-row-none : (pending : Option Joined) (block : OpenBlock) → pending ≡ None → row_open pending block ≡ block_open block
-row-none None block none = refl
-row-none (Some j) block none = absurd (cc)
-
--- where no line goes on
-module _ (l : TblLimits) (phase : Phase) (begun : Begun) (text : KeptText) (d : TableData) (fits : PartsFit l phase begun text d) where
-  pub rest-formats : length (all_rows d.format.format) < 4294967296
-  rest-formats =
-      omega (arith, fits.keys.rows.few, fits.keys.keys, fits.bytes.few, fits.rooms.small, length-append d.format.format.earlier d.format.format.rows)
-
-  pub rest-data : is_open d.open ≡ true → phase ≡ InData
-  rest-data some = open-phase phase text.settled text.pending d fits.by_phase some
-
-  pub rest-room : is_open d.open ≡ true → length d.rows.elements < d.rows.element_room
-  rest-room some =
-      let is = rest-data some in
-      omega (arith, fits.rows.elements, fits.rooms.elements, fits.bytes.few, one-read l phase begun text d fits is, all-kept l phase begun text d fits is (length d.rows.elements))
-
-  pub rest-serves : is_open d.open ≡ true → d.keys < length (all_rows d.format.format)
-  rest-serves some = (data-reads l phase begun text d fits (rest-data some)).fits.served.serves
-
-  pub rest-rules : is_open d.open ≡ true → d.rules ≤ d.keys
-  rest-rules some = omega (arith, (data-reads l phase begun text d fits (rest-data some)).fits.served.first)
-
-  pub rest-few : is_open d.open ≡ true → entries_of d.rows < 4294967296
-  rest-few some =
-      let is = rest-data some in
-      omega (arith, fits.rows.entries, all-kept l phase begun text d fits is (entries_of d.rows), fits.bytes.few, fits.rooms.small)
-
-  pub rest-opened : is_open d.open ≡ true → AreOpened d.rows.row
-  rest-opened some =
-      AreOpened-kept text.settled (row_at (all_rows d.format.format) d.keys) 0 d.rows.row
-      (data-reads l phase begun text d fits (rest-data some)).fits.kept.row
-
-  -- what the end of a block has made
-  pub record Rests (new : TableData) : Type 0 where
-    pub parts : PartsFit l phase begun text new
-    pub table : (options : Options) → table_by phase options text.settled new
-        ≡ closed_block (table_by phase options text.settled d).begun (table_by phase options text.settled d)
-    pub notes : new.notes ≡ d.notes
-
-  rests-none : d.open ≡ NoBlock → Rests d
-  rests-none closed = record {
-    parts = fits;
-    table = λ options. ap (λ (b : Option RowBegun). closed_block b (table_by phase options text.settled d)) (sym (none-begun d.open (map (content_of text.settled) d.rows.row) closed));
-    notes = refl;
-  }
-
-  rests-some : (new : TableData) → text.pending ≡ None → is_open d.open ≡ true → BlockEnds d new → Rests new
-  rests-some new none some ends =
-      let is = rest-data some in
-      let closing = closes-data text.settled d new (data-reads l phase begun text d fits is).fits some ends in
-      record {
-        parts = record {
-          rooms = record {
-            text = fits.rooms.text;
-            keys = closing.rooms.keys ∙ fits.rooms.keys;
-            asked = closing.rooms.asked ∙ fits.rooms.asked;
-            entries = closing.rooms.entries ∙ fits.rooms.entries;
-            elements = closing.rooms.elements ∙ fits.rooms.elements;
-            columns = closing.rooms.columns ∙ fits.rooms.columns;
-            notes = closing.rooms.notes ∙ fits.rooms.notes;
-            small = fits.rooms.small;
-            narrow = fits.rooms.narrow;
-            wide = fits.rooms.wide;
-          };
-          bytes = fits.bytes;
-          keys = subst (λ (k : KeptFormat). KeysFit l text.read text.line phase begun k.format) (sym closing.format) fits.keys;
-          rows = record {
-            entries = omega (arith, kept-most phase (entries_of new.rows), all-kept l phase begun text d fits is (entries_of d.rows), closing.entries, fits.rows.entries);
-            elements = omega (arith, kept-most phase (length new.rows.elements), all-kept l phase begun text d fits is (length d.rows.elements), closing.elements, row-none text.pending d.open none, row-none text.pending new.open none, ap block_open closing.closed, fits.rows.elements);
-          };
-          messages = record {
-            few = omega (arith, ap (λ (k : KeptNotes). length k.notes) closing.notes, fits.messages.few);
-            telling = subst (λ (k : KeptNotes). NotesWithin (length text.settled) k.to_tell) (sym closing.notes) fits.messages.telling;
-          };
-          by_phase = subst (λ (q : Phase). PhaseFits q text.settled text.pending new) (sym is)
-              (record { fits = closing.fits; behind = no-behind text.settled (length text.settled) new closing.closed });
-        };
-        table = λ options.
-            subst (λ (q : Phase). table_by q options text.settled new ≡ closed_block (table_by q options text.settled d).begun (table_by q options text.settled d)) (sym is)
-            (closing.table options);
-        notes = closing.notes;
-      }
-
-  rests-by : (b : Bool) (new : TableData) → is_open d.open ≡ b → text.pending ≡ None → (is_open d.open ≡ true → BlockEnds d new) → (is_open d.open ≡ false → new ≡ d) → Rests new
-  rests-by false new is none done same = subst (λ (e : TableData). Rests e) (sym (same is)) (rests-none (none-open d.open is))
-  rests-by true new is none done same = rests-some new none is (done is)
-
-  pub rests : (new : TableData) → text.pending ≡ None → (is_open d.open ≡ true → BlockEnds d new) → (is_open d.open ≡ false → new ≡ d) → Rests new
-  rests new none done same = rests-by (is_open d.open) new refl none done same
-
-  pub rest-read : (options : Options) (new : TableData) → text.pending ≡ None → Rests new
-      → reading_of phase options text new ≡ record (reading_of phase options text d) { table = closed (table_of phase options text d) }
-  unfolding closed
-  rest-read options new none rest =
-      let before = table_by phase options text.settled d in
-      let after = table_by phase options text.settled new in
-      let with_pending = λ (p : Option Joined) (t : TableRead). let u : TableRead = record t { pending = p } in u in
-      ap (λ (t : TableRead). let r : Reading = record { table = t; read = text.read; line = text.line } in r)
-      (ap (λ (p : Option Joined). with_pending p after) none
-      ∙ rest.table options
-      ∙ ap (λ (p : Option Joined). closed (with_pending p before)) (sym none))

@@ -7,7 +7,6 @@ use Rattle.tbl_format.specs.RowsServed.{row_at}
 use Rattle.tbl_kept.specs.Rows.{AreKept, AreLaid, Command, ElementKept, ElementLaid, KeptElement, KeptRows, Row, RowsKept, RowsLaid, Rule, element_of, elements_of, rows_in_front}
 use Rattle.tbl_layout.specs.Entries.{Block, Command as OneCommand, Content, Element, Row as OneRow, Text, completed, key_at}
 use Rattle.tbl_layout.specs.KeptEntries.{IsKeptBy, IsLaidBy, content_by, content_of}
-use Rattle.tbl_layout.specs.declared.columns.Column.{Column}
 use Rattle.tbl_layout.specs.declared.entry.Entry.{Entry}
 use Rattle.tbl_layout.specs.declared.entry.EntryKind.{EntryKind}
 use Rattle.tbl_layout.specs.declared.entry.EntryKind.TheVariants.{Block as BlockKind, Repeated as RepeatedKind, Ruled as RuledKind, Short as ShortKind, Split as SplitKind, Text as TextKind}
@@ -24,32 +23,32 @@ kept-lies (RuledKind sign) bytes key e kept = kept.within
 kept-lies ShortKind bytes key e kept = kept.within
 kept-lies (RepeatedKind b) bytes key e kept = kept.within
 
-laid-lies : (kind : EntryKind) (bytes : List ℕ) (measure : ℕ) (key : Key) (e : Entry) → IsLaidBy kind bytes measure key e → EntryEnds (length bytes) e
-laid-lies (TextKind glyphs width) bytes measure key e laid = laid.within
-laid-lies (SplitKind s) bytes measure key e laid = laid.within
-laid-lies (BlockKind b) bytes measure key e laid = laid.lies.within
-laid-lies (RuledKind sign) bytes measure key e laid = laid.within
-laid-lies ShortKind bytes measure key e laid = laid.within
-laid-lies (RepeatedKind b) bytes measure key e laid = laid.within
+laid-lies : (kind : EntryKind) (bytes : List ℕ) (key : Key) (e : Entry) → IsLaidBy kind bytes key e → EntryEnds (length bytes) e
+laid-lies (TextKind glyphs width) bytes key e laid = laid.within
+laid-lies (SplitKind s) bytes key e laid = laid.within
+laid-lies (BlockKind b) bytes key e laid = laid.lies.within
+laid-lies (RuledKind sign) bytes key e laid = laid.within
+laid-lies ShortKind bytes key e laid = laid.within
+laid-lies (RepeatedKind b) bytes key e laid = laid.within
 
 pub fields-kept : (bytes : List ℕ) (format : FormatRow) (column : ℕ) (entries : List Entry) → AreKept bytes format column entries → AllByRecursion (EntryEnds (length bytes)) entries
 fields-kept bytes format column [] kept = tt
 fields-kept bytes format column (e ∷ entries) kept =
     (kept-lies e.kind bytes (key_at format column) e kept.0, fields-kept bytes format (suc column) entries kept.1)
 
-fields-laid : (bytes : List ℕ) (columns : List Column) (format : FormatRow) (column : ℕ) (entries : List Entry) → AreLaid bytes columns format column entries
+fields-laid : (bytes : List ℕ) (format : FormatRow) (cell : ℕ) (entries : List Entry) → AreLaid bytes format cell entries
     → AllByRecursion (EntryEnds (length bytes)) entries
-fields-laid bytes columns format column [] laid = tt
-fields-laid bytes columns format column (e ∷ entries) laid =
-    (laid-lies e.kind bytes _ (key_at format column) e laid.0, fields-laid bytes columns format (suc column) entries laid.1)
+fields-laid bytes format cell [] laid = tt
+fields-laid bytes format cell (e ∷ entries) laid =
+    (laid-lies e.kind bytes (key_at format cell) e laid.0, fields-laid bytes format (suc cell) entries laid.1)
 
 element-kept : (bytes : List ℕ) (formats : List FormatRow) (columns : ℕ) (e : KeptElement) → ElementKept bytes formats columns e → ElementEnds (length bytes) e
 element-kept bytes formats columns (Row keys rules height entries) kept = fields-kept bytes (row_at formats keys) 0 entries kept.kept
 element-kept bytes formats columns (Rule sign) kept = tt
 element-kept bytes formats columns (Command from to) kept = kept.within
 
-element-laid : (bytes : List ℕ) (formats : List FormatRow) (columns : List Column) (e : KeptElement) → ElementLaid bytes formats columns e → ElementEnds (length bytes) e
-element-laid bytes formats columns (Row keys rules height entries) laid = fields-laid bytes columns (row_at formats keys) 0 entries laid.laid
+element-laid : (bytes : List ℕ) (formats : List FormatRow) (columns : ℕ) (e : KeptElement) → ElementLaid bytes formats columns e → ElementEnds (length bytes) e
+element-laid bytes formats columns (Row keys rules height entries) laid = fields-laid bytes (row_at formats keys) 0 entries laid.laid
 element-laid bytes formats columns (Rule sign) laid = tt
 element-laid bytes formats columns (Command from to) laid = laid.within
 
@@ -58,7 +57,7 @@ elements-kept : (bytes : List ℕ) (formats : List FormatRow) (columns : ℕ) (e
 elements-kept bytes formats columns [] kept = tt
 elements-kept bytes formats columns (e ∷ es) kept = (element-kept bytes formats columns e kept.0, elements-kept bytes formats columns es kept.1)
 
-elements-laid : (bytes : List ℕ) (formats : List FormatRow) (columns : List Column) (es : List KeptElement) → AllByRecursion (ElementLaid bytes formats columns) es
+elements-laid : (bytes : List ℕ) (formats : List FormatRow) (columns : ℕ) (es : List KeptElement) → AllByRecursion (ElementLaid bytes formats columns) es
     → AllByRecursion (ElementEnds (length bytes)) es
 elements-laid bytes formats columns [] laid = tt
 elements-laid bytes formats columns (e ∷ es) laid = (element-laid bytes formats columns e laid.0, elements-laid bytes formats columns es laid.1)
@@ -68,7 +67,7 @@ pub lies-kept : (bytes : List ℕ) (formats : List FormatRow) (k : KeptRows) →
 lies-kept bytes formats k kept = elements-kept bytes formats (length k.columns) k.elements kept.elements
 
 pub lies-laid : (bytes : List ℕ) (formats : List FormatRow) (k : KeptRows) → RowsLaid bytes formats k → AllByRecursion (ElementEnds (length bytes)) k.elements
-lies-laid bytes formats k laid = elements-laid bytes formats k.columns k.elements laid
+lies-laid bytes formats k laid = elements-laid bytes formats (length k.columns) k.elements laid
 
 -- what ends by a place ends by a later one
 fields-longer : (a b : ℕ) (entries : List Entry) → a ≤ b → AllByRecursion (EntryEnds a) entries → AllByRecursion (EntryEnds b) entries
@@ -90,7 +89,7 @@ module _ (bytes more : List ℕ) where
   content-by (TextKind glyphs width) from to within = ap Text (part-more bytes more from to within)
   content-by (SplitKind s) from to within = ap Text (part-more bytes more from to within)
   content-by (BlockKind b) from to within =
-      ap (λ (part : List ℕ). Block (if from == to then [] else lines_in part)) (part-more bytes more (from + 1) to within)
+      ap (λ (part : List ℕ). Block b.measure (if from == to then [] else lines_in part)) (part-more bytes more (from + 1) to within)
   content-by (RuledKind sign) from to within = refl
   content-by ShortKind from to within = refl
   content-by (RepeatedKind b) from to within = refl

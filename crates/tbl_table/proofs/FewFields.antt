@@ -16,12 +16,19 @@ use Rattle.tbl_layout.specs.declared.data_lines.FieldKind.{FieldKind}
 use Rattle.tbl_layout.specs.declared.data_lines.FieldKind.TheVariants.{Above, Repeated, Ruled, Short, Text as TextField}
 use Rattle.tbl_layout.specs.declared.data_lines.LineKind.{LineKind}
 use Rattle.tbl_layout.specs.declared.data_lines.LineKind.TheVariants.{Command, Formats, Row, Rule}
-use Rattle.tbl_data.specs.DataRead.{behind_block, field_notes, fields_with_block, item_notes, keyed, notes_by_kind, notes_of_field, serving, surplus_notes, whole_line, with_block_line, with_fields, with_line, with_open_row, with_whole}
+use Rattle.tbl_data.specs.DataRead.{behind_block, cells, field_notes, fields_with_block, item_notes, keyed, notes_by_kind, notes_of_field, serving, surplus_notes, whole_line, with_block_line, with_fields, with_line, with_open_row, with_whole}
 use Rattle.tbl_data.proofs.FieldSteps.{content-of, is-laid}
+use Rattle.tbl_format.specs.Cells.{cell_count}
 use Rattle.tbl_format.specs.Format.{FormatRow}
+use Rattle.tbl_format.specs.declared.format.FormatKey.{FormatKey}
 use Rattle.tbl_format.specs.declared.format.Key.{Key}
-use Rattle.tbl_data.specs.TableRead.{RowBegun, TableRead, bad, columns, with_notes}
+use Rattle.tbl_data.specs.TableRead.{RowBegun, TableRead, bad, with_notes}
 use Rattle.tbl_text.specs.Items.{Item, first_item, first_items, items, note}
+
+-- where there is a column a row has a cell
+pub cells-some : (keys : List FormatKey) (count : ℕ) → 1 ≤ count → 1 ≤ cell_count keys count
+cells-some [] count some = omega (arith, some)
+cells-some (k ∷ keys) count some = omega arith
 
 -- at most one for each item, and no more items than bytes
 one-at_most : (line : ℕ) (note : Option ℕ) → length (option_to_list (option_map (λ b. told_at line (NotMeasured b)) note)) ≤ 1
@@ -169,7 +176,7 @@ pub fields_most : (ends : List (ℕ × ℕ)) (n place : ℕ) (all : List (List �
 fields_most ends n place all in_front had_surplus t =
     let format = serving t in
     let column = length in_front in
-    let room = columns t - column in
+    let room = cells t - column in
     let texts = take room (without_opening all) in
     let built = built_of format column texts in
     let has_surplus = nat_lt room (length all) in
@@ -205,7 +212,7 @@ pub fields_pending : (ends : List (ℕ × ℕ)) (n place : ℕ) (all : List (Lis
 fields_pending ends n place all in_front had_surplus t none =
     let format = serving t in
     let column = length in_front in
-    let room = columns t - column in
+    let room = cells t - column in
     let texts = take room (without_opening all) in
     let built = built_of format column texts in
     let has_surplus = nat_lt room (length all) in

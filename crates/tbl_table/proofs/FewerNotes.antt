@@ -1,7 +1,7 @@
 -- A whole line of the data has one message for each of its bytes at the most, where there is a column.
 use Rattle.std.proofs.Common.{◌≡◌, ℕ, suc, ◌+◌, ◌-◌, ◌≤◌, Bool, true, false, not, ◌&&◌, ◌||◌, List, [], ◌∷◌, ◌++◌, length, map, take, drop, Option, Some, None, refl, arith, length-append, length-drop, nat_lt, if◌then◌else◌}
 use Rattle.std.specs.Prelude.{is_some}
-use Rattle.tbl_data.specs.DataRead.{behind_block, field_notes, fields_with_block, item_notes, keyed, serving, surplus_notes, whole_line, with_block_line, with_fields, with_line, with_whole}
+use Rattle.tbl_data.specs.DataRead.{behind_block, cells, field_notes, fields_with_block, item_notes, keyed, serving, surplus_notes, whole_line, with_block_line, with_fields, with_line, with_whole}
 use Rattle.tbl_data.proofs.FieldSteps.{content-of}
 use Rattle.tbl_data.specs.TableRead.{RowBegun, TableRead, columns, with_notes}
 use Rattle.tbl_options.specs.Notes.{told_at}
@@ -16,15 +16,15 @@ use Rattle.tbl_layout.specs.declared.data_lines.BlockLineKind.TheVariants.{End, 
 use Rattle.tbl_layout.specs.declared.data_lines.LineKind.{LineKind}
 use Rattle.tbl_layout.specs.declared.data_lines.LineKind.TheVariants.{Command, Formats, Row, Rule}
 use Rattle.tbl_text.specs.Items.{items}
-use Rattle.tbl_table.proofs.FewFields.{built_of, field_notes-most, fields_most, kept-few, len-fields, less, part-behind, part-opening, part-take, part-while, surplus-few, take-few, texts-len, texts_of, told-few}
+use Rattle.tbl_table.proofs.FewFields.{built_of, cells-some, field_notes-most, fields_most, kept-few, len-fields, less, part-behind, part-opening, part-take, part-while, surplus-few, take-few, texts-len, texts_of, told-few}
 use Rattle.tbl_table.proofs.LastPlaces.{request-some, unlaid-within}
 
-fields-fewer : (ends : List (ℕ × ℕ)) (n place : ℕ) (all : List (List ℕ)) (in_front : List Content) (had : Bool) (t : TableRead) → 1 ≤ length all → 1 ≤ columns t - length in_front
+fields-fewer : (ends : List (ℕ × ℕ)) (n place : ℕ) (all : List (List ℕ)) (in_front : List Content) (had : Bool) (t : TableRead) → 1 ≤ length all → 1 ≤ cells t - length in_front
     → 1 ≤ len_of_fields all → length (with_fields ends n place all in_front had t).notes + 1 ≤ length t.notes + len_of_fields all
 fields-fewer ends n place all in_front had t one some least =
     let format = serving t in
     let column = length in_front in
-    let room = columns t - column in
+    let room = cells t - column in
     let texts = take room (without_opening all) in
     let built = built_of format column texts in
     let has = nat_lt room (length all) in
@@ -59,7 +59,12 @@ line-fewer Command ends n line t is some = omega arith
 line-fewer Row ends n line t is some =
     let all = fields t.options.separator line in
     let len = len-fields t.options.separator line in
-    omega (arith, fields-fewer ends n 0 all [] false t (fields-some all (length line) len) (omega (arith, some)) (omega (arith, len)), len)
+    omega (
+      arith,
+      fields-fewer ends n 0 all [] false t (fields-some all (length line) len)
+          (omega (arith, cells-some (serving t).keys (columns t) some)) (omega (arith, len)),
+      len,
+    )
 
 behind-fewer : (ends : List (ℕ × ℕ)) (n : ℕ) (line : List ℕ) (all : List (List ℕ)) (row : RowBegun) (t : TableRead) → len_of_fields all ≡ suc (length (drop 2 line))
     → length (behind_block ends n all row t).notes ≤ length t.notes + length line

@@ -4,6 +4,7 @@ use Rattle.std.proofs.lemmas.List.Elements.{All-nil}
 use Rattle.std.proofs.lemmas.List.{drop_at}
 use Rattle.std.specs.List.{slice_range}
 use Rattle.tbl_format.proofs.Parts.{slice_range-rest}
+use Rattle.tbl_format.proofs.RowsHeld.{read-held}
 use Rattle.roff_source.specs.Bytes.{newline}
 use Rattle.tbl_data.specs.TableData.{FormatFits, OpenBehind, begun_by}
 use Rattle.tbl_data.specs.TableRead.{TableRead}
@@ -11,6 +12,7 @@ use Rattle.tbl_data.specs.declared.phase.Phase.{Phase}
 use Rattle.tbl_data.specs.declared.table_data.OpenBlock.{OpenBlock}
 use Rattle.tbl_data.specs.declared.table_data.TableData.{TableData}
 use Rattle.tbl_format.specs.Format.{Format}
+use Rattle.tbl_format.specs.FormatLaws.{IsRead}
 use Rattle.tbl_format.specs.FormatRows.{key_count}
 use Rattle.tbl_format.specs.KeyCounts.{StandsOnLine}
 use Rattle.tbl_options.specs.Notes.{NotesWithin, told_of_all}
@@ -42,32 +44,33 @@ pub record IsCounted (l : TblLimits) (len : ℕ) (g : Format) : Type 0 where
   pub keys : key_count g ≤ len
   pub asked : length g.asked ≤ len
   pub columns : length g.asked ≤ l.columns
-  pub row : length g.row ≤ length g.asked
   pub rows : HasKeys g
   pub ended : EndFits g.place g
   pub stands : StandsOnLine 0 g.place
+  pub made : IsRead g
 
 pub counted-longer : (l : TblLimits) (len more : ℕ) (g : Format) → len ≤ more → IsCounted l len g → IsCounted l more g
 counted-longer l len more g less is = record {
   keys = omega (arith, less, is.keys);
   asked = omega (arith, less, is.asked);
   columns = is.columns;
-  row = is.row;
   rows = is.rows;
   ended = is.ended;
   stands = is.stands;
+  made = is.made;
 }
 
 pub KeysFit-start : (l : TblLimits) (read : List ℕ) (p : Phase) (g : Format) → IsCounted l (length read) g → KeysFit l read [] p (begun_in p g []) g
 KeysFit-start l read p g is = record {
   is = refl;
-  few = few-start (l.columns + 0) p g is.row (omega (arith, is.columns)) is.stands;
+  few = few-start (l.columns + 0) p g (read-held g is.made).row.short (omega (arith, is.columns)) is.stands;
   keys = is.keys;
   asked = is.asked;
   columns = is.columns;
   rows = is.rows;
   ended = is.ended;
   stands = is.stands;
+  made = is.made;
 }
 
 pub format-behind : (place : FormatPlace) (number : ℕ) (notes : KeptNotes) (g : Format) (d : TableData) → (data_behind place number (read_on g notes d)).format.format ≡ g
@@ -164,10 +167,10 @@ module _ (l : TblLimits) (phase : Phase) (begun : Begun) (text : KeptText) (d : 
       keys = omega (arith, counted.keys, ended-read text);
       asked = omega (arith, counted.asked, ended-read text);
       columns = counted.columns;
-      row = counted.row;
       rows = counted.rows;
       ended = counted.ended;
       stands = counted.stands;
+      made = counted.made;
     }
 
     none-open : block_open d.open ≡ 0

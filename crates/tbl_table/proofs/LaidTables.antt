@@ -17,11 +17,13 @@ use Rattle.tbl_kept.specs.Joined.{Joined, behind_joined}
 use Rattle.tbl_kept.specs.Rows.{KeptRows, RowsLaid, SameRoom}
 use Rattle.tbl_kept.specs.TableText.{KeptText, block_of}
 use Rattle.tbl_kept.proofs.RowsKeeping.{RowsLaid-more, elements_of-laid-more}
-use Rattle.tbl_layout.specs.Columns.{columns_from, columns_laid, equal_widths, gaps, gaps_from, greatest, placed, placed_with, share, spread, total, width_of_all, with_equal, with_widths}
+use Rattle.tbl_layout.specs.Columns.{columns_from, equal_widths, gaps, gaps_from, greatest, placed, placed_with, share, spread, total, width_of_all, with_equal, with_widths}
 use Rattle.tbl_layout.specs.Entries.{Element}
+use Rattle.tbl_layout.specs.Spans.{all_fitted, all_wide, columns_laid, filled}
 use Rattle.tbl_layout.specs.Widths.{left_edge, separation, table_bars}
 use Rattle.tbl_layout.specs.declared.bars.Bars.{Bars}
 use Rattle.tbl_layout.specs.declared.columns.Column.{Column}
+use Rattle.tbl_layout.proofs.Spreading.{length-all_fitted}
 use Rattle.tbl_layout.proofs.Shares.{share-grows, share-most}
 use Rattle.tbl_lines.specs.RowsWalked.{AreNarrow}
 use Rattle.tbl_lines.specs.PictureLines.{Sheet, picture_lines}
@@ -29,7 +31,7 @@ use Rattle.tbl_table.specs.Kept.{PartsFit, row_open, table_of}
 use Rattle.tbl_table.specs.Laying.{IsLaid, body_of, columns_by, lacking_by}
 use Rattle.tbl_table.specs.MayTell.{line_may_tell}
 use Rattle.tbl_picture.specs.Giving.{IsLaidOut, lines_laid}
-use Rattle.tbl_table.specs.Table.{laid_out}
+use Rattle.tbl_table.specs.Table.{body_filled, laid_out}
 use Rattle.tbl_table.specs.declared.begun.Begun.{Begun}
 use Rattle.tbl_table.specs.declared.begun.Begun.TheVariants.{Nothing}
 use Rattle.tbl_table.proofs.DataLies.{lies-laid}
@@ -47,16 +49,21 @@ length-equal width [] columns = refl
 length-equal width (a ∷ asked) [] = refl
 length-equal width (a ∷ asked) (c ∷ columns) = ap (λ (n : ℕ). suc n) (length-equal width asked columns)
 
-length-from : (line_length count : ℕ) (elements : List Element) (column : ℕ) (asked : List Asked)
-    → length (columns_from line_length count elements column asked) ≡ length asked
-length-from line_length count elements column [] = refl
-length-from line_length count elements column (a ∷ asked) = ap (λ (n : ℕ). suc n) (length-from line_length count elements (suc column) asked)
+length-from : (elements : List Element) (column : ℕ) (asked : List Asked) → length (columns_from elements column asked) ≡ length asked
+length-from elements column [] = refl
+length-from elements column (a ∷ asked) = ap (λ (n : ℕ). suc n) (length-from elements (suc column) asked)
 
-length-laid : (line_length : ℕ) (asked : List Asked) (elements : List Element) → length (columns_laid line_length asked elements) ≡ length asked
-length-laid line_length asked elements =
-    let from = columns_from line_length (length asked) elements 0 asked in
-    let wide = with_widths asked from in
-    length-equal (greatest (equal_widths asked wide)) asked wide ∙ length-widths asked from ∙ length-from line_length (length asked) elements 0 asked
+length-laid : (bars : Bars) (line_length : ℕ) (asked : List Asked) (elements : List Element)
+    → length (columns_laid bars line_length asked elements) ≡ length asked
+length-laid bars line_length asked elements =
+    let all = filled bars line_length asked elements in
+    let from = columns_from all 0 asked in
+    let alone = with_widths asked from in
+    let wide = all_fitted bars asked (all_wide all) alone in
+    length-equal (greatest (equal_widths asked wide)) asked wide
+    ∙ length-all_fitted bars asked (all_wide all) alone
+    ∙ length-widths asked from
+    ∙ length-from all 0 asked
 
 length-placed : (place : ℕ) (spaces : List ℕ) (columns : List Column) → length (placed place spaces columns) ≡ length columns
 length-placed place [] columns = refl
@@ -94,10 +101,10 @@ spread-all : (more : ℕ) (spaces : List ℕ) → total (spread more (total spac
 spread-all more spaces =
     omega (arith, spread-most more (total spaces) 0 spaces, share-most more (0 + total spaces) (total spaces) (omega arith))
 
--- columns that end below a place begin and are as wide below it
+-- columns that end below a place are narrow
 pub narrow-parts : (columns : List Column) → AllByRecursion (λ c. c.start + c.width < 4294967296) columns → AreNarrow columns
 narrow-parts [] narrow = tt
-narrow-parts (c ∷ columns) narrow = (record { start = omega (arith, narrow.0); width = omega (arith, narrow.0) }, narrow-parts columns narrow.1)
+narrow-parts (c ∷ columns) narrow = (record { end = narrow.0 }, narrow-parts columns narrow.1)
 
 pub placed-narrow : (bars : Bars) (most more : ℕ) (asked : List Asked) (columns : List Column) → length columns ≤ length asked → width_of_all bars columns asked + more < most
     → AllByRecursion (λ c. c.start + c.width < most) (placed_with bars more asked columns)
@@ -149,6 +156,7 @@ module _ (l : TblLimits) (phase : Phase) (begun : Begun) (text : KeptText) (d : 
           rows = fits.keys.rows;
           ended = fits.keys.ended;
           stands = fits.keys.stands;
+          made = fits.keys.made;
         };
         rows = record {
           entries = omega (arith, ap line_may_tell none);
@@ -158,16 +166,17 @@ module _ (l : TblLimits) (phase : Phase) (begun : Begun) (text : KeptText) (d : 
         by_phase = record { alone = none; lies = lies; fits = record { closed = closed; notes = reads.fits.notes } };
       }
 
-  module _ (line_length : ℕ) (options : Options) (new : TableData) (laid : IsLaid text.settled line_length d new) where
+  module _ (line_length : ℕ) (options : Options) (new : TableData)
+      (laid : IsLaid text.settled (table_bars options.boxing d.format.format) line_length d new) where
+    abbrev pub bars : Bars
+    bars = table_bars options.boxing d.format.format
+
     pub laid-lies : AllByRecursion (ElementEnds (length text.settled)) new.rows.elements
     laid-lies = lies-laid text.settled (all_rows d.format.format) new.rows laid.laid
 
     count-laid : length new.rows.columns ≡ length d.format.format.asked
     count-laid =
-        ap (λ (cs : List Column). length cs) laid.columns ∙ length-laid line_length d.format.format.asked (body_of text.settled d)
-
-    abbrev pub bars : Bars
-    bars = table_bars options.boxing d.format.format
+        ap (λ (cs : List Column). length cs) laid.columns ∙ length-laid bars line_length d.format.format.asked (body_of text.settled d)
 
     -- the rows with their places
     abbrev pub places : ℕ → KeptRows
@@ -195,11 +204,12 @@ module _ (l : TblLimits) (phase : Phase) (begun : Begun) (text : KeptText) (d : 
         → RowsLaid text.settled (all_rows d.format.format) (places more)
         → lines_laid bars width text (places more) d.format
         ≡ picture_lines (record { bars = bars; width = width; columns = (laid_out line_length (table_of phase options text d)).columns })
-        (table_of phase options text d).body
+        (body_filled line_length (table_of phase options text d))
     lines-are width more more_is rows =
         let asked = d.format.format.asked in
+        let body = filled bars line_length asked (body_of text.settled d) in
         let sheet : List Column → Sheet = λ cs. record { bars = bars; width = width; columns = cs } in
         ap (λ (es : List Element). picture_lines (sheet (placed_with bars more asked new.rows.columns)) es)
         (elements_of-laid-more text.settled (behind_joined text.pending text.line) (all_rows d.format.format) (places more) rows ∙ laid.body)
-        ∙ ap (λ (cs : List Column). picture_lines (sheet (placed_with bars more asked cs)) (body_of text.settled d)) laid.columns
-        ∙ ap (λ (n : ℕ). picture_lines (sheet (placed_with bars n asked (columns_by line_length text.settled d))) (body_of text.settled d)) more_is
+        ∙ ap (λ (cs : List Column). picture_lines (sheet (placed_with bars more asked cs)) body) laid.columns
+        ∙ ap (λ (n : ℕ). picture_lines (sheet (placed_with bars n asked (columns_by bars line_length text.settled d))) body) more_is

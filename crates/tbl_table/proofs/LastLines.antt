@@ -56,15 +56,15 @@ module _ (l : TblLimits) (phase : Phase) (begun : Begun) (text : KeptText) (d : 
     one_line = All-nil (λ b. (b == newline) ≡ false);
   }
 
-  counted-whole : length d.format.format.row ≤ length d.format.format.asked → IsCounted l (length (text_whole text).read) d.format.format
-  counted-whole row = record {
+  counted-whole : IsCounted l (length (text_whole text).read) d.format.format
+  counted-whole = record {
     keys = omega (arith, fits.keys.keys, whole-read);
     asked = omega (arith, fits.keys.asked, whole-read);
     columns = fits.keys.columns;
-    row = row;
     rows = fits.keys.rows;
     ended = fits.keys.ended;
     stands = fits.keys.stands;
+    made = fits.keys.made;
   }
 
   noted-rooms : (noted : KeptNotes) → noted.note_room ≡ d.notes.note_room → HasRooms l text.text_room (record d { notes = noted })
@@ -82,7 +82,7 @@ module _ (l : TblLimits) (phase : Phase) (begun : Begun) (text : KeptText) (d : 
   }
 
   -- a line of the options or the format
-  module _ (reads : FormatReads text.settled text.pending d) (all : (n : ℕ) → kept_in phase n ≡ n) (kept : KeptNotes) (number : ℕ) (room : length (text.read ++ text.line) ≤ l.text) (row : length d.format.format.row ≤ length d.format.format.asked) (few : length kept.notes ≤ length text.read + length text.line) (within : NotesWithin (length (block_of text)) kept.notes) (to_tell : NotesWithin (length (block_of text)) kept.to_tell) (same : kept.note_room ≡ d.notes.note_room) where
+  module _ (reads : FormatReads text.settled text.pending d) (all : (n : ℕ) → kept_in phase n ≡ n) (kept : KeptNotes) (number : ℕ) (room : length (text.read ++ text.line) ≤ l.text) (few : length kept.notes ≤ length text.read + length text.line) (within : NotesWithin (length (block_of text)) kept.notes) (to_tell : NotesWithin (length (block_of text)) kept.to_tell) (same : kept.note_room ≡ d.notes.note_room) where
     grown : FormatFits (block_of text) d
     grown = FormatFits-more text.settled (behind_joined text.pending text.line) d reads.fits
 
@@ -95,7 +95,7 @@ module _ (l : TblLimits) (phase : Phase) (begun : Begun) (text : KeptText) (d : 
         record {
           rooms = noted-rooms noted rooms;
           bytes = whole-bytes room;
-          keys = KeysFit-start l (text_whole text).read p d.format.format (counted-whole row);
+          keys = KeysFit-start l (text_whole text).read p d.format.format counted-whole;
           rows = record {
             entries = omega (arith, fits.rows.entries, kept-most p (entries_of d.rows), all (entries_of d.rows), none, whole-read);
             elements = omega (arith, fits.rows.elements, kept-most p (length d.rows.elements), all (length d.rows.elements), none, shut, whole-read);
@@ -141,6 +141,7 @@ module _ (l : TblLimits) (phase : Phase) (begun : Begun) (text : KeptText) (d : 
           rows = fits.keys.rows;
           ended = fits.keys.ended;
           stands = fits.keys.stands;
+          made = fits.keys.made;
         };
         rows = record {
           entries = omega (arith, fits.rows.entries, whole-read);

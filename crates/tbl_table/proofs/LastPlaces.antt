@@ -3,7 +3,7 @@ use Rattle.std.proofs.Common.{◌≡◌, ℕ, zero, suc, ◌+◌, ◌-◌, ◌�
 use Rattle.std.specs.Prelude.{is_some, option_map, option_to_list}
 use Rattle.std.proofs.lemmas.Bool.Decides.{nat_tests}
 use Rattle.std.proofs.lemmas.List.Sums.{take_while-cons}
-use Rattle.tbl_data.specs.DataRead.{behind_block, field_notes, fields_with_block, item_notes, keyed, notes_by_kind, notes_of_field, serving, surplus_notes, whole_line, with_block_line, with_fields, with_line, with_open_row, with_text, with_whole}
+use Rattle.tbl_data.specs.DataRead.{behind_block, cells, field_notes, fields_with_block, item_notes, keyed, notes_by_kind, notes_of_field, serving, surplus_notes, whole_line, with_block_line, with_fields, with_line, with_open_row, with_text, with_whole}
 use Rattle.tbl_data.proofs.FieldSteps.{content-of, is-laid}
 use Rattle.tbl_format.specs.Format.{FormatRow}
 use Rattle.tbl_format.specs.declared.format.Key.{Key}
@@ -24,7 +24,7 @@ use Rattle.tbl_layout.specs.declared.data_lines.FieldKind.TheVariants.{Above, Re
 use Rattle.tbl_layout.specs.declared.data_lines.LineKind.{LineKind}
 use Rattle.tbl_layout.specs.declared.data_lines.LineKind.TheVariants.{Command, Formats, Row, Rule}
 use Rattle.tbl_text.specs.Items.{first_item, first_items, items, note}
-use Rattle.tbl_table.proofs.FewFields.{built-front, built_of, len-fields, part-behind, part-opening, part-take, part-while, take-few, texts_of, less}
+use Rattle.tbl_table.proofs.FewFields.{built-front, built_of, cells-some, len-fields, part-behind, part-opening, part-take, part-while, take-few, texts_of, less}
 
 -- a place in front of the last line's end isn't one of a further line
 pub line_at-last : (ends : List (ℕ × ℕ)) (len place n : ℕ) → place < len → line_at (ends ++ (len, n) ∷ []) place 0 ≡ line_at ends place n
@@ -123,11 +123,11 @@ module _ (others : List (ℕ × ℕ)) (m : ℕ) (ends : List (ℕ × ℕ)) (n le
       ∙ ap (λ (ts : List Told). notes_of_field field.0 ends n place field.1 ++ ts) (notes-same (place + length field.1 + 1) fs (omega (arith, within)))
 
   fields-same : (place : ℕ) (all : List (List ℕ)) (in_front : List Content) (had : Bool) (t : TableRead) → place + len_of_fields all ≤ len + 1
-      → 1 ≤ place + (columns t - length in_front) → with_fields others m place all in_front had t ≡ with_fields ends n place all in_front had t
+      → 1 ≤ place + (cells t - length in_front) → with_fields others m place all in_front had t ≡ with_fields ends n place all in_front had t
   fields-same place all in_front had t within some =
       let format = serving t in
       let column = length in_front in
-      let room = columns t - column in
+      let room = cells t - column in
       let texts = take room (without_opening all) in
       let built = built_of format column texts in
       let has = nat_lt room (length all) in
@@ -153,7 +153,8 @@ module _ (others : List (ℕ × ℕ)) (m : ℕ) (ends : List (ℕ × ℕ)) (n le
   line-same Formats line t is whole some = refl
   line-same Command line t is whole some = refl
   line-same Row line t is whole some =
-      fields-same 0 (fields t.options.separator line) [] false t (omega (arith, whole, len-fields t.options.separator line)) (omega (arith, some))
+      fields-same 0 (fields t.options.separator line) [] false t (omega (arith, whole, len-fields t.options.separator line))
+      (omega (arith, cells-some (serving t).keys (columns t) some))
 
   behind-same : (line : List ℕ) (all : List (List ℕ)) (row : RowBegun) (t : TableRead) → length line ≡ len → len_of_fields all ≡ suc (length (drop 2 line))
       → behind_block others m all row t ≡ behind_block ends n all row t

@@ -15,10 +15,10 @@ pub mod FormatLines
 pub mod LineEnds
 pub mod OtherLines
 pub mod BlockCloses
+pub mod BlockRests
 pub mod TableOptions
 pub mod LaidTables
 pub mod TableEnds
-pub mod TableWhole
 pub mod LastLines
 pub mod LastPlaces
 pub mod FewerNotes

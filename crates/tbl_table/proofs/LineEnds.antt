@@ -14,6 +14,7 @@ use Rattle.tbl_data.specs.declared.table_data.OpenBlock.{OpenBlock}
 use Rattle.tbl_data.specs.declared.table_data.OpenBlock.TheVariants.{Dropped, Kept, Nothing as NoBlock}
 use Rattle.tbl_data.specs.declared.table_data.TableData.{TableData}
 use Rattle.tbl_format.specs.Format.{Format, further}
+use Rattle.tbl_format.specs.FormatLaws.{Further}
 use Rattle.tbl_options.specs.Notes.{NotesWithin, told_of_all}
 use Rattle.tbl_format.specs.RowsServed.{all_rows, row_at}
 use Rattle.tbl_format.specs.declared.limits.TblLimits.{TblLimits}
@@ -117,13 +118,13 @@ counted-further l len f is = record {
   keys = omega (arith, is.keys, keys_of-append f.earlier f.rows);
   asked = is.asked;
   columns = is.columns;
-  row = omega arith;
   rows = record {
     few = omega (arith, is.rows.few, keys_of-append f.earlier f.rows, length-append f.earlier f.rows);
     wide = λ some. is.rows.wide (omega (arith, some, length-append f.earlier f.rows));
   };
   ended = tt;
   stands = tt;
+  made = Further f is.made;
 }
 
 counted-by : (l : TblLimits) (len : ℕ) (f g : Format) → IsCounted l len f → (g ≡ f) ⊎ (g ≡ further f) → IsCounted l len g
@@ -195,10 +196,10 @@ module _ (l : TblLimits) (phase : Phase) (begun : Begun) (text : KeptText) (d : 
     keys = fits.keys.keys;
     asked = fits.keys.asked;
     columns = fits.keys.columns;
-    row = omega (arith, ap (λ (row : List _). length row) data-reads.fits.whole);
     rows = fits.keys.rows;
     ended = fits.keys.ended;
     stands = fits.keys.stands;
+    made = fits.keys.made;
   }
 
   -- the line is done
@@ -225,10 +226,10 @@ module _ (l : TblLimits) (phase : Phase) (begun : Begun) (text : KeptText) (d : 
           keys = omega (arith, take-counted.keys, more);
           asked = omega (arith, take-counted.asked, more);
           columns = take-counted.columns;
-          row = take-counted.row;
           rows = take-counted.rows;
           ended = take-counted.ended;
           stands = take-counted.stands;
+          made = take-counted.made;
         }) makes-taken.format
 
     pub new-elements : length new.rows.elements + block_open new.open ≤ length d.rows.elements + 1

@@ -14,12 +14,12 @@ use Rattle.tbl_layout.specs.declared.data_lines.BlockLineKind.{BlockLineKind}
 use Rattle.tbl_layout.specs.declared.data_lines.BlockLineKind.TheVariants.{End, Request, Text}
 use Rattle.tbl_layout.specs.declared.data_lines.LineKind.{LineKind}
 use Rattle.tbl_layout.specs.declared.data_lines.LineKind.TheVariants.{Command, Formats, Row, Rule}
-use Rattle.tbl_data.specs.DataRead.{closed_block, behind_block, field_notes, fields_with_block, keyed, serving, surplus_notes, whole_line, with_block_line, with_fields, with_line, with_open_row, with_pending, with_whole}
+use Rattle.tbl_data.specs.DataRead.{closed_block, behind_block, cells, field_notes, fields_with_block, keyed, serving, surplus_notes, whole_line, with_block_line, with_fields, with_line, with_open_row, with_pending, with_whole}
 use Rattle.tbl_data.proofs.FieldSteps.{content-of}
 use Rattle.tbl_table.proofs.FewFields.{built_of}
 use Rattle.tbl_table.specs.NotesStay.{Begins, NotesStay}
 use Rattle.tbl_table.specs.Table.{behind_format, closed, closed_line, ended, ended_in, format_line, head_line, left_out_notes, line_in, line_read, notes, told_at_cut, with_options}
-use Rattle.tbl_data.specs.TableRead.{RowBegun, TableRead, bad, columns, with_notes}
+use Rattle.tbl_data.specs.TableRead.{RowBegun, TableRead, bad, with_notes}
 use Rattle.tbl_data.specs.declared.phase.Phase.{Phase}
 use Rattle.tbl_data.specs.declared.phase.Phase.TheVariants.{AtHead, Bad, InData, InFormat}
 
@@ -77,7 +77,7 @@ fields_stay : (ends : List (ℕ × ℕ)) (n place : ℕ) (all : List (List ℕ))
 fields_stay ends n place all in_front had_surplus t =
     let format = serving t in
     let column = length in_front in
-    let room = columns t - column in
+    let room = cells t - column in
     let texts = take room (without_opening all) in
     let built = built_of format column texts in
     let has_surplus = nat_lt room (length all) in

@@ -74,6 +74,7 @@ module _ (l : TblLimits) (phase : Phase) (begun : Begun) (text : KeptText) (d : 
           rows = fits.keys.rows;
           ended = fits.keys.ended;
           stands = fits.keys.stands;
+          made = fits.keys.made;
         };
         rows = record {
           entries = omega (arith, fits.rows.entries, ended-read text);
@@ -127,6 +128,7 @@ module _ (l : TblLimits) (phase : Phase) (begun : Begun) (text : KeptText) (d : 
           rows = fits.keys.rows;
           ended = fits.keys.ended;
           stands = fits.keys.stands;
+          made = fits.keys.made;
         };
         rows = record {
           entries = omega (arith, fits.rows.entries, few, ended-read text);

@@ -15,11 +15,11 @@ use Rattle.tbl_layout.specs.declared.data_lines.BlockLineKind.{BlockLineKind}
 use Rattle.tbl_layout.specs.declared.data_lines.BlockLineKind.TheVariants.{End, Request, Text}
 use Rattle.tbl_layout.specs.declared.data_lines.LineKind.{LineKind}
 use Rattle.tbl_layout.specs.declared.data_lines.LineKind.TheVariants.{Command, Formats, Row, Rule}
-use Rattle.tbl_data.specs.DataRead.{behind_block, field_notes, fields_with_block, keyed, rules_in_front, serving, surplus_notes, whole_line, with_block_line, with_fields, with_line, with_open_row, with_pending, with_row, with_whole}
+use Rattle.tbl_data.specs.DataRead.{behind_block, cells, field_notes, fields_with_block, keyed, rules_in_front, serving, surplus_notes, whole_line, with_block_line, with_fields, with_line, with_open_row, with_pending, with_row, with_whole}
 use Rattle.tbl_table.specs.Table.{behind_format, columns_at, columns_in, ends_in, format_line, head_line, left_out_notes, line_in, line_read, rows, rows_behind, with_options}
 use Rattle.tbl_data.proofs.FieldSteps.{content-of}
 use Rattle.tbl_table.proofs.FewFields.{built_of}
-use Rattle.tbl_data.specs.TableRead.{RowBegun, TableRead, bad, columns, with_notes}
+use Rattle.tbl_data.specs.TableRead.{RowBegun, TableRead, bad, with_notes}
 use Rattle.tbl_data.specs.declared.phase.Phase.{Phase}
 use Rattle.tbl_data.specs.declared.phase.Phase.TheVariants.{AtHead, Bad, InData, InFormat}
 
@@ -65,7 +65,7 @@ fields-rows : (ends : List (ℕ × ℕ)) (n place : ℕ) (all : List (List ℕ))
 fields-rows ends n place all in_front had_surplus t =
     let format = serving t in
     let column = length in_front in
-    let room = columns t - column in
+    let room = cells t - column in
     let texts = take room (without_opening all) in
     let built = built_of format column texts in
     let has_surplus = nat_lt room (length all) in

@@ -8,7 +8,8 @@ use Rattle.tbl_data.specs.TableData.{FormatFits}
 use Rattle.tbl_data.specs.declared.phase.Phase.{Phase}
 use Rattle.tbl_data.specs.declared.phase.Phase.TheVariants.{AtHead, Bad, InData, InFormat}
 use Rattle.tbl_data.specs.declared.table_data.TableData.{TableData}
-use Rattle.tbl_format.specs.Format.{Format}
+use Rattle.tbl_format.specs.Format.{Format, columns_of}
+use Rattle.tbl_format.specs.FormatLaws.{NoByte}
 use Rattle.tbl_format.specs.KeyCounts.{StandsOnLine}
 use Rattle.tbl_options.specs.Notes.{NotesWithin}
 use Rattle.tbl_format.specs.RowsServed.{all_rows}
@@ -42,7 +43,7 @@ FewKeys-more most more len longer (Keys start count) le on few = record {
 }
 FewKeys-more most more len longer Nothing le on few = tt
 
-pub few-start : (most : ℕ) (phase : Phase) (f : Format) → length f.row ≤ length f.asked → length f.asked ≤ most → StandsOnLine 0 f.place
+pub few-start : (most : ℕ) (phase : Phase) (f : Format) → columns_of f.row ≤ length f.asked → length f.asked ≤ most → StandsOnLine 0 f.place
     → FewKeys most 0 (begun_in phase f [])
 few-start most AtHead f row few stands = tt
 few-start most InFormat f row few stands = record { starts = omega arith; is = record { row = row; place = stands }; few = few }
@@ -224,6 +225,7 @@ module _ (l : TblLimits) (phase : Phase) (begun : Begun) (text : KeptText) (d : 
           rows = fits.keys.rows;
           ended = fits.keys.ended;
           stands = fits.keys.stands;
+          made = fits.keys.made;
         };
         rows = fits.rows;
         messages = fits.messages;
@@ -274,6 +276,7 @@ module _ (l : TblLimits) (phase : Phase) (begun : Begun) (text : KeptText) (d : 
           rows = fits.keys.rows;
           ended = fits.keys.ended;
           stands = fits.keys.stands;
+          made = fits.keys.made;
         };
         rows = record { entries = omega (arith, fits.rows.entries); elements = omega (arith, fits.rows.elements) };
         messages = record {
@@ -293,7 +296,7 @@ pub start-fits : (l : TblLimits) (text : ℕ) (d : TableData) → HasRooms l tex
 start-fits l text d rooms = record {
   rooms = rooms;
   bytes = record { few = omega arith; most = omega arith; block = omega arith; one_line = All-nil (λ b. (b == newline) ≡ false) };
-  keys = record { is = refl; few = tt; keys = omega arith; asked = omega arith; columns = omega arith; rows = record { few = omega arith; wide = λ some. absurd (omega (arith, some)) }; ended = tt; stands = tt };
+  keys = record { is = refl; few = tt; keys = omega arith; asked = omega arith; columns = omega arith; rows = record { few = omega arith; wide = λ some. absurd (omega (arith, some)) }; ended = tt; stands = tt; made = NoByte };
   rows = record { entries = omega arith; elements = omega arith };
   messages = record { few = omega arith; telling = tt };
   by_phase = record {

@@ -10,6 +10,7 @@ use Rattle.tbl_data.specs.declared.phase.Phase.{Phase}
 use Rattle.tbl_data.specs.declared.phase.Phase.TheVariants.{AtHead}
 use Rattle.tbl_data.specs.declared.table_data.TableData.{TableData}
 use Rattle.tbl_format.specs.Format.{Format, format_read, letters_left_out, no_format}
+use Rattle.tbl_format.specs.FormatLaws.{Line}
 use Rattle.tbl_format.specs.KeyCounts.{StandsOnLine}
 use Rattle.tbl_options.specs.Notes.{NotesWithin, told_of_all}
 use Rattle.tbl_options.specs.Options.{bracketed, options_end}
@@ -97,16 +98,16 @@ keys-untold number keys d =
 
 -- what is counted of keys
 pub keys-counted : (l : TblLimits) (len : ℕ) (f : Format) (keys line : List ℕ) → keys ≡ line ++ newline ∷ [] → IsCounted l len f
-    → length (format_read f keys).asked ≤ l.columns → length (format_read f keys).row ≤ length (format_read f keys).asked
+    → length (format_read f keys).asked ≤ l.columns
     → IsCounted l (len + length keys) (format_read f keys)
-keys-counted l len f keys line is counted columns row = record {
+keys-counted l len f keys line is counted columns = record {
   keys = omega (arith, keys-read-most [] f keys, counted.keys);
   asked = omega (arith, columns-read-most [] f keys, counted.asked);
   columns = columns;
-  row = row;
   rows = rows-keyed f (format_read f keys) (format-extends f keys) counted.rows;
   ended = format-ended f keys counted.ended;
   stands = subst (λ (ks : List ℕ). StandsOnLine 0 (format_read f ks).place) (sym is) (line-stands f line);
+  made = Line f keys counted.made;
 }
 
 -- the block of a first line alone

@@ -4,6 +4,7 @@ use Rattle.std.specs.List.{AllByRecursion}
 use Rattle.roff_source.specs.Bytes.{newline}
 use Rattle.tbl_table.specs.Begun.{FewKeys, begun_in}
 use Rattle.tbl_format.specs.Format.{Format, no_format}
+use Rattle.tbl_format.specs.FormatLaws.{IsRead}
 use Rattle.tbl_format.specs.FormatRows.{key_count, keys_of}
 use Rattle.tbl_format.specs.KeyCounts.{StandsOnLine}
 use Rattle.tbl_kept.specs.Joined.{Joined, behind_joined}
@@ -84,6 +85,7 @@ EndFits AtFault f = Unit {0}
 -- the line that is begun, and the keys
 pub record KeysFit (l : TblLimits) (read line : List ℕ) (phase : Phase) (begun : Begun) (f : Format) : Type 0 where
   pub is : begun ≡ begun_in phase f line
+  pub made : IsRead f
   pub few : FewKeys (l.columns + length line) (length line) begun
   pub keys : key_count f ≤ length read
   pub asked : length f.asked ≤ length read

@@ -1,5 +1,5 @@
 -- What a line of a table does to the parts that keep it.
-use Rattle.std.specs.Prelude.{◌≡◌, ◌≤◌, ◌+◌, ℕ, suc, drop, nat_lt, Bool, true, false, List, [], ◌∷◌, ◌++◌, length, Option, None, Some, map, take, if◌then◌else◌}
+use Rattle.std.specs.Prelude.{◌≡◌, ◌<◌, ◌≤◌, ◌+◌, ℕ, suc, drop, nat_lt, Bool, true, false, List, [], ◌∷◌, ◌++◌, length, Option, None, Some, map, take, if◌then◌else◌}
 use Rattle.roff_num.specs.declared.limit.Limit.{Limit}
 use Rattle.roff_num.specs.declared.limit.Limit.TheVariants.{Width}
 use Rattle.roff_source.specs.Bytes.{newline}
@@ -7,9 +7,12 @@ use Rattle.tbl_format.specs.Format.{Format, format_read, letters_left_out, no_fo
 use Rattle.tbl_format.specs.FormatRows.{keeping}
 use Rattle.tbl_options.specs.Notes.{ignored_message, left_out_note, told_at}
 use Rattle.tbl_options.specs.Options.{ignored_options}
+use Rattle.tbl_format.specs.RowsServed.{all_rows}
+use Rattle.tbl_kept.specs.RowsLaying.{AreOpened}
 use Rattle.tbl_kept.specs.Rows.{cleared, entries_of, no_rows, with_columns}
 use Rattle.tbl_layout.specs.KeptEntries.{content_of}
 use Rattle.tbl_data.specs.DataRead.{closed_block}
+use Rattle.tbl_data.specs.LineTaken.{cells_next}
 use Rattle.tbl_data.specs.TableData.{DataFits, SameRooms, begun_by, serving_from, table_by}
 use Rattle.tbl_options.specs.declared.options.Options.{Options}
 use Rattle.tbl_kept.specs.TableNotes.{KeptNotes, no_notes}
@@ -119,7 +122,17 @@ is_open Nothing = false
 is_open Kept = true
 is_open (Dropped had_surplus) = true
 
--- the block that is open ends
+-- the block that is open can end, with its row
+pub record CanEnd (d : TableData) : Type 0 where
+  pub room : length d.rows.elements < d.rows.element_room
+  pub serves : d.keys < length (all_rows d.format.format)
+  pub rules : d.rules ≤ d.keys
+  pub columns : length d.rows.columns ≡ length d.format.format.asked
+  pub short : length d.rows.row ≤ cells_next d
+  pub few : entries_of d.rows < 4294967296
+  pub opened : AreOpened d.rows.row
+
+-- it ends
 pub record BlockEnds (old new : TableData) : Type 0 where
   pub table : (options : Options) (bytes : List ℕ) → DataFits bytes old
       → table_by InData options bytes new ≡ closed_block (begun_by old.open (map (content_of bytes) old.rows.row)) (table_by InData options bytes old)

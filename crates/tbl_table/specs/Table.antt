@@ -9,8 +9,10 @@ use Rattle.tbl_format.specs.declared.format.FormatPlace.TheVariants.{AtEnd, AtFa
 use Rattle.tbl_options.specs.declared.message.Message.TheVariants.{LeftOut}
 use Rattle.tbl_options.specs.declared.message.Told.{Told}
 use Rattle.tbl_kept.specs.Joined.{Joined, behind_joined, goes_on}
-use Rattle.tbl_layout.specs.Columns.{Laid, laid}
+use Rattle.tbl_layout.specs.Columns.{Laid}
 use Rattle.tbl_layout.specs.DataLines.{ends_row}
+use Rattle.tbl_layout.specs.Entries.{Element}
+use Rattle.tbl_layout.specs.Spans.{filled, laid}
 use Rattle.tbl_layout.specs.Widths.{table_bars}
 use Rattle.tbl_picture.specs.Frame.{indent, picture}
 use Rattle.tbl_lines.specs.PictureLines.{Sheet, picture_lines}
@@ -164,11 +166,15 @@ width_in Bad line_length t = 0
 unfoldable pub width : ℕ → TableRead → ℕ
 width line_length t = width_in t.phase line_length t
 
+-- what stands in it, each text block with its measure
+abbrev pub body_filled : ℕ → TableRead → List Element
+body_filled line_length t = filled (table_bars t.options.boxing t.format) line_length t.format.asked t.body
+
 -- what is written in its place
 abbrev pub picture_of : ℕ → TableRead → List ℕ
 picture_of line_length t =
     let sheet = sheet_of line_length t in
-    picture (indent t.options.centered line_length sheet.width) (picture_lines sheet t.body)
+    picture (indent t.options.centered line_length sheet.width) (picture_lines sheet (body_filled line_length t))
 
 abbrev pub output_in : Phase → ℕ → TableRead → Option (List ℕ)
 output_in AtHead line_length t = None
@@ -194,7 +200,7 @@ picture_after line_length lines = output line_length (ended_after line_length li
 
 abbrev pub lines_after : ℕ → List (List ℕ) → List ℕ
 lines_after line_length lines =
-    let t = ended_after line_length lines in picture_lines (sheet_of line_length t) t.body
+    let t = ended_after line_length lines in picture_lines (sheet_of line_length t) (body_filled line_length t)
 
 abbrev pub notes_after : List (List ℕ) → List Told
 notes_after lines = notes (ended_after 65 lines)

@@ -5,6 +5,7 @@ ghost use Rattle.std.specs.Prelude.{length};
 ghost use Rattle.roff_source.specs.Bytes.{newline};
 ghost use Rattle.tbl_table.specs.Begun.{FewKeys, begun_in, count_of, head_begun};
 ghost use Rattle.tbl_format.specs.Format.{Format, format_read, no_format};
+ghost use Rattle.tbl_format.specs.FormatLaws.{IsRead};
 ghost use Rattle.tbl_format.specs.KeyCounts.{Counts, IsCount};
 ghost use Rattle.tbl_options.specs.Options.{options_end, options_read, semicolon};
 ghost use Rattle.tbl_table.specs.Table.{columns_of, head_columns, head_place};
@@ -60,7 +61,7 @@ impl Begun {
     #[inline(always)]
     pub fn behind(self, line: &[u8], byte: u8) -> Begun
         requires { FewKeys (2 ^ 62) (length line.now) self }
-        ensures value { (phase : Phase) (f : Format) → self ≡ begun_in phase f line.now
+        ensures value { (phase : Phase) (f : Format) → IsRead f → self ≡ begun_in phase f line.now
             → result ≡ begun_in phase f (line.now ++ byte ∷ []) }
         ensures few { (most : ℕ) → FewKeys most (length line.now) self
             → FewKeys (most + 1) (length line.now + 1) result }
@@ -78,7 +79,7 @@ impl Begun {
         requires few { length line.now < 2 ^ 62 }
         ensures head { self ≡ head_begun (options_end line.now) line.now
             → result ≡ head_columns (options_end (line.now ++ byte ∷ [])) (line.now ++ byte ∷ []) }
-        ensures format { (f : Format) → self ≡ Keys 0 (count_of (format_read f line.now))
+        ensures format { (f : Format) → IsRead f → self ≡ Keys 0 (count_of (format_read f line.now))
             → result ≡ columns_of (format_read f (line.now ++ byte ∷ [])) }
     {
         match self {
@@ -94,7 +95,7 @@ impl Begun {
         requires few { length line.now < 2 ^ 62 }
         ensures head { self ≡ head_begun (options_end line.now) line.now
             → result ≡ head_place (options_end line.now) line.now }
-        ensures format { (f : Format) → self ≡ Keys 0 (count_of (format_read f line.now))
+        ensures format { (f : Format) → IsRead f → self ≡ Keys 0 (count_of (format_read f line.now))
             → result ≡ (format_read f (line.now ++ newline ∷ [])).place }
     {
         match self {

@@ -34,14 +34,13 @@ pub fn lay_out(
     requires small { length settled.now < 2 ^ 32 }
     requires fits { DataFits settled.now kept.old }
     requires closed { kept.old.open ≡ Nothing }
-    ensures laid { IsLaid settled.now line_length kept.old kept.new }
+    ensures laid { IsLaid settled.now bars line_length kept.old kept.new }
     ensures width { result.width
         ≡ min (laid_by bars is_expanded line_length settled.now kept.old).width (2 ^ 64 - 1) }
     ensures more { result.more ≡ lacking_by bars is_expanded line_length settled.now kept.old }
     ensures few { result.more < 2 ^ 32 }
 {
-    kept.rows
-        .set_widths(&mut kept.escapes, settled, &kept.format, line_length);
+    kept.rows.set_widths(&mut kept.escapes, settled, &kept.format, bars, line_length);
     let width = width_of_all(bars, kept.rows.columns(), kept.format.asked());
     let more = lacking(
         is_expanded,

@@ -7,11 +7,9 @@ ghost use Rattle.tbl_format.specs.KeyCounts.{Counts, IsCount, StandsOnLine};
 ghost use Rattle.tbl_format.specs.FormatRows.{key_count};
 ghost use Rattle.tbl_kept.specs.Joined.{goes_on};
 ghost use Rattle.tbl_format.specs.RowsServed.{all_rows};
-ghost use Rattle.tbl_kept.specs.Rows.{entries_of};
-ghost use Rattle.tbl_kept.specs.RowsLaying.{AreOpened};
 ghost use Rattle.tbl_kept.specs.TableText.{block_of};
 ghost use Rattle.tbl_options.specs.Notes.{NotesWithin, told_of_all};
-ghost use Rattle.tbl_table.specs.Steps.{BlockEnds, data_behind};
+ghost use Rattle.tbl_table.specs.Steps.{BlockEnds, CanEnd, data_behind};
 ghost use Rattle.tbl_table.specs.Steps.{emptied, fault_noted, head_letters, is_open, letters_noted};
 ghost use Rattle.tbl_table.specs.Steps.{options_told, phase_at_last, phase_behind, roomy};
 ghost use Rattle.tbl_table.specs.Steps.{with_cause, with_keys};
@@ -63,13 +61,7 @@ pub fn clear_data(kept: &mut TableData)
 /// A text block that is open ends with the table.
 pub fn end_block(kept: &mut TableData)
     requires small { length (all_rows kept.old.format.format) < 2 ^ 32 }
-    requires room { is_open kept.old.open ≡ true
-        → length kept.old.rows.elements < kept.old.rows.element_room }
-    requires serves { is_open kept.old.open ≡ true
-        → kept.old.keys < length (all_rows kept.old.format.format) }
-    requires rules { is_open kept.old.open ≡ true → kept.old.rules ≤ kept.old.keys }
-    requires few { is_open kept.old.open ≡ true → entries_of kept.old.rows < 2 ^ 32 }
-    requires opened { is_open kept.old.open ≡ true → AreOpened kept.old.rows.row }
+    requires can { is_open kept.old.open ≡ true → CanEnd kept.old }
     ensures done { is_open kept.old.open ≡ true → BlockEnds kept.old kept.new }
     ensures none { is_open kept.old.open ≡ false → kept.new ≡ kept.old }
 {

@@ -49,6 +49,9 @@ pub fn pictures()
         ≡ codes "\\&a      | bb\n\\&longer |  c\n" }
     ensures double_box { lines_after 65 (codes "doublebox;" ∷ codes "l." ∷ codes "ab" ∷ [])
         ≡ codes "\\&++====++\n\\&|| ab ||\n\\&++====++\n" }
+    ensures spanned { lines_after 65 (codes "box;" ∷ codes "c s s" ∷ codes "l r n." ∷ codes "Title"
+        ∷ codes "a\tbb\t1.5" ∷ codes "longer\tc\t10" ∷ [])
+        ≡ codes "\\&+--------------------+\n\\&|       Title        |\n\\&| a        bb    1.5 |\n\\&| longer    c   10   |\n\\&+--------------------+\n" }
 {}
 
 /// Tables that are reported.
@@ -79,7 +82,7 @@ pub fn reports()
     ensures double_box { notes_after (codes "doublebox;" ∷ codes "l|." ∷ []) ≡ [] }
     ensures third_bar { notes_after (codes "box;" ∷ codes "l|||." ∷ [])
         ≡ told_at 2 BadFormat ∷ [] }
-    ensures key { notes_after (codes "l" ∷ codes "ls." ∷ codes "a" ∷ [])
+    ensures key { notes_after (codes "l" ∷ codes "sl." ∷ codes "a" ∷ [])
         ≡ told_at 2 BadFormat ∷ [] }
     ensures rule_key { notes_after (codes "l _." ∷ codes "a\t\\c" ∷ []) ≡ [] }
     ensures block_under_rule_key { notes_after (codes "l _." ∷ codes "a\tT{" ∷ codes "\\c"

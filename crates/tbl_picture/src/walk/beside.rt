@@ -16,12 +16,13 @@ ghost use Rattle.tbl_picture.specs.RulesWalked.{ShownThrough, line_beside, rows_
 ghost use Rattle.tbl_picture.specs.RulesWalked.{rules_beside, rules_first_beside, shown_through};
 ghost use Rattle.tbl_picture.specs.RulesWalked.{with_keys};
 
+use tbl_format::cells::cell_behind;
 use tbl_format::format_rows::FormatRows;
 use tbl_kept::rows::{Lent, TableRows};
 use tbl_layout::bars::{edge_bars, inner_bars};
 use tbl_layout::data_lines::RuleSign;
 use tbl_lines::fronts::joined_at;
-use tbl_lines::row_columns::bars_among;
+use tbl_lines::row_lent::bars_among;
 use tbl_options::options::Boxing;
 
 /// What stands directly above or below a line of the picture: commands between don't count.
@@ -228,7 +229,15 @@ pub(super) fn shown_at_edge(
     match beside {
         Beside::Nothing => 0,
         Beside::Row(element) => match rows.element(element) {
-            Lent::Row(keys, _, _, _) => edge_bars(boxing, format_bars(format, keys, at)),
+            Lent::Row(keys, _, _, _) => {
+                let row = format.row_of_all(keys);
+                match cell_behind(row, at) {
+                    Some(cell) => {
+                        edge_bars(boxing, bars_among(row, format.bars_of_all(keys), cell))
+                    }
+                    None => 0,
+                }
+            }
             _ => 0,
         },
     }
@@ -302,11 +311,16 @@ fn shown_behind(
         Beside::Nothing => 0,
         Beside::Row(element) => match rows.element(element) {
             Lent::Row(keys, _, height, entries) => {
-                let bars = inner_bars(boxing, format_bars(format, keys, column + 1));
+                let row = format.row_of_all(keys);
+                let cell = cell_behind(row, column + 1).unwrap_or(0);
+                if cell == 0 {
+                    return 0;
+                }
+                let bars = inner_bars(boxing, bars_among(row, format.bars_of_all(keys), cell));
                 if bars == 0 || !is_first_line(is_below, height) {
                     return bars;
                 }
-                let joined = joined_at(format.row_of_all(keys), entries, column);
+                let joined = joined_at(row, entries, cell - 1);
                 bars_if(joined.is_none(), bars)
             }
             _ => 0,

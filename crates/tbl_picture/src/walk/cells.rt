@@ -14,7 +14,8 @@ use super::{Next, Walk};
 use roff_escape::OpenEscapes;
 use tbl_layout::data_lines::{RuleSign, sign_byte};
 use tbl_layout::entry::{EntryKind, SplitEntry};
-use tbl_lines::row_columns::{RowColumn, RowLent, block_bytes, column_at, column_behind};
+use tbl_lines::row_columns::{RowColumn, block_bytes, column_at, column_behind};
+use tbl_lines::row_lent::RowLent;
 use tbl_pieces::piece_queue::PieceQueue;
 use tbl_pieces::pieces::Piece;
 use tbl_text::block_parts::{BlockPart, BlockPlace, next_part};
@@ -40,8 +41,8 @@ pub(super) fn end_given(count: usize, glyphs: u32, to: u32) -> u32
 }
 
 impl Walk {
-    ghost use Rattle.tbl_picture.specs.Walks.{AtColumn, BeforeLine, InLine, RowSteps, at_word};
-    ghost use Rattle.tbl_picture.specs.Walks.{lent_entries, lent_row, passed};
+    ghost use Rattle.tbl_picture.specs.Walks.{AtColumn, BeforeLine, InLine, LiesInColumns};
+    ghost use Rattle.tbl_picture.specs.Walks.{RowSteps, at_word, lent_entries, lent_row, passed};
 
     /// A line begins.
     pub(super) fn begin_line(
@@ -50,6 +51,7 @@ impl Walk {
         escapes: &mut OpenEscapes,
         row: &RowLent<'_>,
     )
+        requires lies { LiesInColumns row.now }
         requires next { self.old.next ≡ AtLine }
         requires before { BeforeLine (lent_row row.now) self.old }
         requires room { pieces.old.taken + 4 ≤ pieces.old.room }
@@ -91,6 +93,7 @@ impl Walk {
     // It is called for each cell.
     #[inline(always)]
     pub(super) fn column(&self, row: &RowLent<'_>) -> RowColumn
+        requires lies { LiesInColumns row.now }
         requires line { InLine (lent_row row.now) self.now }
         requires given { length self.now.behind < length row.now.entries.now }
         ensures { AtColumn (lent_row row.now) self.now result }
@@ -100,6 +103,7 @@ impl Walk {
 
     /// The column at which the walk stands, also behind the last field.
     fn any_column(&self, row: &RowLent<'_>) -> RowColumn
+        requires lies { LiesInColumns row.now }
         requires line { InLine (lent_row row.now) self.now }
         requires left { length self.now.behind < length (lent_entries row.now) }
         ensures { AtColumn (lent_row row.now) self.now result }
@@ -135,6 +139,7 @@ impl Walk {
         escapes: &mut OpenEscapes,
         row: &RowLent<'_>,
     )
+        requires lies { LiesInColumns row.now }
         requires next { self.old.next ≡ AtCell }
         requires line { InLine (lent_row row.now) self.old }
         requires left { length self.old.behind < length (lent_entries row.now) }
@@ -170,6 +175,7 @@ impl Walk {
     // Such a cell is rare.
     #[inline(never)]
     fn give_unfilled(&mut self, pieces: &mut PieceQueue, row: &RowLent<'_>)
+        requires lies { LiesInColumns row.now }
         requires next { self.old.next ≡ AtCell }
         requires line { InLine (lent_row row.now) self.old }
         requires left { length self.old.behind < length (lent_entries row.now) }
@@ -203,6 +209,7 @@ impl Walk {
 
     /// A text.
     fn give_text(&mut self, pieces: &mut PieceQueue, row: &RowLent<'_>, glyphs: u32, width: u32)
+        requires lies { LiesInColumns row.now }
         requires next { self.old.next ≡ AtCell }
         requires line { InLine (lent_row row.now) self.old }
         requires given { length self.old.behind < length row.now.entries.now }
@@ -229,6 +236,7 @@ impl Walk {
 
     /// A number that is split.
     fn give_split(&mut self, pieces: &mut PieceQueue, row: &RowLent<'_>, split: SplitEntry)
+        requires lies { LiesInColumns row.now }
         requires next { self.old.next ≡ AtCell }
         requires line { InLine (lent_row row.now) self.old }
         requires given { length self.old.behind < length row.now.entries.now }
@@ -290,6 +298,7 @@ impl Walk {
         escapes: &mut OpenEscapes,
         row: &RowLent<'_>,
     )
+        requires lies { LiesInColumns row.now }
         requires next { self.old.next ≡ AtCell }
         requires line { InLine (lent_row row.now) self.old }
         requires given { length self.old.behind < length row.now.entries.now }

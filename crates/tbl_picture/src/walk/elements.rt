@@ -10,11 +10,12 @@ use super::beside::{Beside, RuleRows};
 use super::rules::{frame_sign, give_rule, next_behind_rule};
 use super::{Next, Walk};
 use roff_escape::OpenEscapes;
+use tbl_format::cells::columns_of;
 use tbl_format::format_rows::FormatRows;
 use tbl_kept::rows::{Lent, TableRows};
 use tbl_layout::data_lines::RuleSign;
 use tbl_layout::entry::Entry;
-use tbl_lines::row_columns::RowLent;
+use tbl_lines::row_lent::RowLent;
 use tbl_pieces::piece_queue::PieceQueue;
 use tbl_pieces::pieces::Piece;
 
@@ -189,15 +190,17 @@ impl Walk {
         let _ = rows.count();
         match rows.element(self.element) {
             Lent::Row(keys, _, height, entries) => {
+                let row_keys = format.row_of_all(keys);
                 let row = RowLent {
                     bars: self.bars,
                     width: self.picture_width,
                     bytes,
-                    keys: format.row_of_all(keys),
+                    keys: row_keys,
                     last_bars: format.bars_of_all(keys),
                     columns: rows.columns(),
                     entries,
                     height,
+                    is_plain: columns_of(row_keys) == row_keys.len(),
                 };
                 let has_ended = self.steps_in_row(pieces, escapes, &row);
                 self.go_on(has_ended);

@@ -9,15 +9,16 @@ ghost use Rattle.tbl_lines.specs.RowsWalked.{AreGlyphless, HasGlyph};
 ghost use Rattle.tbl_lines.specs.RowsWalked.{LastHasGlyph};
 ghost use Rattle.tbl_picture.specs.Nexts.{AtFront, next_by};
 ghost use Rattle.tbl_picture.specs.declared.walk.rules.RuleBegun.{RuleBegun};
-ghost use Rattle.tbl_picture.specs.Walks.{CellsLie, lent_row, line_cells, next_behind};
-ghost use Rattle.tbl_picture.specs.Walks.{next_column};
+ghost use Rattle.tbl_picture.specs.Walks.{CellsLie, LiesInColumns, lent_row, line_cells};
+ghost use Rattle.tbl_picture.specs.Walks.{next_behind, next_column};
 
 use super::cells::give;
 use super::{Next, Walk};
 use roff_escape::OpenEscapes;
 use tbl_layout::data_lines::{RuleSign, sign_byte};
 use tbl_lines::fronts::{Front, front_at};
-use tbl_lines::row_columns::{RowLent, count_to_glyph, has_glyph_at};
+use tbl_lines::row_columns::{count_to_glyph, has_glyph_at};
+use tbl_lines::row_lent::RowLent;
 use tbl_pieces::piece_queue::PieceQueue;
 use tbl_pieces::pieces::Piece;
 use tbl_text::block_parts::BlockPlace;
@@ -30,6 +31,7 @@ pub(super) fn count_given(
     places: &[BlockPlace],
     line: u32,
 ) -> usize
+    requires lies { LiesInColumns row.now }
     requires cells { CellsLie (lent_row row.now) places.now }
     ensures few { result ≤ length (line_cells (lent_row row.now) line places.now) }
     ensures last { LastHasGlyph result (line_cells (lent_row row.now) line places.now) }
@@ -50,6 +52,7 @@ fn count_to_mark(
     places: &[BlockPlace],
     line: u32,
 ) -> usize
+    requires lies { LiesInColumns row.now }
     requires cells { CellsLie (lent_row row.now) places.now }
     requires any { row.now.bars.has_any ≡ true }
     ensures few { result ≤ length (line_cells (lent_row row.now) line places.now) }
@@ -57,7 +60,7 @@ fn count_to_mark(
     ensures behind { AreGlyphless (drop result (line_cells (lent_row row.now) line places.now)) }
     ensures room { escapes.new.room ≡ escapes.old.room }
 {
-    let mut count = places.len() + row.columns.len().max(1) + 1;
+    let mut count = places.len() + row.cells().max(1) + 1;
     while count > 0 {
         let last = count - 1;
         if has_mark(escapes, row, places, line, last) {
@@ -77,6 +80,7 @@ fn has_mark(
     line: u32,
     at: usize,
 ) -> bool
+    requires lies { LiesInColumns row.now }
     requires cells { CellsLie (lent_row row.now) places.now }
     requires any { row.now.bars.has_any ≡ true }
     requires within { at < length (line_cells (lent_row row.now) line places.now) }
@@ -114,6 +118,7 @@ impl Walk {
 
     /// What stands in front of a column, or behind the last.
     pub(super) fn give_front(&mut self, pieces: &mut PieceQueue, row: &RowLent<'_>, at: usize)
+        requires lies { LiesInColumns row.now }
         requires next { self.old.next ≡ AtFront at }
         requires front { InFront (lent_row row.now) at self.old }
         requires room { pieces.old.taken + 4 ≤ pieces.old.room }
@@ -142,6 +147,7 @@ impl Walk {
         place: usize,
         bars: u8,
     )
+        requires lies { LiesInColumns row.now }
         requires next { self.old.next ≡ AtFront at }
         requires front { FrontStands (lent_row row.now) at (bars_at place bars) self.old }
         requires some { 0 < bars }
@@ -166,6 +172,7 @@ impl Walk {
         sign: RuleSign,
         end: usize,
     )
+        requires lies { LiesInColumns row.now }
         requires next { self.old.next ≡ AtFront at }
         requires front { FrontStands (lent_row row.now) at (crossed_at place bars sign end)
             self.old }
@@ -186,6 +193,7 @@ impl Walk {
     /// What stands in front of a column is given: it begins at a column of the page and has so
     /// many.
     fn pass_front(&mut self, row: &RowLent<'_>, at: usize, place: usize, width: usize)
+        requires { LiesInColumns row.now }
         ensures { self.new ≡ front_passed (lent_row row.now) at (place + width) self.old }
     {
         if self.count > 0 {
@@ -194,7 +202,7 @@ impl Walk {
         self.place = place;
         self.width = width;
         let is_field = self.behind.len() < self.places.len();
-        self.next = next_behind(is_field, at < row.columns.len().max(1), at);
+        self.next = next_behind(is_field, at < row.cells().max(1), at);
     }
 }
 

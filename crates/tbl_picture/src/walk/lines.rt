@@ -6,7 +6,8 @@ ghost use Rattle.tbl_picture.specs.Nexts.{AtCell, AtWord};
 use super::cells::{end_given, give};
 use super::{Next, Walk};
 use roff_escape::OpenEscapes;
-use tbl_lines::row_columns::{RowLent, block_bytes};
+use tbl_lines::row_columns::block_bytes;
+use tbl_lines::row_lent::RowLent;
 use tbl_pieces::piece_queue::PieceQueue;
 use tbl_pieces::pieces::Piece;
 use tbl_text::block_lines::{OnLine, next_on_line};
@@ -14,7 +15,8 @@ use tbl_text::block_parts::BlockPlace;
 use tbl_text::block_words::BlockWord;
 
 impl Walk {
-    ghost use Rattle.tbl_picture.specs.Walks.{InLine, InWord, RowEndsOrGoesOn, RowSteps};
+    ghost use Rattle.tbl_picture.specs.Walks.{InLine, InWord, LiesInColumns, RowEndsOrGoesOn};
+    ghost use Rattle.tbl_picture.specs.Walks.{RowSteps};
     ghost use Rattle.tbl_picture.specs.Walks.{lent_entries, lent_row};
 
     /// A word of a block, whose line is so wide with it, and the blanks in front of the word behind
@@ -28,6 +30,7 @@ impl Walk {
         width: u64,
         place: BlockPlace,
     )
+        requires lies { LiesInColumns row.now }
         requires next { self.old.next ≡ AtWord word width place }
         requires word { InWord (lent_row row.now) word width place self.old }
         requires room { pieces.old.taken + 4 ≤ pieces.old.room }
@@ -39,7 +42,13 @@ impl Walk {
         let block = block_bytes(row.bytes, held.entry);
         let start = held.entry.from as usize + 1;
         let from = start + word.from as usize;
-        match next_on_line(escapes, block, place, width, u64::from(held.column.measure)) {
+        match next_on_line(
+            escapes,
+            block,
+            place,
+            width,
+            u64::from(held.entry.measure()),
+        ) {
             OnLine::Joins(next, wider, behind) => {
                 give(
                     pieces,

@@ -1,37 +1,71 @@
-use Rattle.std.proofs.Common.{◌≡◌, ℕ, ◌<◌, get_or, List, [], ◌∷◌, length, refl, sym, ap, ◌∙◌, arith}
-use Rattle.std.proofs.lemmas.List.{length-set}
-use Rattle.tbl_format.specs.Format.{FormatRow}
-use Rattle.tbl_format.specs.declared.format.Key.{Key}
-use Rattle.tbl_layout.specs.Columns.{needing}
+use Rattle.std.proofs.Common.{◌≡◌, ◌+◌, ◌-◌, ◌<◌, ℕ, List, ◌++◌, length, take, drop, get_or, refl, sym, subst, ap, ◌∙◌, arith}
+use Rattle.std.proofs.lemmas.List.{drop_all, drop_more, take-append-drop}
+use Rattle.tbl_layout.specs.Columns.{row_stands}
 use Rattle.tbl_layout.specs.KeptEntries.{stands_of}
 use Rattle.tbl_layout.specs.declared.columns.Column.{Column}
 use Rattle.tbl_layout.specs.declared.entry.Entry.{Entry}
-use Rattle.tbl_layout.proofs.ColumnsEnd.{all_done}
-use Rattle.tbl_kept.specs.Rows.{holding, no_column}
+use Rattle.tbl_kept.specs.Rows.{held_by}
 use Rattle.tbl_kept.specs.RowsLaying.{IsOpenedKind}
+use Rattle.tbl_kept.proofs.CellSteps.{CellIsWithin, CellsLeft, cell-within, cells-behind, cells-left, is-first, left-order}
 use Rattle.tbl_kept.proofs.RowsNext.{next-held, no_entry}
 use Rattle.tbl_kept.proofs.Stepping.{next-all}
 use Rattle.tbl_kept.proofs.held_columns.hold.Goals as goal
 
-no_column_left : (format : FormatRow) (column : ℕ) (entries : List Entry) → holding format column entries [] ≡ []
-no_column_left format column [] = refl
-no_column_left format column (e ∷ entries) = refl
+pub loop-at-init : goal.loop-at-init
+loop-at-init c = record {
+  done = refl;
+  opened = c.requires.opened;
+  left = cells-left (length c.args.columns.now) c.args.keys.now (length c.args.entries.now - 0) c.requires.cells (omega (arith, c.requires.short));
+  same = refl;
+}
+
+pub cell_behind-cell-requires : goal.cell_behind-cell-requires
+cell_behind-cell-requires c =
+    let order = left-order (length c.args.columns.now) c.loop-at.from (drop c.loop-at.at c.args.keys.now) (length c.args.entries.now - c.loop-at.at) c.loop-at.invariant.left in
+    omega (arith, order, c.loop-at.invariant.same)
+
+pub hold_field-requires-clause-order : goal.hold_field-requires-clause-order
+hold_field-requires-clause-order c =
+    let keys = c.args.keys.now in
+    let cell = c.cell_behind-cell.result in
+    (cell-within (length c.args.columns.now) c.loop-at.from keys c.loop-at.at (length c.args.entries.now) c.loop-at.invariant.left c.loop-at-test.true cell
+    (is-first keys c.loop-at.at c.loop-at.from cell (c.cell_behind-cell.ensures.key 0) c.cell_behind-cell.ensures.from c.cell_behind-cell.ensures.end)).order
+
+pub hold_field-requires-clause-within : goal.hold_field-requires-clause-within
+hold_field-requires-clause-within c =
+    let keys = c.args.keys.now in
+    let cell = c.cell_behind-cell.result in
+    let within = cell-within (length c.args.columns.now) c.loop-at.from keys c.loop-at.at (length c.args.entries.now) c.loop-at.invariant.left c.loop-at-test.true cell
+    (is-first keys c.loop-at.at c.loop-at.from cell (c.cell_behind-cell.ensures.key 0) c.cell_behind-cell.ensures.from c.cell_behind-cell.ensures.end) in
+    omega (arith, within.within, c.loop-at.invariant.same)
 
 pub loop-at-preserved : goal.loop-at-preserved
 loop-at-preserved c =
-    let in_entries : c.loop-at.at < length c.args.entries.now = omega (arith, c.min-at-end.ensures, c.loop-at-test.true) in
-    let in_columns : c.loop-at.at < length c.loop-at.columns = omega (arith, c.min-at-end.ensures, c.loop-at-test.true, c.loop-at.invariant.same) in
+    let keys = c.args.keys.now in
+    let entries = c.args.entries.now in
+    let columns = c.loop-at.columns in
+    let at = c.loop-at.at in
+    let from = c.loop-at.from in
+    let cell = c.cell_behind-cell.result in
+    let i = c.loop-at.invariant in
+    let some : at < length entries = omega (arith, c.loop-at-test.true) in
+    let is = is-first keys at from cell (c.cell_behind-cell.ensures.key 0) c.cell_behind-cell.ensures.from c.cell_behind-cell.ensures.end in
+    let left = subst (λ (n : ℕ). CellsLeft n from (drop at keys) (length entries - at)) (sym i.same) i.left in
     record {
-      done = λ bars. next-held (record { keys = c.args.keys.now; bars = bars }) c.args.entries.now c.loop-at.columns c.loop-at.at no_entry no_column c.needs_with-column.result
-          in_entries in_columns (c.needs_with-column.ensures ∙ ap (λ (key : Key). needing (get_or c.loop-at.columns c.loop-at.at no_column).needs (stands_of key (get_or c.args.entries.now c.loop-at.at no_entry))) (c.key_at.ensures bars))
-          ∙ c.loop-at.invariant.done bars;
-      opened = (next-all (λ (e : Entry). IsOpenedKind e.kind) c.args.entries.now c.loop-at.at no_entry in_entries c.loop-at.invariant.opened).1;
-      same = length-set c.loop-at.columns c.loop-at.at _ ∙ c.loop-at.invariant.same;
+      done = next-held stands_of from keys at cell (get_or entries at no_entry) (drop (at + 1) entries) columns c.hold_field.new.columns is
+          (cell-within (length columns) from keys at (length entries) left some cell is) c.hold_field.ensures
+          ∙ ap (λ (es : List Entry). take from columns ++ held_by (row_stands stands_of from (drop at keys) es) (drop from columns)) (sym (drop_more entries at no_entry some))
+          ∙ i.done;
+      opened = (next-all (λ (e : Entry). IsOpenedKind e.kind) entries at no_entry some i.opened).1;
+      left = cells-behind (length c.args.columns.now) from keys at (length entries) i.left some cell is;
+      same = c.hold_field.auto.columns ∙ i.same;
     }
 
 pub returns : goal.returns
-returns c = λ bars.
-    sym (all_done (holding (record { keys = c.args.keys.now; bars = bars }) c.loop-at.at) (λ (columns : List Column). refl)
-    (no_column_left (record { keys = c.args.keys.now; bars = bars }) c.loop-at.at) c.loop-at.columns c.args.entries.now c.loop-at.at
-    (omega (arith, c.min-at-end.ensures, c.loop-at-test.false, c.loop-at.invariant.same)))
-    ∙ c.loop-at.invariant.done bars
+returns c bars =
+    let columns = c.loop-at.columns in
+    let from = c.loop-at.from in
+    let none = drop_all c.loop-at.at c.args.entries.now (omega (arith, c.loop-at-test.false)) in
+    sym (take-append-drop from columns)
+    ∙ ap (λ (es : List Entry). take from columns ++ held_by (row_stands stands_of from (drop c.loop-at.at c.args.keys.now) es) (drop from columns)) (sym none)
+    ∙ c.loop-at.invariant.done

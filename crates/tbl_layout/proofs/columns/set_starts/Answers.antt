@@ -11,7 +11,7 @@ use Rattle.tbl_layout.proofs.Shares.{share-grows, share-most}
 use Rattle.tbl_layout.proofs.columns.set_starts.Goals as goal
 
 abbrev no_column : Column
-no_column = record { needs = record { alone = 0; strip = 0; left = 0; right = 0; split = 0 }; measure = 0; bars = 0; width = 0; start = 0 }
+no_column = record { needs = record { alone = 0; strip = 0; left = 0; right = 0; split = 0 }; bars = 0; width = 0; start = 0 }
 
 abbrev no_asked : Asked
 no_asked = record { separation = None; least = None; is_equal = false; bars = 0 }

@@ -5,18 +5,18 @@ use Rattle.tbl_lines.specs.RowsWalked.{AreGlyphless, LastHasGlyph}
 use Rattle.tbl_lines.proofs.GivenFields.{first-left}
 use Rattle.tbl_lines.proofs.RowColumns.{length-places, length-row_columns}
 use Rattle.tbl_lines.proofs.RunsGiven.{glyphless-more, last-at, last-none}
-use Rattle.tbl_lines.specs.RowsLent.{lent_entries, lent_format}
+use Rattle.tbl_lines.specs.RowsLent.{lent_columns, lent_entries, lent_format}
 use Rattle.tbl_lines.proofs.row_columns.count_to_glyph.Goals as goal
 
 pub loop-count-init : goal.loop-count-init
 loop-count-init c =
     let row = c.args.row.now in
     let places = c.args.places.now in
-    let all = row_columns row.bars.boxing (lent_format row) 0 row.columns.now (lent_entries row) places in
+    let all = row_columns row.bars.boxing (lent_format row) 0 (lent_columns row) (lent_entries row) places in
     let cells = map (cell_left row.bytes.now c.args.line) all in
     let n = length places in
     let given = length-places row.bytes.now (lent_entries row) places c.requires.cells.places in
-    let many = length-row_columns row.bars.boxing (lent_format row) row.bytes.now 0 row.columns.now (lent_entries row) places c.requires.cells.short c.requires.cells.places in
+    let many = length-row_columns row.bars.boxing (lent_format row) row.bytes.now 0 (lent_columns row) (lent_entries row) places c.requires.cells.short c.requires.cells.places in
     let many_cells : length cells ≡ length all = length-map all (cell_left row.bytes.now c.args.line) in
     record {
       few = omega (arith, given);
@@ -29,9 +29,9 @@ returns-then-has_glyph_at-clause-last c =
     let row = c.args.row.now in
     let places = c.args.places.now in
     let n = c.loop-count.count - 1 in
-    let all = row_columns row.bars.boxing (lent_format row) 0 row.columns.now (lent_entries row) places in
+    let all = row_columns row.bars.boxing (lent_format row) 0 (lent_columns row) (lent_entries row) places in
     let cells = map (cell_left row.bytes.now c.args.line) all in
-    let many = length-row_columns row.bars.boxing (lent_format row) row.bytes.now 0 row.columns.now (lent_entries row) places c.requires.cells.short c.requires.cells.places in
+    let many = length-row_columns row.bars.boxing (lent_format row) row.bytes.now 0 (lent_columns row) (lent_entries row) places c.requires.cells.short c.requires.cells.places in
     let few : n < length cells = omega (arith, c.loop-count-test.true, c.loop-count.invariant.few, many, length-map all (cell_left row.bytes.now c.args.line)) in
     let same : suc n ≡ c.loop-count.count = omega (arith, c.loop-count-test.true) in
     subst (λ (k : ℕ). LastHasGlyph k cells) same
@@ -42,9 +42,9 @@ loop-count-preserved c =
     let row = c.args.row.now in
     let places = c.args.places.now in
     let n = c.loop-count.count - 1 in
-    let all = row_columns row.bars.boxing (lent_format row) 0 row.columns.now (lent_entries row) places in
+    let all = row_columns row.bars.boxing (lent_format row) 0 (lent_columns row) (lent_entries row) places in
     let cells = map (cell_left row.bytes.now c.args.line) all in
-    let many = length-row_columns row.bars.boxing (lent_format row) row.bytes.now 0 row.columns.now (lent_entries row) places c.requires.cells.short c.requires.cells.places in
+    let many = length-row_columns row.bars.boxing (lent_format row) row.bytes.now 0 (lent_columns row) (lent_entries row) places c.requires.cells.short c.requires.cells.places in
     let few : n < length cells = omega (arith, c.loop-count-test.true, c.loop-count.invariant.few, many, length-map all (cell_left row.bytes.now c.args.line)) in
     let same : c.loop-count.count ≡ suc n = omega (arith, c.loop-count-test.true) in
     record {
@@ -57,4 +57,4 @@ loop-count-preserved c =
 pub returns-clause-last : goal.returns-clause-last
 returns-clause-last c =
     let row = c.args.row.now in
-    last-none (map (cell_left row.bytes.now c.args.line) (row_columns row.bars.boxing (lent_format row) 0 row.columns.now (lent_entries row) c.args.places.now))
+    last-none (map (cell_left row.bytes.now c.args.line) (row_columns row.bars.boxing (lent_format row) 0 (lent_columns row) (lent_entries row) c.args.places.now))

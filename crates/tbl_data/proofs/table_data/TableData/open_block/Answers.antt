@@ -9,27 +9,27 @@ use Rattle.tbl_layout.specs.declared.entry.Entry.{Entry}
 use Rattle.tbl_data.proofs.table_data.TableData.open_block.Goals as goal
 
 pub returns-then-had_surplus-clause-opens : goal.returns-then-had_surplus-clause-opens
-returns-then-had_surplus-clause-opens c bytes within column fits =
+returns-then-had_surplus-clause-opens c bytes within cell fits =
     let d = c.args.self.now in
     subst (λ (b : Bool). OpensBlock bytes b d (record d { «open» = Dropped true })) (sym c.if-had_surplus.true) (opens-surplus bytes d fits)
 
 pub returns-in-Some-clause-opens : goal.returns-in-Some-clause-opens
-returns-in-Some-clause-opens c bytes within column fits =
+returns-in-Some-clause-opens c bytes within cell fits =
     let d = c.args.self.now in
     let rows = c.keep.ensures ∙ ap (λ (e : Entry). with_entry e d.rows) c.of_rule.ensures in
     let is : rule_sign (key_next d) ≡ Some c.in-Some.sign = ap rule_sign (sym c.key_next.ensures) ∙ sym c.rule_sign.ensures ∙ c.in-Some.is in
     subst (λ (b : Bool). OpensBlock bytes b d (record d { rows = c.keep.new.self; «open» = Dropped false })) (sym c.if-had_surplus.false)
     (subst (λ (k : KeptRows). OpensBlock bytes false d (record d { rows = k; «open» = Dropped false })) (sym rows)
-    (opens-ruled bytes d c.args.line_end c.in-Some.sign within (column c.if-had_surplus.false) is fits))
+    (opens-ruled bytes d c.args.line_end c.in-Some.sign within (cell c.if-had_surplus.false) is fits))
 
 pub returns-in-None-clause-opens : goal.returns-in-None-clause-opens
-returns-in-None-clause-opens c bytes within column fits =
+returns-in-None-clause-opens c bytes within cell fits =
     let d = c.args.self.now in
     let rows = c.keep-in-None.ensures ∙ ap (λ (e : Entry). with_entry e d.rows) c.opened.ensures in
     let none : rule_sign (key_next d) ≡ None = ap rule_sign (sym c.key_next.ensures) ∙ sym c.rule_sign.ensures ∙ c.in-None.is in
     subst (λ (b : Bool). OpensBlock bytes b d (record d { rows = c.keep-in-None.new.self; «open» = Kept })) (sym c.if-had_surplus.false)
     (subst (λ (k : KeptRows). OpensBlock bytes false d (record d { rows = k; «open» = Kept })) (sym rows)
-    (opens-kept bytes d c.args.line_end within (column c.if-had_surplus.false) none fits))
+    (opens-kept bytes d c.args.line_end within (cell c.if-had_surplus.false) none fits))
 
 pub returns-in-None-clause-ends : goal.returns-in-None-clause-ends
 returns-in-None-clause-ends c =

@@ -36,7 +36,7 @@ returns-in-Ruled-clause-taken c true_is =
     ∙ ap (λ (key : Key). kind_under key (slice_range c.block.result.now c.args.at c.args.end)) (sym c.key_next-key.ensures)
     ∙ sym c.kind_under.ensures ∙ c.in-Ruled.is in
     let keeps = subst (λ (kind : FieldKind). KeepsRule kind (RuledKind c.in-Ruled.sign)) (sym is) refl in
-    c.take_rule_field.ensures.taken c.args.text.now c.args.line c.requires.lies c.requires.end keeps c.requires.fits c.requires.closed c.requires.column
+    c.take_rule_field.ensures.taken c.args.text.now c.args.line c.requires.lies c.requires.end keeps c.requires.fits c.requires.closed c.requires.cell
 
 pub returns-in-Short-clause-laid : goal.returns-in-Short-clause-laid
 returns-in-Short-clause-laid c =
@@ -53,7 +53,7 @@ returns-in-Short-clause-taken c true_is =
     ∙ ap (λ (key : Key). kind_under key (slice_range c.block.result.now c.args.at c.args.end)) (sym c.key_next-key.ensures)
     ∙ sym c.kind_under.ensures ∙ c.in-Short.is in
     let keeps = subst (λ (kind : FieldKind). KeepsRule kind ShortKind) (sym is) refl in
-    c.take_rule_field-in-Short.ensures.taken c.args.text.now c.args.line c.requires.lies c.requires.end keeps c.requires.fits c.requires.closed c.requires.column
+    c.take_rule_field-in-Short.ensures.taken c.args.text.now c.args.line c.requires.lies c.requires.end keeps c.requires.fits c.requires.closed c.requires.cell
 
 pub returns-in-Repeated-clause-laid : goal.returns-in-Repeated-clause-laid
 returns-in-Repeated-clause-laid c =
@@ -70,7 +70,7 @@ returns-in-Repeated-clause-taken c true_is =
     ∙ ap (λ (key : Key). kind_under key (slice_range c.block.result.now c.args.at c.args.end)) (sym c.key_next-key.ensures)
     ∙ sym c.kind_under.ensures ∙ c.in-Repeated.is in
     let keeps = subst (λ (kind : FieldKind). KeepsRule kind (RepeatedKind c.in-Repeated.byte)) (sym is) refl in
-    c.take_rule_field-in-Repeated.ensures.taken c.args.text.now c.args.line c.requires.lies c.requires.end keeps c.requires.fits c.requires.closed c.requires.column
+    c.take_rule_field-in-Repeated.ensures.taken c.args.text.now c.args.line c.requires.lies c.requires.end keeps c.requires.fits c.requires.closed c.requires.cell
 
 pub returns-in-Above-clause-laid : goal.returns-in-Above-clause-laid
 returns-in-Above-clause-laid c =

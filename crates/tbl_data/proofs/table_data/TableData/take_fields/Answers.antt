@@ -1,6 +1,6 @@
 use Rattle.std.proofs.Common.{◌≡◌, ◌+◌, ◌-◌, ◌<◌, ℕ, List, true, false, length, subst, sym, ap, ◌∙◌, arith}
 use Rattle.std.specs.List.{slice_range}
-use Rattle.tbl_data.specs.LineTaken.{Makes, TakesField, RowFits, fields_made, key_next, last_made}
+use Rattle.tbl_data.specs.LineTaken.{Makes, TakesField, RowFits, cells_next, fields_made, key_next, last_made}
 use Rattle.tbl_data.specs.TableRead.{bad}
 use Rattle.tbl_data.specs.declared.table_data.TableData.{TableData}
 use Rattle.tbl_data.proofs.LineFields.{fields-end, fields-last, fields-next, fields-unbuilt}
@@ -45,11 +45,11 @@ returns-then-not-is_laid_out-clause-made c =
     (c.take_field-is_laid_out.ensures.text ∙ text) c.refuse.ensures.made in
     let made = subst (λ (e : TableData). Makes k line 1 (bad (line_at (ends_joined k.pending) (at - line.from) line.number)) phase e new)
     (c.take_field-is_laid_out.ensures.same c.if-not-is_laid_out.true) told in
-    let column : length now.rows.row < length now.format.format.asked = omega (arith, c.loop-text-test.true, c.row_len.ensures, c.columns.ensures) in
+    let cell : length now.rows.row < cells_next now = omega (arith, c.loop-text-test.true, c.row_len.ensures, c.cells_next-cells.ensures, so_far.cells) in
     let more : at + c.field_len.result < line.to = omega (arith, c.if-end-line.false, c.field_len.ensures.within, ap (λ (b : List ℕ). length (slice_range b at line.to)) (c.block.ensures ∙ ap block_of text), length-part (block_of k) at line.to so_far.within c.requires.lies.within) in
     let unbuilt : is_laid_out (kind_under (key_next now) (slice_range (block_of k) at (at + c.field_len.result))) ≡ false =
     ap (λ (t : KeptText). is_laid_out (kind_under (key_next now) (slice_range (block_of t) at (at + c.field_len.result)))) (sym text) ∙ sym c.take_field-is_laid_out.ensures.laid ∙ c.if-not-is_laid_out.true in
-    fields-unbuilt k line c.args.first at had c.args.self.now now so_far c.requires.lies c.field_len.result len column more phase new unbuilt made
+    fields-unbuilt k line c.args.first at had c.args.self.now now so_far c.requires.lies c.field_len.result len cell more phase new unbuilt made
 
 pub take_field-is_laid_out-requires-clause-fits : goal.take_field-is_laid_out-requires-clause-fits
 take_field-is_laid_out-requires-clause-fits c =
@@ -66,14 +66,14 @@ loop-text-preserved c =
     let so_far = c.loop-text.invariant.so_far in
     let len : c.field_len.result ≡ field_len line.separator (slice_range (block_of k) at line.to) =
     c.field_len.ensures.value ∙ ap (λ (b : List ℕ). field_len line.separator (slice_range b at line.to)) (c.block.ensures ∙ ap block_of text) in
-    let column : length now.rows.row < length now.format.format.asked = omega (arith, c.loop-text-test.true, c.row_len.ensures, c.columns.ensures) in
+    let cell : length now.rows.row < cells_next now = omega (arith, c.loop-text-test.true, c.row_len.ensures, c.cells_next-cells.ensures, so_far.cells) in
     let more : at + c.field_len.result < line.to = omega (arith, c.if-end-line.false, c.field_len.ensures.within, ap (λ (b : List ℕ). length (slice_range b at line.to)) (c.block.ensures ∙ ap block_of text), length-part (block_of k) at line.to so_far.within c.requires.lies.within) in
     let laid : is_laid_out (kind_under (key_next now) (slice_range (block_of k) at (at + c.field_len.result))) ≡ true =
     ap (λ (t : KeptText). is_laid_out (kind_under (key_next now) (slice_range (block_of t) at (at + c.field_len.result)))) (sym text) ∙ sym c.take_field-is_laid_out.ensures.laid ∙ c.if-not-is_laid_out.false in
     let taken = subst (λ (t : KeptText). TakesField t line at (at + c.field_len.result) now c.take_field-is_laid_out.new.self) text (c.take_field-is_laid_out.ensures.taken c.if-not-is_laid_out.false) in
     record {
       text = c.take_field-is_laid_out.ensures.text ∙ text;
-      so_far = fields-next k line c.args.first at had c.args.self.now now so_far c.requires.lies c.field_len.result len column more c.take_field-is_laid_out.new.self (omega (arith, c.requires.at.from, so_far.order)) laid taken;
+      so_far = fields-next k line c.args.first at had c.args.self.now now so_far c.requires.lies c.field_len.result len cell more c.take_field-is_laid_out.new.self (omega (arith, c.requires.at.from, so_far.order)) laid taken;
     }
 
 pub take_surplus-requires-clause-fits : goal.take_surplus-requires-clause-fits

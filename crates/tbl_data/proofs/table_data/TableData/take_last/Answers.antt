@@ -20,8 +20,8 @@ returns-then-opens_block-clause-made c =
     ap (λ (bytes : List ℕ). opens_block (slice_range bytes c.args.at line.to)) (sym c.block.ensures) ∙ sym c.opens_block.ensures ∙ c.if-opens_block.true in
     let count = line.to - c.args.at + 1 in
     subst (λ (p : Phase). Makes k line count (last_made k line c.args.at c.args.had_surplus d) p d c.open_block.new.self) (sym c.open_block.ensures.phase)
-    (last-opens k line c.args.at c.args.had_surplus d c.requires.column c.requires.fits.served count c.open_block.new.self (omega arith) opens
-    (c.open_block.ensures.opens (block_of k) c.requires.lies.within (λ is. omega (arith, c.requires.column, c.requires.fits.columns)) c.requires.fits)
+    (last-opens k line c.args.at c.args.had_surplus d c.requires.cell c.requires.fits.served count c.open_block.new.self (omega arith) opens
+    (c.open_block.ensures.opens (block_of k) c.requires.lies.within (λ is. c.requires.cell) c.requires.fits)
     c.open_block.ensures.ends c.open_block.ensures.settled c.open_block.ensures.grown)
 
 pub returns-then-not-is_laid_out-clause-made : goal.returns-then-not-is_laid_out-clause-made
@@ -40,7 +40,7 @@ returns-then-not-is_laid_out-clause-made c =
     c.take_field-is_laid_out.ensures.text c.refuse.ensures.made in
     let made = subst (λ (e : TableData). Makes k line 1 (bad (line_at (ends_joined k.pending) (at - line.from) line.number)) phase e new)
     (c.take_field-is_laid_out.ensures.same c.if-not-is_laid_out.true) told in
-    last-unbuilt k line at c.args.had_surplus d c.requires.column c.requires.fits.served (line.to - at + 1) phase new (omega arith) opens unbuilt made
+    last-unbuilt k line at c.args.had_surplus d c.requires.cell c.requires.fits.served (line.to - at + 1) phase new (omega arith) opens unbuilt made
 
 pub returns-clause-made : goal.returns-clause-made
 returns-clause-made c =
@@ -53,7 +53,7 @@ returns-clause-made c =
     let laid : is_laid_out (kind_under (key_next d) (slice_range (block_of k) c.args.at line.to)) ≡ true = sym c.take_field-is_laid_out.ensures.laid ∙ c.if-not-is_laid_out.false in
     let taken = c.take_field-is_laid_out.ensures.taken c.if-not-is_laid_out.false in
     subst (λ (p : Phase). Makes k line count (last_made k line c.args.at c.args.had_surplus d) p d c.end_row.new.self) (sym c.end_row.ensures.phase)
-    (last-laid k line c.args.at c.args.had_surplus d c.requires.column c.requires.fits.served count c.take_field-is_laid_out.new.self c.end_row.new.self (omega arith) opens laid taken
+    (last-laid k line c.args.at c.args.had_surplus d c.requires.cell c.requires.fits.served count c.take_field-is_laid_out.new.self c.end_row.new.self (omega arith) opens laid taken
     (c.end_row.ensures.ends (block_of k) taken.fits) (c.end_row.ensures.settled line.to) c.end_row.ensures.closed c.end_row.ensures.grown)
 
 pub end_row-requires-clause-opened : goal.end_row-requires-clause-opened

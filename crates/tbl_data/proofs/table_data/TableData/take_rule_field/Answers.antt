@@ -7,11 +7,11 @@ use Rattle.tbl_data.proofs.table_data.TableData.take_rule_field.Goals as goal
 
 pub returns : goal.returns
 returns c = record {
-  taken = λ k line lies on-line keeps fits closed column.
+  taken = λ k line lies on-line keeps fits closed cell.
       let d = c.args.self.now in
       let at = c.args.at in
       let end = c.args.end in
       let rows = c.keep.ensures ∙ ap (λ (e : Entry). with_entry e d.rows) c.of_rule.ensures in
       subst (λ (r : KeptRows). TakesField k line at end d (record d { rows = r })) (sym rows)
-      (takes-rule k line at end d c.args.kind c.requires.order lies on-line keeps fits closed column);
+      (takes-rule k line at end d c.args.kind c.requires.order lies on-line keeps fits closed cell);
 }

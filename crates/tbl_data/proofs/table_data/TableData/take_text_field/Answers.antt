@@ -32,7 +32,7 @@ returns-then-measured-clause-taken c =
     let made = ap (λ (r : KeptRows). record d { rows = r; notes = c.tell_items.new.notes; escapes = c.tell_items.new.escapes }) rows in
     takes-field k c.args.line at end c.requires.order within d kind c.tell_items.new.notes c.tell_items.ensures.notes c.tell_items.ensures.few
     (record d { rows = c.keep.new.self; notes = c.tell_items.new.notes; escapes = c.tell_items.new.escapes }) made
-    (c.tell_items.ensures.room ∙ c.measure-measured.ensures.room) c.requires.closed (omega (arith, c.requires.column, c.requires.fits.columns)) c.requires.fits c.requires.end
+    (c.tell_items.ensures.room ∙ c.measure-measured.ensures.room) c.requires.closed c.requires.cell c.requires.fits c.requires.end
 
 pub returns-else-measured-clause-taken : goal.returns-else-measured-clause-taken
 returns-else-measured-clause-taken c =
@@ -53,4 +53,4 @@ returns-else-measured-clause-taken c =
     let made = ap (λ (r : KeptRows). record d { rows = r; escapes = c.measure-measured.new.escapes }) rows in
     takes-field k c.args.line at end c.requires.order within d kind d.notes told (omega arith)
     (record d { rows = c.keep.new.self; escapes = c.measure-measured.new.escapes }) made
-    c.measure-measured.ensures.room c.requires.closed (omega (arith, c.requires.column, c.requires.fits.columns)) c.requires.fits c.requires.end
+    c.measure-measured.ensures.room c.requires.closed c.requires.cell c.requires.fits c.requires.end

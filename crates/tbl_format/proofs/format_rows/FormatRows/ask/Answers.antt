@@ -1,13 +1,16 @@
-use Rattle.std.proofs.Common.{ap, arith, length}
+use Rattle.std.proofs.Common.{ap, arith, length, drop}
 use Rattle.tbl_format.specs.Format.{asked_by}
+use Rattle.tbl_format.specs.Parts.{last_end, parts_ending}
 use Rattle.tbl_format.proofs.KeyCounting.{length-asking}
-use Rattle.tbl_format.proofs.Parts.{AreFew-more}
+use Rattle.tbl_format.proofs.RowsWithin.{all-more, within-more}
 use Rattle.tbl_format.proofs.format_rows.FormatRows.ask.Goals as goal
 
 pub invariant_of-self : goal.invariant_of-self
 invariant_of-self c =
     let old = c.self.inside in
     let before = c.self.invariant in
+    let items = ap length c.ask.ensures.items in
+    let same = length-asking (asked_by c.args.does) c.row_columns-columns.result old.asked.items in
     record {
       keys_reserved = before.keys_reserved;
       ends_reserved = before.ends_reserved;
@@ -17,7 +20,8 @@ invariant_of-self c =
       ends = before.ends;
       bars = before.bars;
       first = before.first;
-      short = AreFew-more (length old.asked.items) _ 0 old.ends.items
-          (omega (arith, ap length c.ask.ensures.items, length-asking (asked_by c.args.does) c.row_len-keys.result old.asked.items)) before.short;
-      row = omega (arith, before.row, ap length c.ask.ensures.items, length-asking (asked_by c.args.does) c.row_len-keys.result old.asked.items);
+      small = before.small;
+      asked_within = omega (arith, before.asked_within, items, same);
+      whole = all-more (length old.asked.items) _ (parts_ending old.keys.items 0 old.ends.items) (omega (arith, items, same)) before.whole;
+      row = within-more (length old.asked.items) _ (drop (last_end 0 old.ends.items) old.keys.items) (omega (arith, items, same)) before.row;
     }

@@ -1,9 +1,11 @@
-use Rattle.std.proofs.Common.{◌<◌, ◌≤◌, ◌∷◌, [], length, drop, ap, arith, length-append, length-drop}
+use Rattle.std.proofs.Common.{◌≡◌, ◌<◌, ◌∷◌, [], length, drop, sym, ap, subst, arith, length-append, length-drop}
+use Rattle.std.proofs.lemmas.List.{drop_all}
 use Rattle.tbl_format.specs.Format.{Format}
-use Rattle.tbl_format.specs.FormatRows.{KeptFormat}
+use Rattle.tbl_format.specs.FormatRows.{AreWithin, KeptFormat}
 use Rattle.tbl_format.specs.Parts.{last_end}
 use Rattle.tbl_format.proofs.FormatBlocks.{format-whole}
-use Rattle.tbl_format.proofs.Parts.{AreFew-append, EndWithin-append, EndWithin-count, EndWithin-last, last_end-append}
+use Rattle.tbl_format.proofs.Parts.{EndWithin-append, EndWithin-count, EndWithin-last, last_end-append}
+use Rattle.tbl_format.proofs.RowsWithin.{all-append, within-none}
 use Rattle.tbl_format.proofs.format_rows.FormatRows.end_row.Goals as goal
 
 pub push_reserved-requires : goal.push_reserved-requires
@@ -30,8 +32,7 @@ invariant_of-self c =
     let items = rw (c.len.ensures, old.keys.ok.0) at ends.ensures.items in
     let some : last_end 0 old.ends.items < length old.keys.items =
     omega (arith, row, c.if-row_len-gt0.true, length-drop (last_end 0 old.ends.items) old.keys.items) in
-    let none : length (drop (length old.keys.items) old.keys.items) ≤ length old.asked.items =
-    omega (arith, length-drop (length old.keys.items) old.keys.items) in
+    let none : drop (length old.keys.items) old.keys.items ≡ [] = drop_all (length old.keys.items) old.keys.items (omega arith) in
     let longer = length-append old.ends.items (length old.keys.items ∷ []) in
     record {
       keys_reserved = before.keys_reserved;
@@ -42,9 +43,11 @@ invariant_of-self c =
       ends = rw items (EndWithin-append (length old.keys.items) 0 old.ends.items some before.ends);
       bars = omega (arith, before.bars, ap length items, ap length bars.ensures.items, longer, length-append old.row_bars.items (old.bars ∷ []));
       first = omega (arith, before.first, ap length items, longer);
-      short = rw items (AreFew-append (length old.asked.items) (length old.keys.items) 0 old.ends.items
-          (omega (arith, before.row, length-drop (last_end 0 old.ends.items) old.keys.items)) before.short);
-      row = rw (items, last_end-append 0 (length old.keys.items) old.ends.items) none;
+      small = before.small;
+      asked_within = before.asked_within;
+      whole = rw items (all-append (length old.asked.items) old.keys.items old.ends.items before.row before.whole);
+      row = rw (items, last_end-append 0 (length old.keys.items) old.ends.items)
+          (subst (AreWithin (length old.asked.items)) (sym none) (within-none (length old.asked.items)));
     }
 
 pub returns-then-row_len-gt0 : goal.returns-then-row_len-gt0

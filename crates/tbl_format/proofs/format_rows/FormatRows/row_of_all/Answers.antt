@@ -1,7 +1,8 @@
 use Rattle.std.proofs.Common.{◌<◌, length, ap, arith}
 use Rattle.std.proofs.lemmas.List.{get_or_read}
 use Rattle.tbl_format.proofs.FormatBlocks.{count-all, row_of_all-read}
-use Rattle.tbl_format.proofs.Parts.{AreFew-read, EndWithin-order, IsPart-read, length-slice_range}
+use Rattle.tbl_format.proofs.Parts.{EndWithin-order, IsPart-read}
+use Rattle.tbl_format.proofs.RowsWithin.{all-read}
 use Rattle.tbl_format.proofs.format_rows.FormatRows.row_of_all.Goals as goal
 
 pub part_start-requires : goal.part_start-requires
@@ -58,14 +59,12 @@ returns-clause-keys c =
     rw (← c.self.view_is, c.as_slice.ensures.value)
     (row_of_all-read old.keys.items old.ends.items old.row_bars.items old.first c.args.at _ _ some start end)
 
-pub returns-clause-short : goal.returns-clause-short
-returns-clause-short c =
+pub returns-clause-within : goal.returns-clause-within
+returns-clause-within c =
     let old = c.self.inside in
     let inside = rw (← c.self.view_is) at c.requires in
     let some : c.args.at < length old.ends.items = omega (arith, inside, count-all old.keys.items old.ends.items old.row_bars.items old.first) in
     let start = rw c.as_slice-2.ensures.value at c.part_start.ensures in
     let end = get_or_read old.ends.items c.args.at c.index.result.now some c.index.ensures 0 in
-    let part = IsPart-read (length old.keys.items) old.ends.items c.args.at _ _ (EndWithin-order (length old.keys.items) 0 old.ends.items c.self.invariant.ends) some start end in
-    let few = AreFew-read (length old.asked.items) old.ends.items c.args.at _ _ c.self.invariant.short some start end in
     rw (← c.self.view_is, c.as_slice.ensures.value)
-    (omega (arith, few, length-slice_range old.keys.items c.part_start.result c.index.result.now part.within))
+    (all-read (length old.asked.items) old.keys.items old.ends.items c.args.at _ _ some start end c.self.invariant.whole)

@@ -1,4 +1,4 @@
-use Rattle.std.proofs.Common.{sym, subst}
+use Rattle.std.proofs.Common.{refl, sym, subst}
 use Rattle.tbl_format.specs.Format.{asked_by, done, said_by}
 use Rattle.tbl_format.specs.KeyCounts.{Counts}
 use Rattle.tbl_format.specs.declared.format_step.Does.{Does}
@@ -20,8 +20,8 @@ returns-in-Equalize-clause-value c = λ f counts.
 
 pub returns-in-DropWidth-clause-value : goal.returns-in-DropWidth-clause-value
 returns-in-DropWidth-clause-value c = λ f counts.
-    subst (λ (does : Does). Counts (done does f) c.args.self) (sym c.in-DropWidth.is) (counts_said (said_by DropWidth) f c.args.self counts)
+    subst (λ (does : Does). Counts (done does f) c.args.self) (sym c.in-DropWidth.is) (counts_said (said_by DropWidth) (λ k. refl) f c.args.self counts)
 
 pub returns-in-Stand-clause-value : goal.returns-in-Stand-clause-value
 returns-in-Stand-clause-value c = λ f counts.
-    subst (λ (does : Does). Counts (done does f) c.args.self) (sym c.in-Stand.is) (counts_said (said_by (Stand c.in-Stand.field-0)) f c.args.self counts)
+    subst (λ (does : Does). Counts (done does f) c.args.self) (sym c.in-Stand.is) (counts_said (said_by (Stand c.in-Stand.field-0)) (λ k. refl) f c.args.self counts)

@@ -29,6 +29,25 @@ slice_bounds-entries-end c =
     let row = LieBetween-at 0 a.row_start c.args.at a.elements.items c.in-Row.row c.index.result.now more (sym c.index.ensures ∙ c.in-Row.is) c.self.invariant.rows in
     omega (arith, row.last, c.self.invariant.start, c.as_mut_slice.ensures.len, a.entries.ok.0)
 
+pub fill_fields-height-requires-clause-cells : goal.fill_fields-height-requires-clause-cells
+fill_fields-height-requires-clause-cells c = rw c.requires.asked c.row_of_all-keys.ensures.within
+
+pub fill_fields-height-requires-clause-columns : goal.fill_fields-height-requires-clause-columns
+fill_fields-height-requires-clause-columns c =
+    let columns = rw (← c.self.view_is) at c.requires.columns in
+    rw c.as_mut_slice-columns.ensures.value (columns ∙ ap length (sym c.requires.asked))
+
+pub fill_fields-height-requires-clause-short : goal.fill_fields-height-requires-clause-short
+fill_fields-height-requires-clause-short c =
+    let a = c.self.inside in
+    let at = rw (← c.self.view_is) at c.requires.at in
+    let more : c.args.at < length a.elements.items = omega (arith, at, length-kept a.entries.items a.elements.items) in
+    let formats = all_rows c.args.format.now.format in
+    let kept = rw (← c.self.view_is) at c.requires.kept in
+    let is = kept-at a.entries.items a.elements.items c.args.at c.index.result.now _ (Command 0 0) more (sym c.index.ensures ∙ c.in-Row.is) in
+    let row = subst (λ (e : KeptElement). ElementKept c.args.bytes.now formats (length a.columns.items) e) is kept in
+    rw (c.as_mut_slice.ensures.value, c.as_mut_slice-columns.ensures.value, c.row_of_all-keys.ensures.keys) row.short
+
 pub fill_fields-height-requires-clause-lie : goal.fill_fields-height-requires-clause-lie
 fill_fields-height-requires-clause-lie c =
     let a = c.self.inside in
@@ -52,7 +71,7 @@ invariant_of-self c =
     let part = c.fill_fields-height.new.entries in
     let slice : length (slice_range c.as_mut_slice.result.now r.from r.to) ≡ r.to - r.from =
     rw c.as_mut_slice.ensures.value (length-slice_range a.entries.items r.from r.to within) in
-    let len : length part ≡ r.to - r.from = ap length c.fill_fields-height.ensures.entries ∙ length-laid _ _ _ ∙ slice in
+    let len : length part ≡ r.to - r.from = ap length c.fill_fields-height.ensures.entries ∙ length-laid c.args.bytes.now c.args.filling.bars c.args.filling.line_length (length c.args.filling.asked.now) _ _ ∙ slice in
     let whole = length-changed a.entries.items part r.from r.to row.order within len in
     let written = with_items_is a.entries (take r.from a.entries.items ++ (part ++ drop (r.to - r.from) (drop r.from a.entries.items))) (whole ∙ sym a.entries.ok.0) in
     record {
@@ -75,16 +94,16 @@ returns-in-Row-clause-value c =
     let part = c.fill_fields-height.new.entries in
     let slice : length (slice_range c.as_mut_slice.result.now r.from r.to) ≡ r.to - r.from =
     rw c.as_mut_slice.ensures.value (length-slice_range a.entries.items r.from r.to within) in
-    let len : length part ≡ r.to - r.from = ap length c.fill_fields-height.ensures.entries ∙ length-laid _ _ _ ∙ slice in
+    let len : length part ≡ r.to - r.from = ap length c.fill_fields-height.ensures.entries ∙ length-laid c.args.bytes.now c.args.filling.bars c.args.filling.line_length (length c.args.filling.asked.now) _ _ ∙ slice in
     let whole = length-changed a.entries.items part r.from r.to row.order within len in
     let written = with_items_is a.entries (take r.from a.entries.items ++ (part ++ drop (r.to - r.from) (drop r.from a.entries.items))) (whole ∙ sym a.entries.ok.0) in
     let formats = all_rows c.args.format.now.format in
-    let format = row_at formats r.keys in
-    let cols = c.fill_fields-height.ensures.columns format.bars in
-    let columns = with_items_is a.columns c.fill_fields-height.new.columns (c.fill_fields-height.auto.columns ∙ c.as_mut_slice-in-Row.ensures.len) in
+    let filling = c.args.filling in
+    let columns = with_items_is a.columns c.fill_fields-height.new.columns (c.fill_fields-height.auto.columns ∙ c.as_mut_slice-columns.ensures.len) in
     rw (← c.self.view_is, c.as_mut_slice.ensures.value, written, columns)
     (row-laid a.entries.items (take r.from a.entries.items ++ (part ++ drop (r.to - r.from) (drop r.from a.entries.items))) part a.elements.items a.row_start c.args.at r
-    c.index.result.now a.columns.items c.fill_fields-height.new.columns a.entry_room a.element_room a.column_room c.fill_fields-height.result c.args.bytes.now formats more is
+    c.index.result.now a.columns.items c.fill_fields-height.new.columns a.entry_room a.element_room a.column_room c.fill_fields-height.result c.args.bytes.now formats
+    filling.bars filling.line_length filling.asked.now more is
     c.self.invariant.rows (part-changed a.entries.items part r.from r.to row.order within len) c.fill_fields-height.ensures.height
-    (rw (c.as_mut_slice.ensures.value, c.as_mut_slice-in-Row.ensures.value) at c.fill_fields-height.ensures.entries)
-    (rw (c.as_mut_slice.ensures.value, c.as_mut_slice-in-Row.ensures.value, c.row_of_all-keys.ensures.keys) at cols))
+    (rw (c.as_mut_slice.ensures.value, c.row_of_all-keys.ensures.keys) at c.fill_fields-height.ensures.entries)
+    (rw (c.as_mut_slice-columns.ensures.value, c.row_of_all-keys.ensures.keys) at c.fill_fields-height.ensures.columns))

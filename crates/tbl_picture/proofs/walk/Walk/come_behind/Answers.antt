@@ -24,7 +24,7 @@ returns-then-draws_nothing c = λ bytes frame stands.
     let rule = c.args.rule in
     let w = c.args.self.now in
     let before = c.args.pieces.now in
-    let no_column : Column = record { needs = record { alone = 0; strip = 0; left = 0; right = 0; split = 0 }; measure = 0; bars = 0; width = 0; start = 0 } in
+    let no_column : Column = record { needs = record { alone = 0; strip = 0; left = 0; right = 0; split = 0 }; bars = 0; width = 0; start = 0 } in
     subst (λ (k : KeptWalk). RuleCrosses bytes frame formats rows rule w k before before) (sym c.go_over.ensures)
     (crosses-none bytes frame formats rows rule w before before no_column c.requires.within c.requires.lies c.goes_on-is_on.result
     c.met_behind-count.result c.goes_on-is_on.ensures (c.met_behind-count.ensures bytes stands) (sym c.draws_nothing.ensures ∙ c.if-draws_nothing.true))
@@ -37,7 +37,7 @@ returns c = λ bytes frame stands.
     let w = c.args.self.now in
     let before = c.args.pieces.now in
     let after = c.give_behind.new.pieces in
-    let no_column : Column = record { needs = record { alone = 0; strip = 0; left = 0; right = 0; split = 0 }; measure = 0; bars = 0; width = 0; start = 0 } in
+    let no_column : Column = record { needs = record { alone = 0; strip = 0; left = 0; right = 0; split = 0 }; bars = 0; width = 0; start = 0 } in
     let sign = c.sign_over-sign.result in
     let n = c.met_behind-count.result in
     let at = c.bar_place-at.result in

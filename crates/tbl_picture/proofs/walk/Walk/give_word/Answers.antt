@@ -6,7 +6,7 @@ use Rattle.tbl_lines.specs.RowsLeft.{block_text, given, if_given, one_less}
 use Rattle.tbl_picture.specs.Walks.{AtColumn, InWord, KeptWalk, RowSteps, at_word, columns_walked, kept_by, lent_row, passed}
 use Rattle.tbl_pieces.proofs.Adding.{adds-fewer, adds-more}
 use Rattle.tbl_picture.proofs.CellSteps.{end-within}
-use Rattle.tbl_layout.specs.KeptEntries.{no_entry}
+use Rattle.tbl_layout.specs.KeptEntries.{measure_by, no_entry}
 use Rattle.tbl_layout.specs.declared.entry.Entry.{Entry}
 use Rattle.tbl_lines.specs.RowsWalked.{IsBlock}
 use Rattle.tbl_picture.proofs.ColumnSteps.{cells_behind, column-there, entry-there}
@@ -46,9 +46,9 @@ returns-in-Joins-clause-steps c = λ frame.
     let next = ap (λ (k : KeptWalk). k.next) view ∙ c.requires.next in
     let arm = c.in-Joins in
     let value = c.block_bytes-block.ensures.value in
-    let m = r.column.measure in
+    let m = measure_by r.entry.kind in
     let block = c.block_bytes-block.result.now in
-    let measure_is : c.from.result ≡ m = c.from.ensures in
+    let measure_is : c.from.result ≡ m = c.from.ensures ∙ c.measure.ensures in
     let from = r.entry.from + 1 + word.from in
     let to = r.entry.from + 1 + word.to in
     let some = stands.lies.some in
@@ -87,7 +87,7 @@ returns-in-Ends-clause-steps c = λ frame.
     let stands = stands-at row w r word c.args.width c.args.place at in_word in
     let next = ap (λ (k : KeptWalk). k.next) view ∙ c.requires.next in
     let arm = c.in-Ends in
-    let m = r.column.measure in
+    let m = measure_by r.entry.kind in
     let end = c.end_given-end.result in
     let from = r.entry.from + 1 + word.from in
     let to = r.entry.from + 1 + end in
@@ -107,7 +107,7 @@ returns-in-Ends-clause-steps c = λ frame.
     ∙ word-last block word w.count lies.last in
     let steps = ends-steps row w r at word c.args.width c.args.place next stands frame before after reached text
     (subst (λ (b : List ℕ). rest_of_line m c.args.width (parts_at b c.args.place) ≡ []) c.block_bytes-block.ensures.value
-    (subst (λ (n : ℕ). rest_of_line n c.args.width (parts_at c.block_bytes-block.result.now c.args.place) ≡ []) (c.from.ensures) arm.ensures.line))
+    (subst (λ (n : ℕ). rest_of_line n c.args.width (parts_at c.block_bytes-block.result.now c.args.place) ≡ []) (c.from.ensures ∙ c.measure.ensures) arm.ensures.line))
     text_is
     (ap (λ (n : ℕ). given (one_less w.count) (n + c.args.width) (cells_behind row w r at)) c.begins_at.ensures.value)
     adds in

@@ -1,4 +1,4 @@
-use Rattle.std.proofs.Common.{◌≡◌, false, drop, ap, sym, subst, ◌∙◌}
+use Rattle.std.proofs.Common.{◌≡◌, false, drop, length, ap, sym, subst, ◌∙◌}
 use Rattle.tbl_format.specs.RowsServed.{all_rows}
 use Rattle.tbl_layout.specs.declared.data_lines.RuleSign.{RuleSign}
 use Rattle.tbl_picture.specs.ElementsWalked.{RuleAtElement, StandsAt, Steps}
@@ -14,11 +14,11 @@ use Rattle.tbl_picture.proofs.walk.Walk.step.Goals as goal
 
 pub step_at_rule-requires-clause-served : goal.step_at_rule-requires-clause-served
 step_at_rule-requires-clause-served c =
-    rows-served c.args.bytes.now (all_rows c.args.format.now.format) c.args.rows.now.columns c.args.rows.now.elements c.requires.can.laid
+    rows-served c.args.bytes.now (all_rows c.args.format.now.format) (length c.args.rows.now.columns) c.args.rows.now.elements c.requires.can.laid
 
 pub step_at_element-requires-clause-served : goal.step_at_element-requires-clause-served
 step_at_element-requires-clause-served c =
-    rows-served c.args.bytes.now (all_rows c.args.format.now.format) c.args.rows.now.columns c.args.rows.now.elements c.requires.can.laid
+    rows-served c.args.bytes.now (all_rows c.args.format.now.format) (length c.args.rows.now.columns) c.args.rows.now.elements c.requires.can.laid
 
 pub step_at_element-requires-clause-fits : goal.step_at_element-requires-clause-fits
 step_at_element-requires-clause-fits c =
@@ -26,7 +26,7 @@ step_at_element-requires-clause-fits c =
 
 pub step_in_rule-requires-clause-served : goal.step_in_rule-requires-clause-served
 step_in_rule-requires-clause-served c =
-    rows-served c.args.bytes.now (all_rows c.args.format.now.format) c.args.rows.now.columns c.args.rows.now.elements c.requires.can.laid
+    rows-served c.args.bytes.now (all_rows c.args.format.now.format) (length c.args.rows.now.columns) c.args.rows.now.elements c.requires.can.laid
 
 pub step_in_rule-requires-clause-fits : goal.step_in_rule-requires-clause-fits
 step_in_rule-requires-clause-fits c =

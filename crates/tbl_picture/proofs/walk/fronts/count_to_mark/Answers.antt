@@ -1,12 +1,34 @@
 use Rattle.std.proofs.Common.{◌≡◌, ◌<◌, ℕ, suc, ◌+◌, ◌-◌, drop, length, refl, sym, subst, ◌∙◌, arith}
 use Rattle.std.proofs.lemmas.List.{drop_all}
+use Rattle.tbl_format.proofs.CellColumns.{cells-few}
 use Rattle.tbl_lines.specs.RowsLeft.{first_cell}
+use Rattle.tbl_lines.specs.RowsLent.{LiesInColumns, lent_columns}
 use Rattle.tbl_lines.specs.RowsWalked.{AreGlyphless, LastHasGlyph}
+use Rattle.tbl_lines.specs.declared.row_lent.RowLent.{RowLent}
 use Rattle.tbl_picture.specs.Walks.{lent_row, line_cells}
+use Rattle.tbl_lines.proofs.CellsLent.{length-cells_of}
 use Rattle.tbl_lines.proofs.RowColumns.{length-places}
 use Rattle.tbl_lines.proofs.RowMarks.{first-left, many-cells}
 use Rattle.tbl_lines.proofs.RunsGiven.{glyphless-more, last-at, last-none}
 use Rattle.tbl_picture.proofs.walk.fronts.count_to_mark.Goals as goal
+
+-- a row has no more cells than there are columns
+few-cells : (row : RowLent) → LiesInColumns row → length (lent_columns row) < 4294967296
+few-cells row lies =
+    let keys = row.keys.now in
+    omega (arith, length-cells_of keys row.columns.now lies.cells, cells-few keys lies.cells.cells, lies.cells.short, lies.few)
+
+pub overflow_add-count : goal.overflow_add-count
+overflow_add-count c =
+    let row = lent_row c.args.row.now in
+    let given = length-places row.bytes row.entries c.args.places.now c.requires.cells.places in
+    omega (arith, c.max.ensures, c.cells.ensures, few-cells c.args.row.now c.requires.lies, c.requires.cells.short, given)
+
+pub overflow_add-count-2 : goal.overflow_add-count-2
+overflow_add-count-2 c =
+    let row = lent_row c.args.row.now in
+    let given = length-places row.bytes row.entries c.args.places.now c.requires.cells.places in
+    omega (arith, c.max.ensures, c.cells.ensures, few-cells c.args.row.now c.requires.lies, c.requires.cells.short, given)
 
 pub loop-count-init : goal.loop-count-init
 loop-count-init c =
@@ -16,8 +38,8 @@ loop-count-init c =
     let given = length-places row.bytes row.entries c.args.places.now c.requires.cells.places in
     let many = many-cells row c.args.line c.args.places.now c.requires.cells.short c.requires.cells.places c.requires.any in
     record {
-      few = omega (arith, many, given, c.max.ensures);
-      behind = subst AreGlyphless (sym (drop_all n cells (omega (arith, many, given, c.max.ensures)))) tt;
+      few = omega (arith, many, given, c.max.ensures, c.cells.ensures);
+      behind = subst AreGlyphless (sym (drop_all n cells (omega (arith, many, given, c.max.ensures, c.cells.ensures)))) tt;
       room = refl;
     }
 

@@ -6,8 +6,8 @@ pub returns-in-Front-clause-few : goal.returns-in-Front-clause-few
 returns-in-Front-clause-few c = λ most few. c.front_behind.ensures.few (most + 1)
 
 pub returns-in-Keys-clause-value : goal.returns-in-Keys-clause-value
-returns-in-Keys-clause-value c = λ phase f is.
-    begun-keys c.args.line.now c.args.byte c.in-Keys.count c.behind.result c.in-Keys.start phase f (counts-behind c.args.line.now c.in-Keys.count c.behind.result c.in-Keys.start c.args.byte c.behind.ensures.value) (sym c.in-Keys.is ∙ is)
+returns-in-Keys-clause-value c = λ phase f made is.
+    begun-keys c.args.line.now c.args.byte c.in-Keys.count c.behind.result c.in-Keys.start phase f made (counts-behind c.args.line.now c.in-Keys.count c.behind.result c.in-Keys.start c.args.byte c.behind.ensures.value) (sym c.in-Keys.is ∙ is)
 
 pub returns-in-Nothing-clause-value : goal.returns-in-Nothing-clause-value
-returns-in-Nothing-clause-value c = λ phase f is. begun-nothing c.args.line.now c.args.byte phase f (sym c.in-Nothing.is ∙ is)
+returns-in-Nothing-clause-value c = λ phase f made is. begun-nothing c.args.line.now c.args.byte phase f (sym c.in-Nothing.is ∙ is)

@@ -12,5 +12,5 @@ returns-in-Nothing-clause-head c = λ is.
     absurd (nothing-head c.args.line.now (options_end c.args.line.now) (sym c.in-Nothing.is ∙ is))
 
 pub returns-in-Keys-clause-format : goal.returns-in-Keys-clause-format
-returns-in-Keys-clause-format c = λ f is.
-    columns-format c.args.line.now c.args.byte c.in-Keys.count c.behind.result c.in-Keys.start f (counts-behind c.args.line.now c.in-Keys.count c.behind.result c.in-Keys.start c.args.byte c.behind.ensures.value) (sym c.in-Keys.is ∙ is)
+returns-in-Keys-clause-format c = λ f made is.
+    columns-format c.args.line.now c.args.byte c.in-Keys.count c.behind.result c.in-Keys.start f made (counts-behind c.args.line.now c.in-Keys.count c.behind.result c.in-Keys.start c.args.byte c.behind.ensures.value) (sym c.in-Keys.is ∙ is)

@@ -9,8 +9,8 @@ returns-in-Keys-clause-head c = λ is.
     place-keys c.args.line.now c.in-Keys.count c.behind.result c.in-Keys.start (options_end c.args.line.now) (counts-behind c.args.line.now c.in-Keys.count c.behind.result c.in-Keys.start newline c.behind.ensures.value) (sym c.in-Keys.is ∙ is)
 
 pub returns-in-Keys-clause-format : goal.returns-in-Keys-clause-format
-returns-in-Keys-clause-format c = λ f is.
-    place-format c.args.line.now c.in-Keys.count c.behind.result c.in-Keys.start f (counts-behind c.args.line.now c.in-Keys.count c.behind.result c.in-Keys.start newline c.behind.ensures.value) (sym c.in-Keys.is ∙ is)
+returns-in-Keys-clause-format c = λ f made is.
+    place-format c.args.line.now c.in-Keys.count c.behind.result c.in-Keys.start f made (counts-behind c.args.line.now c.in-Keys.count c.behind.result c.in-Keys.start newline c.behind.ensures.value) (sym c.in-Keys.is ∙ is)
 
 pub returns-in-Front-clause-head : goal.returns-in-Front-clause-head
 returns-in-Front-clause-head c = λ is.

@@ -4,7 +4,7 @@ use Rattle.tbl_options.specs.declared.message.Told.{Told}
 use Rattle.tbl_kept.specs.TableNotes.{KeptNotes}
 use Rattle.tbl_table.specs.Kept.{reading_of}
 use Rattle.tbl_table.specs.Reading.{KeptTable, Reading}
-use Rattle.tbl_table.proofs.BlockCloses.{rest-few, rest-formats, rest-opened, rest-read, rest-room, rest-rules, rest-serves, rests}
+use Rattle.tbl_table.proofs.BlockRests.{rest-can, rest-formats, rest-read, rests}
 use Rattle.tbl_table.proofs.table.Table.close_block.Goals as goal
 
 pub end_block-requires-clause-small : goal.end_block-requires-clause-small
@@ -12,30 +12,10 @@ end_block-requires-clause-small c =
     let a = c.self.inside in
     rest-formats a.limits a.phase a.begun a.text a.kept c.self.invariant.parts
 
-pub end_block-requires-clause-room : goal.end_block-requires-clause-room
-end_block-requires-clause-room c =
+pub end_block-requires-clause-can : goal.end_block-requires-clause-can
+end_block-requires-clause-can c =
     let a = c.self.inside in
-    rest-room a.limits a.phase a.begun a.text a.kept c.self.invariant.parts
-
-pub end_block-requires-clause-serves : goal.end_block-requires-clause-serves
-end_block-requires-clause-serves c =
-    let a = c.self.inside in
-    rest-serves a.limits a.phase a.begun a.text a.kept c.self.invariant.parts
-
-pub end_block-requires-clause-rules : goal.end_block-requires-clause-rules
-end_block-requires-clause-rules c =
-    let a = c.self.inside in
-    rest-rules a.limits a.phase a.begun a.text a.kept c.self.invariant.parts
-
-pub end_block-requires-clause-few : goal.end_block-requires-clause-few
-end_block-requires-clause-few c =
-    let a = c.self.inside in
-    rest-few a.limits a.phase a.begun a.text a.kept c.self.invariant.parts
-
-pub end_block-requires-clause-opened : goal.end_block-requires-clause-opened
-end_block-requires-clause-opened c =
-    let a = c.self.inside in
-    rest-opened a.limits a.phase a.begun a.text a.kept c.self.invariant.parts
+    rest-can a.limits a.phase a.begun a.text a.kept c.self.invariant.parts
 
 pub invariant_of-self : goal.invariant_of-self
 invariant_of-self c =

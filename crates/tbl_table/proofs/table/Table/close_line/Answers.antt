@@ -14,7 +14,7 @@ use Rattle.tbl_table.specs.Kept.{reading_of}
 use Rattle.tbl_table.specs.Reading.{KeptTable, Reading}
 use Rattle.tbl_table.specs.Table.{closed}
 use Rattle.tbl_table.specs.declared.begun.Begun.{Begun}
-use Rattle.tbl_table.proofs.BlockCloses.{close-fits, close-read, close-told, closed-counted, closes, line-before, may-tell-some, mid-ends, mid-fits, mid-few, mid-formats, mid-opened, mid-room, mid-rules, mid-serves, no-head}
+use Rattle.tbl_table.proofs.BlockCloses.{close-fits, close-read, close-told, closed-counted, closes, line-before, may-tell-some, mid-can, mid-ends, mid-fits, mid-formats, no-head}
 use Rattle.tbl_table.proofs.LineEnds.{Taken, all-kept, few-formats, one-read, take-behind, take-fits, take-settled}
 use Rattle.tbl_table.proofs.TableFits.{open-by}
 use Rattle.tbl_table.proofs.table.Table.close_line.Goals as goal
@@ -189,8 +189,8 @@ end_block-requires-clause-small c =
     } in
     mid-formats a.limits a.phase a.begun a.text a.kept fits is some a.options from to from_is to_is p middle taken
 
-pub end_block-requires-clause-room : goal.end_block-requires-clause-room
-end_block-requires-clause-room c =
+pub end_block-requires-clause-can : goal.end_block-requires-clause-can
+end_block-requires-clause-can c =
     let a = c.self.inside in
     let fits = c.self.invariant.parts in
     let some : is_some a.text.pending ≡ true = rw (← c.self.view_is) at c.requires.open in
@@ -214,115 +214,7 @@ end_block-requires-clause-room c =
       to_tell = taking.ensures.to_tell;
       rooms = taking.ensures.rooms;
     } in
-    mid-room a.limits a.phase a.begun a.text a.kept fits is some a.options from to from_is to_is p middle taken
-
-pub end_block-requires-clause-serves : goal.end_block-requires-clause-serves
-end_block-requires-clause-serves c =
-    let a = c.self.inside in
-    let fits = c.self.invariant.parts in
-    let some : is_some a.text.pending ≡ true = rw (← c.self.view_is) at c.requires.open in
-    let is = open-by a.phase a.text.settled a.text.pending a.kept fits.by_phase some in
-    let from = c.open_start-from.result in
-    let to = c.line_start-to.result in
-    let from_is : from ≡ length a.text.settled = c.open_start-from.ensures in
-    let to_is : to ≡ length (text_closed a.text).settled = c.line_start-to.ensures.value in
-    let to_len : to ≡ length a.text.settled + length (behind_joined a.text.pending []) = to_is ∙ length-append a.text.settled (behind_joined a.text.pending []) in
-    let may = may-tell-some a.text.pending some in
-    let taking = c.take_line-self-inside in
-    let p = taking.result in
-    let middle : TableData = taking.new.self in
-    let taken : Taken a.text a.options.separator from to 0 p a.kept middle = record {
-      table = taking.ensures.table;
-      fits = taking.ensures.fits;
-      ends = taking.ensures.ends;
-      settled = taking.ensures.settled;
-      entries = taking.ensures.entries;
-      notes = taking.ensures.notes;
-      to_tell = taking.ensures.to_tell;
-      rooms = taking.ensures.rooms;
-    } in
-    mid-serves a.limits a.phase a.begun a.text a.kept fits is some a.options from to from_is to_is p middle taken
-
-pub end_block-requires-clause-rules : goal.end_block-requires-clause-rules
-end_block-requires-clause-rules c =
-    let a = c.self.inside in
-    let fits = c.self.invariant.parts in
-    let some : is_some a.text.pending ≡ true = rw (← c.self.view_is) at c.requires.open in
-    let is = open-by a.phase a.text.settled a.text.pending a.kept fits.by_phase some in
-    let from = c.open_start-from.result in
-    let to = c.line_start-to.result in
-    let from_is : from ≡ length a.text.settled = c.open_start-from.ensures in
-    let to_is : to ≡ length (text_closed a.text).settled = c.line_start-to.ensures.value in
-    let to_len : to ≡ length a.text.settled + length (behind_joined a.text.pending []) = to_is ∙ length-append a.text.settled (behind_joined a.text.pending []) in
-    let may = may-tell-some a.text.pending some in
-    let taking = c.take_line-self-inside in
-    let p = taking.result in
-    let middle : TableData = taking.new.self in
-    let taken : Taken a.text a.options.separator from to 0 p a.kept middle = record {
-      table = taking.ensures.table;
-      fits = taking.ensures.fits;
-      ends = taking.ensures.ends;
-      settled = taking.ensures.settled;
-      entries = taking.ensures.entries;
-      notes = taking.ensures.notes;
-      to_tell = taking.ensures.to_tell;
-      rooms = taking.ensures.rooms;
-    } in
-    mid-rules a.limits a.phase a.begun a.text a.kept fits is some a.options from to from_is to_is p middle taken
-
-pub end_block-requires-clause-few : goal.end_block-requires-clause-few
-end_block-requires-clause-few c =
-    let a = c.self.inside in
-    let fits = c.self.invariant.parts in
-    let some : is_some a.text.pending ≡ true = rw (← c.self.view_is) at c.requires.open in
-    let is = open-by a.phase a.text.settled a.text.pending a.kept fits.by_phase some in
-    let from = c.open_start-from.result in
-    let to = c.line_start-to.result in
-    let from_is : from ≡ length a.text.settled = c.open_start-from.ensures in
-    let to_is : to ≡ length (text_closed a.text).settled = c.line_start-to.ensures.value in
-    let to_len : to ≡ length a.text.settled + length (behind_joined a.text.pending []) = to_is ∙ length-append a.text.settled (behind_joined a.text.pending []) in
-    let may = may-tell-some a.text.pending some in
-    let taking = c.take_line-self-inside in
-    let p = taking.result in
-    let middle : TableData = taking.new.self in
-    let taken : Taken a.text a.options.separator from to 0 p a.kept middle = record {
-      table = taking.ensures.table;
-      fits = taking.ensures.fits;
-      ends = taking.ensures.ends;
-      settled = taking.ensures.settled;
-      entries = taking.ensures.entries;
-      notes = taking.ensures.notes;
-      to_tell = taking.ensures.to_tell;
-      rooms = taking.ensures.rooms;
-    } in
-    λ opened. mid-few a.limits a.phase a.begun a.text a.kept fits is some a.options from to from_is to_is p middle taken
-
-pub end_block-requires-clause-opened : goal.end_block-requires-clause-opened
-end_block-requires-clause-opened c =
-    let a = c.self.inside in
-    let fits = c.self.invariant.parts in
-    let some : is_some a.text.pending ≡ true = rw (← c.self.view_is) at c.requires.open in
-    let is = open-by a.phase a.text.settled a.text.pending a.kept fits.by_phase some in
-    let from = c.open_start-from.result in
-    let to = c.line_start-to.result in
-    let from_is : from ≡ length a.text.settled = c.open_start-from.ensures in
-    let to_is : to ≡ length (text_closed a.text).settled = c.line_start-to.ensures.value in
-    let to_len : to ≡ length a.text.settled + length (behind_joined a.text.pending []) = to_is ∙ length-append a.text.settled (behind_joined a.text.pending []) in
-    let may = may-tell-some a.text.pending some in
-    let taking = c.take_line-self-inside in
-    let p = taking.result in
-    let middle : TableData = taking.new.self in
-    let taken : Taken a.text a.options.separator from to 0 p a.kept middle = record {
-      table = taking.ensures.table;
-      fits = taking.ensures.fits;
-      ends = taking.ensures.ends;
-      settled = taking.ensures.settled;
-      entries = taking.ensures.entries;
-      notes = taking.ensures.notes;
-      to_tell = taking.ensures.to_tell;
-      rooms = taking.ensures.rooms;
-    } in
-    mid-opened a.limits a.phase a.begun a.text a.kept fits is some a.options from to from_is to_is p middle taken
+    mid-can a.limits a.phase a.begun a.text a.kept fits is some a.options from to from_is to_is p middle taken
 
 pub on_line-self-inside-requires-clause-phase : goal.on_line-self-inside-requires-clause-phase
 on_line-self-inside-requires-clause-phase c = no-head c.take_line-self-inside.result _ _ c.take_line-self-inside.ensures.fits

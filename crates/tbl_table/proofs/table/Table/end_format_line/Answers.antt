@@ -6,6 +6,7 @@ use Rattle.std.specs.List.{slice_range}
 use Rattle.roff_source.specs.Bytes.{newline}
 use Rattle.tbl_data.specs.declared.phase.Phase.{Phase}
 use Rattle.tbl_format.specs.Format.{Format, format_read, letters_left_out}
+use Rattle.tbl_format.specs.FormatLaws.{Line}
 use Rattle.tbl_options.specs.Notes.{left_out_note, told_of_all}
 use Rattle.tbl_options.specs.declared.message.Told.{Told}
 use Rattle.tbl_format.proofs.FormatReading.{columns-read, columns-read-most, keys-read as format-keys-read, line-stands}
@@ -116,15 +117,14 @@ invariant_of-self c =
     let ended = format-ended f line fits.keys.ended in
     let extends = format-extends f line in
     let counts = rw (kept, format-behind g.place c.args.number noted g a.kept) at c.count.ensures.value in
-    let row : length g.row ≤ length g.asked = omega (arith, counts.row, counts.columns, c.count.ensures.row) in
     let counted : IsCounted a.limits (length a.text.read + length a.text.line + 1) g = record {
       keys = omega (arith, format-keys-read [] f line, fits.keys.keys, length-append a.text.line (newline ∷ []));
       asked = omega (arith, columns-read-most [] f line, fits.keys.asked, length-append a.text.line (newline ∷ []));
       columns = columns;
-      row = row;
       rows = rows-keyed f g extends fits.keys.rows;
       ended = ended;
       stands = line-stands f a.text.line;
+      made = Line f line fits.keys.made;
     } in
     let begun : c.at_start-self-inside.result ≡ begun_in (phase_behind g.place) g [] =
     c.at_start-self-inside.ensures g (count_is g c.count.result counts) ∙ ap (λ (p : Phase). begun_in p g []) phase in
@@ -164,15 +164,14 @@ returns c =
     let ended = format-ended f line fits.keys.ended in
     let extends = format-extends f line in
     let counts = rw (kept, format-behind g.place c.args.number noted g a.kept) at c.count.ensures.value in
-    let row : length g.row ≤ length g.asked = omega (arith, counts.row, counts.columns, c.count.ensures.row) in
     let counted : IsCounted a.limits (length a.text.read + length a.text.line + 1) g = record {
       keys = omega (arith, format-keys-read [] f line, fits.keys.keys, length-append a.text.line (newline ∷ []));
       asked = omega (arith, columns-read-most [] f line, fits.keys.asked, length-append a.text.line (newline ∷ []));
       columns = columns;
-      row = row;
       rows = rows-keyed f g extends fits.keys.rows;
       ended = ended;
       stands = line-stands f a.text.line;
+      made = Line f line fits.keys.made;
     } in
     let made_of = λ (reading : Reading) (told : List Told) (bytes : List ℕ). let k : KeptTable = record { limits = a.limits; reading = reading; told = told; to_come = bytes } in k in
     let settled : List ℕ = (text_ended a.text).settled in

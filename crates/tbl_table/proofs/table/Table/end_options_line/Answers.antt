@@ -75,7 +75,6 @@ invariant_of-self c =
     let new = with_keys c.args.number ks (record a.kept { notes = kept_notes }) in
     let new_is : new.format.format ≡ g = keys-format c.args.number ks (record a.kept { notes = kept_notes }) in
     let counts = rw (kept, new_is) at c.count.ensures.value in
-    let row : length g.row ≤ length g.asked = omega (arith, counts.row, counts.columns, c.count.ensures.row) in
     let told_len : length (text_ended a.text).settled ≡ length c.block.result.now = ap (λ (xs : List ℕ). length xs) (settled ∙ sym block) in
     let within = rw (← told_len) at c.push_ignored.ensures.within in
     let to_tell : NotesWithin (length (text_ended a.text).settled) kept_notes.to_tell =
@@ -87,14 +86,14 @@ invariant_of-self c =
       keys = fits.keys.keys;
       asked = fits.keys.asked;
       columns = fits.keys.columns;
-      row = subst (λ (h : Format). length h.row ≤ length h.asked) (sym nothing.no_keys) (omega arith);
       rows = fits.keys.rows;
       ended = fits.keys.ended;
       stands = fits.keys.stands;
+      made = fits.keys.made;
     } in
     let counted = counted-longer a.limits (length a.text.read + length ks) (length a.text.read + length line + 1) g
     (omega (arith, inside_line, length-append (drop (suc end) line) (newline ∷ []), length-drop (suc end) line))
-    (keys-counted a.limits (length a.text.read) f ks (drop (suc end) line) refl before bound row) in
+    (keys-counted a.limits (length a.text.read) f ks (drop (suc end) line) refl before bound) in
     let all = λ (n : ℕ). front-kept a.phase n (ap is_front is) in
     let begun : c.at_start-self-inside.result ≡ begun_in (phase_behind place) g [] =
     c.at_start-self-inside.ensures g (count_is g c.count.result counts) ∙ ap (λ (p : Phase). begun_in p g []) phase in
@@ -131,7 +130,6 @@ returns c =
     let new = with_keys c.args.number ks (record a.kept { notes = kept_notes }) in
     let new_is : new.format.format ≡ g = keys-format c.args.number ks (record a.kept { notes = kept_notes }) in
     let counts = rw (kept, new_is) at c.count.ensures.value in
-    let row : length g.row ≤ length g.asked = omega (arith, counts.row, counts.columns, c.count.ensures.row) in
     let told_len : length (text_ended a.text).settled ≡ length c.block.result.now = ap (λ (xs : List ℕ). length xs) (settled ∙ sym block) in
     let within = rw (← told_len) at c.push_ignored.ensures.within in
     let to_tell : NotesWithin (length (text_ended a.text).settled) kept_notes.to_tell =
@@ -143,14 +141,14 @@ returns c =
       keys = fits.keys.keys;
       asked = fits.keys.asked;
       columns = fits.keys.columns;
-      row = subst (λ (h : Format). length h.row ≤ length h.asked) (sym nothing.no_keys) (omega arith);
       rows = fits.keys.rows;
       ended = fits.keys.ended;
       stands = fits.keys.stands;
+      made = fits.keys.made;
     } in
     let counted = counted-longer a.limits (length a.text.read + length ks) (length a.text.read + length line + 1) g
     (omega (arith, inside_line, length-append (drop (suc end) line) (newline ∷ []), length-drop (suc end) line))
-    (keys-counted a.limits (length a.text.read) f ks (drop (suc end) line) refl before bound row) in
+    (keys-counted a.limits (length a.text.read) f ks (drop (suc end) line) refl before bound) in
     let all = λ (n : ℕ). front-kept a.phase n (ap is_front is) in
     let messages = λ (xs : List ℕ). map (λ (word : List ℕ). told_at c.args.number (ignored_message word)) (ignored_options xs) in
     let said : List Told = told_of_all a.text.settled a.kept.notes.notes ++ messages (take end line) in

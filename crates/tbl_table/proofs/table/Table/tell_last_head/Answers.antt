@@ -130,7 +130,7 @@ invariant_of-self c =
     let to_tell : NotesWithin (length (block_of a.text)) kept.to_tell = subst (λ ns. NotesWithin (length (block_of a.text)) ns) (sym c.tell_options.ensures.none) tt in
     record {
       parts = rw (c.complete.ensures, notes, phase, begun)
-          (whole-keys a.limits a.phase a.begun a.text a.kept fits (record { alone = nothing.alone; fits = nothing.fits }) (λ n. front-kept a.phase n (ap is_front is)) (letters_noted c.args.number letters kept) c.args.number room (omega (arith, counts.row, counts.columns, c.count-2.ensures.row))
+          (whole-keys a.limits a.phase a.begun a.text a.kept fits (record { alone = nothing.alone; fits = nothing.fits }) (λ n. front-kept a.phase n (ap is_front is)) (letters_noted c.args.number letters kept) c.args.number room
           (omega (arith, c.tell_options.ensures.few, ap (λ ns. length ns) nothing.no_notes, most, ap (λ (xs : List ℕ). length xs) block_line, length-append kept.notes (map (left_out_note c.args.number) letters), length-map letters (left_out_note c.args.number)))
           (NotesWithin-letters (length (block_of a.text)) c.args.number kept.notes letters within) to_tell c.tell_options.ensures.room place);
       giving = c.give_nothing.ensures.nothing.can c.complete.new.self a.kept.rows a.kept.format;

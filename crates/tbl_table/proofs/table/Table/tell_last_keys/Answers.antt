@@ -34,7 +34,6 @@ invariant_of-self c =
     let f = a.kept.format.format in
     let phase = c.tell_keys-self-inside.ensures.phase in
     let counts = c.count-2.ensures.value in
-    let row : length f.row ≤ length f.asked = omega (arith, counts.row, counts.columns, c.count-2.ensures.row) in
     let line = a.text.line in
     let letters = letters_left_out f line in
     let told : KeptNotes = letters_noted c.args.number letters a.kept.notes in
@@ -47,7 +46,7 @@ invariant_of-self c =
     let longer = whole-longer a.limits a.phase a.begun a.text a.kept fits in
     record {
       parts = rw (c.complete.ensures, notes, phase, begun)
-          (whole-keys a.limits a.phase a.begun a.text a.kept fits reads (λ n. front-kept a.phase n front) told c.args.number room row
+          (whole-keys a.limits a.phase a.begun a.text a.kept fits reads (λ n. front-kept a.phase n front) told c.args.number room
           (omega (arith, fits.messages.few, front-fault a.phase front, length-append a.kept.notes.notes (map (left_out_note c.args.number) letters), length-map letters (left_out_note c.args.number), letters-few f line))
           (NotesWithin-letters (length (block_of a.text)) c.args.number a.kept.notes.notes letters
           (NotesWithin-more (length a.text.settled) (length (block_of a.text)) a.kept.notes.notes longer reads.fits.notes))
@@ -71,7 +70,7 @@ returns-clause-told c =
     c.push_left_out.ensures f c.count.ensures.value ∙ ap (λ (xs : List ℕ). letters_noted c.args.number (letters_left_out f xs) a.kept.notes) c.line-2.ensures in
     let format = rw c.line.ensures at c.place_at_end-place.ensures.format in
     let place = (format_read f (line ++ newline ∷ [])).place in
-    let place_is : c.place_at_end-place.result ≡ place = format f (fits.keys.is ∙ ap (λ (p : Phase). begun_in p f line) is) in
+    let place_is : c.place_at_end-place.result ≡ place = format f fits.keys.made (fits.keys.is ∙ ap (λ (p : Phase). begun_in p f line) is) in
     let t : TableRead = table_of a.phase a.options a.text a.kept in
     let done : IsDone t = record { alone = reads.alone; closed = none-begun a.kept.open (map (content_of a.text.settled) a.kept.rows.row) reads.fits.closed } in
     let new : TableRead = table_of c.tell_keys-self-inside.result a.options c.complete.new.self (record a.kept { notes = c.tell_keys-self-inside.new.notes }) in
@@ -97,7 +96,7 @@ returns-clause-answer c =
     let line = a.text.line in
     let format = rw c.line.ensures at c.place_at_end-place.ensures.format in
     let place = (format_read f (line ++ newline ∷ [])).place in
-    let place_is : c.place_at_end-place.result ≡ place = format f (fits.keys.is ∙ ap (λ (p : Phase). begun_in p f line) is) in
+    let place_is : c.place_at_end-place.result ≡ place = format f fits.keys.made (fits.keys.is ∙ ap (λ (p : Phase). begun_in p f line) is) in
     let t : TableRead = table_of a.phase a.options a.text a.kept in
     let done : IsDone t = record { alone = reads.alone; closed = none-begun a.kept.open (map (content_of a.text.settled) a.kept.rows.row) reads.fits.closed } in
     let new : TableRead = table_of c.tell_keys-self-inside.result a.options c.complete.new.self (record a.kept { notes = c.tell_keys-self-inside.new.notes }) in

@@ -1,6 +1,0 @@
-use Rattle.std.proofs.Common.{sym}
-use Rattle.tbl_format.proofs.Parts.{last_end-slice_get}
-use Rattle.tbl_format.proofs.format_rows.last_end.Goals as goal
-
-pub returns-in-Some : goal.returns-in-Some
-returns-in-Some c = last_end-slice_get c.args.ends.now c.in-Some.end.now (sym c.in-Some.ensures.value)

@@ -1,0 +1,101 @@
+//! The cells of a row of a format, and the columns that they have (Lesk, "Tbl": Format).
+
+ghost use Rattle.std.specs.Prelude.{◌≡◌, ℕ, ◌<◌, ◌≤◌, ◌^◌, length};
+ghost use Rattle.tbl_format.specs.Cells.{AreCells, cell_behind, cell_count, end_of, start_of};
+ghost use Rattle.tbl_format.specs.Format.{columns_of};
+
+use crate::format::FormatKey;
+
+/// How many columns the cells of these keys have.
+pub fn columns_of(keys: &[FormatKey]) -> usize
+    ensures value { result ≡ columns_of keys.now }
+    ensures most { result < 2 ^ 32 }
+{
+    match keys.last() {
+        Some(key) => key.end as usize,
+        None => 0,
+    }
+}
+
+/// Up to which column a cell of a row with these keys goes: behind the last key each cell has one
+/// column.
+// It is called for each cell.
+#[inline]
+pub fn end_of(keys: &[FormatKey], cell: usize) -> usize
+    requires { cell < 2 ^ 63 }
+    ensures value { result ≡ end_of keys.now cell }
+    ensures most { result < 2 ^ 64 }
+{
+    match keys.get(cell) {
+        Some(key) => key.end as usize,
+        None => columns_of(keys) + (cell - keys.len()) + 1,
+    }
+}
+
+/// Behind which column it begins.
+#[inline]
+pub fn start_of(keys: &[FormatKey], cell: usize) -> usize
+    requires { cell < 2 ^ 63 }
+    ensures { result ≡ start_of keys.now cell }
+{
+    if cell == 0 { 0 } else { end_of(keys, cell - 1) }
+}
+
+/// How many cells a row with these keys has in a table of so many columns.
+pub fn cell_count(keys: &[FormatKey], columns: usize) -> usize
+    requires { columns < 2 ^ 63 }
+    ensures { result ≡ cell_count keys.now columns }
+{
+    keys.len() + columns.saturating_sub(columns_of(keys))
+}
+
+/// The cell of a row with these keys that begins behind so many columns, if one does.
+// It is called for each boundary on a line of rules.
+#[inline(always)]
+pub fn cell_behind(keys: &[FormatKey], column: usize) -> Option<usize>
+    requires { AreCells 0 keys.now }
+    ensures { result ≡ cell_behind keys.now column }
+{
+    // Most cells have one column.
+    if column <= keys.len() && start_of(keys, column) == column {
+        Some(column)
+    } else {
+        cell_searched(keys, column)
+    }
+}
+
+/// The same, by a search.
+#[inline(never)]
+fn cell_searched(keys: &[FormatKey], column: usize) -> Option<usize>
+    requires { AreCells 0 keys.now }
+    ensures { result ≡ cell_behind keys.now column }
+{
+    let cell = cells_up_to(keys, column);
+    let from = start_of(keys, cell);
+    if column < from {
+        None
+    } else {
+        Some(cell + (column - from))
+    }
+}
+
+/// How many cells of these keys begin before so many columns.
+fn cells_up_to(keys: &[FormatKey], column: usize) -> usize
+    requires { AreCells 0 keys.now }
+    ensures few { result ≤ length keys.now }
+    ensures before { (cell : ℕ) → cell < result → start_of keys.now cell < column }
+    ensures behind { (cell : ℕ) → result ≤ cell → cell < length keys.now
+        → column ≤ start_of keys.now cell }
+{
+    let mut low = 0;
+    let mut high = keys.len();
+    while low < high {
+        let middle = low + (high - low) / 2;
+        if start_of(keys, middle) < column {
+            low = middle + 1;
+        } else {
+            high = middle;
+        }
+    }
+    low
+}

@@ -1,0 +1,109 @@
+-- The measures of blocks, and elements whose blocks have them.
+use Rattle.std.proofs.Common.{◌≡◌, ℕ, suc, ◌+◌, ◌*◌, ◌/◌, ◌<◌, ◌≤◌, ◌^◌, min, max, Bool, true, false, List, [], ◌∷◌, ◌++◌, length, drop, refl, sym, ap, ◌∙◌, arith, if◌then◌else◌}
+use Rattle.std.specs.List.{AllByRecursion}
+use Rattle.std.proofs.lemmas.List.{length-map, map-append}
+use Rattle.std.proofs.lemmas.Nat.{div_below}
+use Rattle.std.proofs.Math.Nat.{mul-le-mul_left}
+use Rattle.tbl_format.specs.Cells.{by_cells}
+use Rattle.tbl_format.specs.Format.{FormatRow}
+use Rattle.tbl_format.specs.declared.format.Asked.{Asked}
+use Rattle.tbl_layout.specs.Columns.{columns_from, equalled, gaps, total, with_widths}
+use Rattle.tbl_layout.specs.Entries.{Block, Command, Content, Element, Repeated, Row, Rule, Ruled, Short, Text, completed}
+use Rattle.tbl_layout.specs.RuleKeys.{under_keys}
+use Rattle.tbl_layout.specs.Spans.{all_fitted, all_wide, columns_laid, filled, filled_element, filled_fields, filled_in, has_least, least_of, measure_of}
+use Rattle.tbl_layout.specs.declared.bars.Bars.{Bars}
+use Rattle.tbl_layout.specs.declared.data_lines.RuleSign.{RuleSign}
+use Rattle.tbl_layout.proofs.RowStands.{all-under}
+
+-- a measure is a number of 32 bits where the length of lines is one
+measure-small : (asks : Bool) (widths line_length count columns : ℕ) → line_length < 2 ^ 32 → columns ≤ count
+    → (if asks then min widths 4294967295 else max 1 (line_length * columns / (count + 1))) < 2 ^ 32
+measure-small true widths line_length count columns line few = omega arith
+measure-small false widths line_length count columns line few =
+    let product = mul-le-mul_left line_length few in
+    let part = div_below (line_length * columns) (count + 1) (line_length + 1) (omega arith) (omega (arith, product)) in
+    omega (arith, part, line)
+
+pub measure_of-small : (bars : Bars) (line_length count : ℕ) (asked : List Asked) → line_length < 2 ^ 32 → length asked ≤ count
+    → measure_of bars line_length count asked < 2 ^ 32
+measure_of-small bars line_length count asked line few =
+    measure-small (has_least asked) (least_of asked + total (gaps bars asked)) line_length count (length asked) line few
+
+-- a block's measure is set anew
+pub filled_in-twice : (measure other : ℕ) (field : Content) → filled_in measure (filled_in other field) ≡ filled_in measure field
+filled_in-twice measure other (Text bytes) = refl
+filled_in-twice measure other (Block m lines) = refl
+filled_in-twice measure other (Ruled sign) = refl
+filled_in-twice measure other Short = refl
+filled_in-twice measure other (Repeated b) = refl
+
+module _ (bars : Bars) (line_length : ℕ) where
+  module _ (count : ℕ) where
+    pub filled_fields-twice : (cells : List (List Asked)) (fields : List Content)
+        → filled_fields bars line_length count cells (filled_fields bars line_length count cells fields) ≡ filled_fields bars line_length count cells fields
+    filled_fields-twice [] fields = refl
+    filled_fields-twice (asked ∷ cells) [] = refl
+    filled_fields-twice (asked ∷ cells) (field ∷ fields) =
+        let measure = measure_of bars line_length count asked in
+        ap (λ (first : Content). first ∷ filled_fields bars line_length count cells (filled_fields bars line_length count cells fields)) (filled_in-twice measure measure field)
+        ∙ ap (λ (rest : List Content). filled_in measure field ∷ rest) (filled_fields-twice cells fields)
+
+    pub length-filled_fields : (cells : List (List Asked)) (fields : List Content)
+        → length (filled_fields bars line_length count cells fields) ≡ length fields
+    length-filled_fields [] fields = refl
+    length-filled_fields (asked ∷ cells) [] = refl
+    length-filled_fields (asked ∷ cells) (field ∷ fields) = ap (λ (n : ℕ). suc n) (length-filled_fields cells fields)
+
+    -- fields that aren't blocks stay behind those of a row
+    abbrev IsUnfilled : Content → Type 0
+    IsUnfilled field = (measure : ℕ) → filled_in measure field ≡ field
+
+    unfilled : (cells : List (List Asked)) (fields : List Content) → AllByRecursion IsUnfilled fields → filled_fields bars line_length count cells fields ≡ fields
+    unfilled [] fields none = refl
+    unfilled (asked ∷ cells) [] none = refl
+    unfilled (asked ∷ cells) (field ∷ fields) none =
+        ap (λ (first : Content). first ∷ filled_fields bars line_length count cells fields) (none.0 (measure_of bars line_length count asked))
+        ∙ ap (λ (rest : List Content). field ∷ rest) (unfilled cells fields none.1)
+
+    filled-behind : (cells : List (List Asked)) (fields more : List Content) → AllByRecursion IsUnfilled more
+        → filled_fields bars line_length count cells (fields ++ more) ≡ filled_fields bars line_length count cells fields ++ more
+    filled-behind [] fields more none = refl
+    filled-behind (asked ∷ cells) [] more none = unfilled (asked ∷ cells) more none
+    filled-behind (asked ∷ cells) (field ∷ fields) more none =
+        ap (λ (rest : List Content). filled_in (measure_of bars line_length count asked) field ∷ rest) (filled-behind cells fields more none)
+
+    -- a row is completed before or after its blocks get their measures
+    pub filled-completed : (cells : List (List Asked)) (format : FormatRow) (fields : List Content)
+        → filled_fields bars line_length count cells (completed format fields) ≡ completed format (filled_fields bars line_length count cells fields)
+    filled-completed cells format fields =
+        filled-behind cells fields (under_keys Ruled (Text []) (drop (length fields) format.keys))
+        (all-under IsUnfilled Ruled (Text []) (drop (length fields) format.keys) (λ (s : RuleSign) (measure : ℕ). refl) (λ (measure : ℕ). refl))
+        ∙ ap (λ (n : ℕ). filled_fields bars line_length count cells fields ++ under_keys Ruled (Text []) (drop n format.keys))
+        (sym (length-filled_fields cells fields))
+
+  -- elements whose blocks have their measures keep them
+  filled_element-twice : (asked : List Asked) (e : Element)
+      → filled_element bars line_length asked (filled_element bars line_length asked e) ≡ filled_element bars line_length asked e
+  filled_element-twice asked (Row rules format fields) =
+      ap (λ (fs : List Content). Row rules format fs) (filled_fields-twice (length asked) (by_cells 0 format.keys asked) fields)
+  filled_element-twice asked (Rule sign) = refl
+  filled_element-twice asked (Command bytes) = refl
+
+  pub filled-twice : (asked : List Asked) (elements : List Element)
+      → filled bars line_length asked (filled bars line_length asked elements) ≡ filled bars line_length asked elements
+  filled-twice asked [] = refl
+  filled-twice asked (e ∷ elements) =
+      ap (λ (first : Element). first ∷ filled bars line_length asked (filled bars line_length asked elements)) (filled_element-twice asked e)
+      ∙ ap (λ (rest : List Element). filled_element bars line_length asked e ∷ rest) (filled-twice asked elements)
+
+  pub length-filled : (asked : List Asked) (elements : List Element) → length (filled bars line_length asked elements) ≡ length elements
+  length-filled asked elements = length-map elements (filled_element bars line_length asked)
+
+  pub filled-append : (asked : List Asked) (front behind : List Element)
+      → filled bars line_length asked (front ++ behind) ≡ filled bars line_length asked front ++ filled bars line_length asked behind
+  filled-append asked front behind = map-append (filled_element bars line_length asked) front behind
+
+  pub columns_laid-filled : (asked : List Asked) (elements : List Element)
+      → columns_laid bars line_length asked (filled bars line_length asked elements) ≡ columns_laid bars line_length asked elements
+  columns_laid-filled asked elements =
+      ap (λ (all : List Element). equalled asked (all_fitted bars asked (all_wide all) (with_widths asked (columns_from all 0 asked)))) (filled-twice asked elements)
