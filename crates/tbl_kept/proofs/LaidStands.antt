@@ -21,7 +21,7 @@ use Rattle.tbl_layout.proofs.RowStands.{wide-completed}
 use Rattle.tbl_layout.proofs.Spreading.{all_fitted-append}
 use Rattle.tbl_layout.proofs.TextStands.{text-stands}
 use Rattle.tbl_kept.specs.Rows.{AreLaid, Command, ElementLaid, KeptElement, Row, Rule, elements_of}
-use Rattle.tbl_kept.specs.RowsLaying.{fitted_rows, wide_in}
+use Rattle.tbl_kept.specs.RowsLaying.{fitted_rows}
 use Rattle.tbl_kept.proofs.CellSteps.{first_key, first_key-at}
 use Rattle.tbl_kept.proofs.ColumnsHeld.{rest-next}
 

@@ -7,6 +7,7 @@ pub mod RowsKeeping
 pub mod RowPlaces
 pub mod Stepping
 pub mod RowsFilled
+pub mod RowsUnfilled
 pub mod BlocksHeld
 pub mod RowSteps
 pub mod RowsNext

@@ -18,8 +18,8 @@ use Rattle.tbl_layout.specs.declared.entry.Entry.{Entry}
 use Rattle.tbl_layout.specs.declared.entry.EntryKind.{EntryKind}
 use Rattle.tbl_layout.specs.declared.entry.EntryKind.TheVariants.{Block as BlockKind, Repeated as RepeatedKind, Ruled as RuledKind, Short as ShortKind, Split as SplitKind, Text as TextKind}
 use Rattle.tbl_layout.proofs.BlocksFilled.{filled-completed}
-use Rattle.tbl_kept.specs.Rows.{AreKept, AreLaid, Command, ElementKept, ElementLaid, KeptElement, Row, Rule, element_of, elements_of, fields_of, height_of, rows_in_front}
-use Rattle.tbl_kept.specs.RowsLaying.{FieldLies, FieldsLie, block_stands_by, laid_by, laid_element, laid_entries, laid_entry, laid_row}
+use Rattle.tbl_kept.specs.Rows.{AreKept, AreLaid, Command, ElementKept, ElementLaid, KeptElement, Row, Rule, element_of, elements_of, height_of, rows_in_front}
+use Rattle.tbl_kept.specs.RowsLaying.{FieldLies, FieldsLie, block_stands_by, laid_by, laid_element, laid_entries}
 use Rattle.tbl_kept.proofs.Stepping.{greatest-more}
 
 -- a field that is kept is laid out once it is filled, and is the same text, or the same block in its measure

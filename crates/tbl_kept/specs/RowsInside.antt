@@ -1,7 +1,8 @@
 -- How the rows of a table lie in lists.
-use Rattle.std.specs.Prelude.{◌≡◌, ℕ, ◌≤◌, List, [], ◌∷◌, drop, length, map, vec_capacity}
+use Rattle.std.specs.Prelude.{◌≡◌, ℕ, ◌≤◌, false, List, [], ◌∷◌, drop, length, map, vec_capacity}
 use Rattle.std.specs.List.{slice_range}
 use Rattle.tbl_kept.specs.Rows.{Command, KeptElement, KeptRows, Row, Rule}
+use Rattle.tbl_kept.specs.RowsLaying.{NoBlocks}
 use Rattle.tbl_kept.specs.declared.rows.Element.{Element}
 use Rattle.tbl_kept.specs.declared.rows.Element.TheVariants.{Command as OneCommand, Row as OneRow, Rule as OneRule}
 use Rattle.tbl_kept.specs.declared.rows.TableRows.TheInside.{Inside}
@@ -30,10 +31,11 @@ LieBetween from (OneRow row ∷ elements) to = (from ≡ row.from) × (from ≤ 
 LieBetween from (OneRule sign ∷ elements) to = LieBetween from elements to
 LieBetween from (OneCommand start end ∷ elements) to = LieBetween from elements to
 
--- the room is reserved, and the rows lie in front of the one that is begun
+-- the room is reserved, the rows lie in front of the one that is begun, and no field is a block where it says that there is none
 pub record IsSound (a : Inside) : Type 0 where
   pub entries_reserved : a.entry_room ≤ vec_capacity a.entries
   pub elements_reserved : a.element_room ≤ vec_capacity a.elements
   pub columns_reserved : a.column_room ≤ vec_capacity a.columns
   pub start : a.row_start ≤ length a.entries.items
   pub rows : LieBetween 0 a.elements.items a.row_start
+  pub no_blocks : a.has_block ≡ false → NoBlocks a.entries.items

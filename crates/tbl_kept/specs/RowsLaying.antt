@@ -1,5 +1,5 @@
 -- The rows of a table, as they are laid out: their blocks are filled, and columns hold them.
-use Rattle.std.specs.Prelude.{◌≡◌, ℕ, ◌<◌, ◌≤◌, List, [], ◌∷◌, ◌++◌, drop, get_or, length, map, set, take}
+use Rattle.std.specs.Prelude.{◌≡◌, ℕ, ◌<◌, ◌≤◌, Bool, true, false, List, [], ◌∷◌, ◌++◌, drop, get_or, length, map, set, take}
 use Rattle.std.specs.List.{AllByRecursion}
 use Rattle.tbl_format.specs.Cells.{by_cells}
 use Rattle.tbl_format.specs.Format.{FormatRow}
@@ -113,6 +113,14 @@ pub record FieldLies (bytes : List ℕ) (e : Entry) : Type 0 where
 
 abbrev pub FieldsLie : List ℕ → List Entry → Type 0
 FieldsLie bytes entries = AllByRecursion (FieldLies bytes) entries
+
+-- whether a field is a block, and fields of which none is
+abbrev pub is_block : EntryKind → Bool
+is_block (BlockKind b) = true
+is_block kind = false
+
+abbrev pub NoBlocks : List Entry → Type 0
+NoBlocks entries = AllByRecursion (λ (e : Entry). is_block e.kind ≡ false) entries
 
 -- a field that isn't a filled block
 abbrev pub IsOpenedKind : EntryKind → Type 0

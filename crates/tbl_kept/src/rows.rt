@@ -4,7 +4,7 @@ ghost use Rattle.std.specs.Prelude.{◌≡◌, ℕ, suc, ◌+◌, ◌<◌, ◌�
 ghost use Rattle.std.specs.Prelude.{IfOk};
 ghost use Rattle.tbl_format.specs.Cells.{cell_count};
 ghost use Rattle.tbl_format.specs.FormatRows.{AreWithin};
-ghost use Rattle.tbl_kept.specs.RowsLaying.{AreOpened};
+ghost use Rattle.tbl_kept.specs.RowsLaying.{AreOpened, is_block};
 
 pub use crate::held_columns::key_at;
 use crate::held_columns::{add_columns, hold};
@@ -13,7 +13,7 @@ use std::marker::Model;
 use tbl_format::format::FormatKey;
 use tbl_layout::columns::Column;
 use tbl_layout::data_lines::RuleSign;
-use tbl_layout::entry::Entry;
+use tbl_layout::entry::{Entry, EntryKind};
 
 mod laying;
 
@@ -52,6 +52,8 @@ pub struct TableRows {
     columns: Vec<Column>,
     /// Where the fields of the row that is begun begin.
     row_start: usize,
+    /// Whether a field may be a block.
+    has_block: bool,
     entry_room: usize,
     element_room: usize,
     column_room: usize,
@@ -102,6 +104,7 @@ impl TableRows {
             elements: Vec::with_capacity(alloc, elements)?,
             columns: Vec::with_capacity(alloc, columns)?,
             row_start: 0,
+            has_block: false,
             entry_room: entries,
             element_room: elements,
             column_room: columns,
@@ -116,6 +119,7 @@ impl TableRows {
         self.elements.clear();
         self.columns.clear();
         self.row_start = 0;
+        self.has_block = false;
     }
 
     /// A format is whole, with which there are so many columns.
@@ -138,6 +142,7 @@ impl TableRows {
         requires { entries_of self.old < self.old.entry_room }
         ensures { self.new ≡ with_entry entry self.old }
     {
+        self.has_block |= is_block(entry);
         self.entries.push_reserved(entry);
     }
 
@@ -229,4 +234,11 @@ impl TableRows {
     {
         self.columns.as_slice()
     }
+}
+
+/// Whether a field is a block.
+fn is_block(entry: Entry) -> bool
+    ensures { result ≡ is_block entry.kind }
+{
+    matches!(entry.kind, EntryKind::Block(_))
 }

@@ -54,7 +54,7 @@ impl TableRows {
             asked,
         };
         self.set_bars(asked);
-        self.fill_rows(escapes, bytes, format, filling);
+        self.fill_blocks(escapes, bytes, format, filling);
         self.set_needed(asked);
         self.fit_rows(format, bars);
         self.make_equal(asked);
@@ -139,6 +139,29 @@ impl TableRows {
             { columns = placed_with bars more asked.now self.old.columns } }
     {
         set_starts(self.columns.as_mut_slice(), bars, asked, more);
+    }
+
+    /// The blocks of all rows are filled, if there may be one.
+    fn fill_blocks(
+        &mut self,
+        escapes: &mut OpenEscapes,
+        bytes: &[u8],
+        format: &FormatRows,
+        filling: Filling<'_>,
+    )
+        requires small { length bytes.now < 2 ^ 32 }
+        requires asked { filling.asked.now ≡ format.now.format.asked }
+        requires few { length filling.asked.now < 2 ^ 32 }
+        requires kept { AllByRecursion (ElementKept bytes.now (all_rows format.now.format)
+            (length self.old.columns)) self.old.elements }
+        requires columns { length self.old.columns ≡ length format.now.format.asked }
+        ensures value { self.new ≡ all_laid bytes.now (all_rows format.now.format)
+            filling.entry.bars filling.entry.line_length filling.entry.asked.now self.old }
+        ensures room { escapes.new.room ≡ escapes.old.room }
+    {
+        if self.has_block {
+            self.fill_rows(escapes, bytes, format, filling);
+        }
     }
 
     /// The blocks of all rows are filled.

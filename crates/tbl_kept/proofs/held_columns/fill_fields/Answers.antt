@@ -1,4 +1,4 @@
-use Rattle.std.proofs.Common.{◌≡◌, ◌+◌, ◌-◌, ◌<◌, ◌≤◌, ℕ, List, [], ◌∷◌, ◌++◌, length, take, drop, get_or, set, refl, sym, subst, ap, ◌∙◌, arith}
+use Rattle.std.proofs.Common.{◌≡◌, ◌+◌, ◌-◌, ◌<◌, ◌≤◌, ℕ, List, [], ◌∷◌, ◌++◌, length, take, drop, set, refl, sym, subst, ap, ◌∙◌, arith}
 use Rattle.std.proofs.lemmas.List.{append-nil, drop-set-lt, drop_all, length-set, take-append-drop, take_all}
 use Rattle.tbl_format.specs.Cells.{by_cells}
 use Rattle.tbl_format.specs.declared.format.Asked.{Asked}
@@ -11,7 +11,7 @@ use Rattle.tbl_kept.specs.Rows.{height_of, held_by}
 use Rattle.tbl_kept.specs.RowsLaying.{FieldLies, block_stands, laid_entries}
 use Rattle.tbl_kept.proofs.CellSteps.{CellsLeft, cell-within, cells-behind, cells-left, is-first, left-order}
 use Rattle.tbl_kept.proofs.RowsFilled.{height_of-more}
-use Rattle.tbl_kept.proofs.RowsNext.{laid-set, laid_from, laid_in, next-held, next-laid, no_entry}
+use Rattle.tbl_kept.proofs.RowsNext.{laid-set, laid_from, next-held, next-laid, no_entry}
 use Rattle.tbl_kept.proofs.Stepping.{next-all-set}
 use Rattle.tbl_kept.proofs.held_columns.fill_fields.Goals as goal
 

@@ -1,4 +1,4 @@
-use Rattle.std.proofs.Common.{◌≡◌, ◌-◌, ◌<◌, ℕ, length, ap, ◌∙◌, arith}
+use Rattle.std.proofs.Common.{◌-◌, ℕ, length, ap, ◌∙◌, arith}
 use Rattle.std.specs.List.{slice_range}
 use Rattle.tbl_layout.specs.Columns.{alone}
 use Rattle.tbl_layout.specs.KeptEntries.{stands_of}

@@ -1,6 +1,5 @@
-use Rattle.std.proofs.Common.{◌≡◌, ◌+◌, ◌-◌, ◌<◌, ◌≤◌, ℕ, List, length, drop, get_or, refl, sym, subst, ap, ◌∙◌, arith}
-use Rattle.tbl_layout.specs.KeptEntries.{stands_of}
-use Rattle.tbl_kept.proofs.CellSteps.{CellsLeft, cell-within, cells-behind, cells-left, is-first, left-order}
+use Rattle.std.proofs.Common.{◌-◌, ◌<◌, length, drop, refl, ◌∙◌, arith}
+use Rattle.tbl_kept.proofs.CellSteps.{cell-within, cells-behind, cells-left, is-first, left-order}
 use Rattle.tbl_kept.proofs.FieldsFitted.{next-fitted, none-fitted}
 use Rattle.tbl_kept.proofs.held_columns.fit_fields.Goals as goal
 

@@ -1,4 +1,4 @@
-use Rattle.std.proofs.Common.{◌≡◌, ◌-◌, length, min, drop}
+use Rattle.std.proofs.Common.{◌≡◌, ◌-◌, length, drop}
 use Rattle.tbl_layout.specs.KeptEntries.{stands_of}
 use Rattle.tbl_layout.specs.Spans.{all_fitted, wide_entries}
 use Rattle.tbl_kept.proofs.CellSteps.{CellsLeft}

@@ -1,12 +1,11 @@
-use Rattle.std.proofs.Common.{◌≡◌, ◌+◌, ◌-◌, ◌<◌, ℕ, List, ◌++◌, length, take, drop, get_or, refl, sym, subst, ap, ◌∙◌, arith}
+use Rattle.std.proofs.Common.{◌+◌, ◌-◌, ◌<◌, ℕ, List, ◌++◌, length, take, drop, get_or, refl, sym, subst, ap, ◌∙◌, arith}
 use Rattle.std.proofs.lemmas.List.{drop_all, drop_more, take-append-drop}
 use Rattle.tbl_layout.specs.Columns.{row_stands}
 use Rattle.tbl_layout.specs.KeptEntries.{stands_of}
-use Rattle.tbl_layout.specs.declared.columns.Column.{Column}
 use Rattle.tbl_layout.specs.declared.entry.Entry.{Entry}
 use Rattle.tbl_kept.specs.Rows.{held_by}
 use Rattle.tbl_kept.specs.RowsLaying.{IsOpenedKind}
-use Rattle.tbl_kept.proofs.CellSteps.{CellIsWithin, CellsLeft, cell-within, cells-behind, cells-left, is-first, left-order}
+use Rattle.tbl_kept.proofs.CellSteps.{CellsLeft, cell-within, cells-behind, cells-left, is-first, left-order}
 use Rattle.tbl_kept.proofs.RowsNext.{next-held, no_entry}
 use Rattle.tbl_kept.proofs.Stepping.{next-all}
 use Rattle.tbl_kept.proofs.held_columns.hold.Goals as goal

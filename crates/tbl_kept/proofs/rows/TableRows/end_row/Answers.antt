@@ -32,6 +32,7 @@ invariant_of-self c =
       start = omega (arith, c.len-self-inside.ensures, a.entries.ok.0);
       rows = rw (c.push_reserved.ensures.items, ← last)
           (LieBetween-row 0 a.row_start a.elements.items _ refl (omega (arith, c.self.invariant.start, c.len.ensures, a.entries.ok.0)) c.self.invariant.rows);
+      no_blocks = c.self.invariant.no_blocks;
     }
 
 pub returns : goal.returns

@@ -4,8 +4,10 @@ use Rattle.std.proofs.lemmas.List.{with_items_is}
 use Rattle.tbl_format.specs.RowsServed.{all_rows, row_at}
 use Rattle.tbl_text.proofs.BlockSlices.{length-slice_range}
 use Rattle.tbl_kept.specs.Rows.{Command, ElementKept, KeptElement}
+use Rattle.tbl_kept.specs.RowsLaying.{NoBlocks}
 use Rattle.tbl_kept.proofs.RowPlaces.{LieBetween-at, LieBetween-set, kept-at, length-changed, length-kept, part-changed}
 use Rattle.tbl_kept.proofs.RowsFilled.{fields-lie, length-laid}
+use Rattle.tbl_kept.proofs.RowsUnfilled.{no_blocks-changed, no_blocks-laid, no_blocks-part}
 use Rattle.tbl_kept.proofs.RowsLaidOut.{row-laid}
 use Rattle.tbl_kept.proofs.rows.TableRows.fill_row.Goals as goal
 
@@ -80,6 +82,11 @@ invariant_of-self c =
       columns_reserved = c.self.invariant.columns_reserved;
       start = rw (c.as_mut_slice.ensures.value, written) (omega (arith, c.self.invariant.start, whole));
       rows = LieBetween-set r c.fill_fields-height.result 0 a.row_start c.args.at a.elements.items c.index.result.now more is c.self.invariant.rows;
+      no_blocks = λ none. rw (c.as_mut_slice.ensures.value, written)
+          (no_blocks-changed a.entries.items part r.from (r.to - r.from) (c.self.invariant.no_blocks none)
+          (subst NoBlocks (sym (rw c.as_mut_slice.ensures.value at c.fill_fields-height.ensures.entries))
+          (no_blocks-laid c.args.bytes.now c.args.filling.bars c.args.filling.line_length c.args.filling.asked.now c.row_of_all-keys.result.now _
+          (no_blocks-part a.entries.items r.from r.to (c.self.invariant.no_blocks none)))));
     }
 
 pub returns-in-Row-clause-value : goal.returns-in-Row-clause-value

@@ -1,12 +1,12 @@
-use Rattle.std.proofs.Common.{◌≡◌, ◌<◌, List, [], length, map, sym, subst, ap, ◌∙◌, arith}
+use Rattle.std.proofs.Common.{◌≡◌, ◌<◌, List, [], length, sym, subst, ap, ◌∙◌, arith}
 use Rattle.std.specs.List.{slice_range}
 use Rattle.tbl_format.specs.RowsServed.{all_rows, row_at}
 use Rattle.tbl_format.specs.declared.format.FormatKey.{FormatKey}
 use Rattle.tbl_layout.specs.KeptEntries.{stands_of}
 use Rattle.tbl_layout.specs.Spans.{Wide, all_fitted, wide_entries}
-use Rattle.tbl_kept.specs.Rows.{Command, KeptElement, Row}
-use Rattle.tbl_kept.specs.RowsInside.{kept_by, kept_in}
-use Rattle.tbl_kept.specs.RowsLaying.{element_at, wide_in}
+use Rattle.tbl_kept.specs.Rows.{Command, KeptElement}
+use Rattle.tbl_kept.specs.RowsInside.{kept_by}
+use Rattle.tbl_kept.specs.RowsLaying.{wide_in}
 use Rattle.tbl_kept.proofs.FieldsFitted.{none-wide}
 use Rattle.tbl_kept.proofs.RowPlaces.{LieBetween-at, kept-at, length-kept}
 use Rattle.tbl_kept.proofs.rows.TableRows.fit_row.Goals as goal

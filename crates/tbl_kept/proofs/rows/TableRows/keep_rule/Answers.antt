@@ -11,4 +11,5 @@ invariant_of-self c =
       columns_reserved = c.self.invariant.columns_reserved;
       start = c.self.invariant.start;
       rows = rw c.push_reserved.ensures.items (LieBetween-rule 0 a.row_start c.args.sign a.elements.items c.self.invariant.rows);
+      no_blocks = c.self.invariant.no_blocks;
     }
