@@ -9,6 +9,7 @@ pub mod TextStands
 pub mod UnderKeys
 pub mod RowStands
 pub mod LayoutLaws
+pub mod PlacesBetween
 pub mod Spreading
 pub mod BlocksFilled
 pub mod CellsAsOne

@@ -232,6 +232,10 @@ bar_place count c d = let end = c.start + c.width in end + (d.start - end - coun
 abbrev pub bars_end : Column → Column → ℕ
 bars_end c d = let count = min (max 1 c.bars) (d.start - (c.start + c.width)) in bar_place count c d + count
 
+-- and where they begin: a rule that rules the second column alone has them from there on
+abbrev pub bars_begin : Column → Column → ℕ
+bars_begin c d = bar_place (min (max 1 c.bars) (d.start - (c.start + c.width))) c d
+
 -- where an entry begins in its column
 abbrev pub shift : Key → ℕ → ℕ
 shift Right spare = spare

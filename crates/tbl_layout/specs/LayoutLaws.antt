@@ -1,8 +1,9 @@
 -- What holds of where columns and bars stand, by no more than their places and widths (Lesk, "Tbl": Options, Format).
 use Rattle.std.specs.Prelude.{◌≡◌, ℕ, ◌+◌, ◌<◌, ◌≤◌, true, false, List, [], ◌∷◌, map, ⊤}
 use Rattle.tbl_format.specs.declared.format.Asked.{Asked}
+use Rattle.tbl_options.specs.declared.options.Boxing.{Boxing}
 use Rattle.tbl_layout.specs.Columns.{Laid, bar_place, gaps, laid_by, total, width_of_all}
-use Rattle.tbl_layout.specs.Widths.{inner_bars, least_separation, left_edge, right_edge, separation}
+use Rattle.tbl_layout.specs.Widths.{edge_bars, inner_bars, least_separation, left_edge, right_edge, separation}
 use Rattle.tbl_layout.specs.declared.bars.Bars.{Bars}
 use Rattle.tbl_layout.specs.declared.columns.Column.{Column}
 
@@ -40,6 +41,24 @@ pub record AreInOrder (bars : Bars) (asked : List Asked) (columns : List Column)
   pub first : first_start (left_edge bars) laid.columns ≡ left_edge bars
   pub apart : AreApart bars asked laid.columns
   pub last : last_end (left_edge bars) laid.columns + right_edge bars asked ≡ laid.width
+
+-- each next column begins behind the one before it, and behind as many places as that has bars behind it in a picture that is boxed so
+abbrev pub AreBehind : Boxing → List Column → Type 0
+AreBehind boxing [] = ⊤
+AreBehind boxing (c ∷ []) = ⊤
+AreBehind boxing (c ∷ d ∷ columns) = (c.start + c.width + inner_bars boxing c.bars ≤ d.start) × AreBehind boxing (d ∷ columns)
+
+-- how many bars the last of some columns has behind it
+abbrev pub last_behind : List Column → ℕ
+last_behind [] = 0
+last_behind (c ∷ []) = c.bars
+last_behind (c ∷ d ∷ columns) = last_behind (d ∷ columns)
+
+-- columns stand in order in a picture that is so wide, and the bars of its edges in front of them and behind them
+pub record StandInOrder (bars : Bars) (width : ℕ) (columns : List Column) : Type 0 where
+  pub left : edge_bars bars.boxing bars.front ≤ first_start (edge_bars bars.boxing bars.front) columns
+  pub between : AreBehind bars.boxing columns
+  pub right : last_end 0 columns + edge_bars bars.boxing (last_behind columns) ≤ width
 
 -- so many bars between two columns have a blank at each side
 pub record HaveBlanks (count : ℕ) (c d : Column) : Type 0 where

@@ -1,10 +1,10 @@
 //! What holds of columns and of the bars between them, as contracts of functions that do nothing.
 
-ghost use Rattle.std.specs.Prelude.{◌≡◌, ℕ, Bool, List, length};
+ghost use Rattle.std.specs.Prelude.{◌≡◌, ℕ, Bool, List, length, map};
 ghost use Rattle.tbl_format.specs.declared.format.Asked.{Asked};
 ghost use Rattle.tbl_layout.specs.Columns.{IsLeast, laid_by};
 ghost use Rattle.tbl_layout.specs.Entries.{Element};
-ghost use Rattle.tbl_layout.specs.LayoutLaws.{AreInOrder, HaveRoom, IsAsWide};
+ghost use Rattle.tbl_layout.specs.LayoutLaws.{AreInOrder, HaveRoom, IsAsWide, StandInOrder};
 ghost use Rattle.tbl_layout.specs.SpanLaws.{AreFitted, HoldAll};
 ghost use Rattle.tbl_layout.specs.Spans.{Wide};
 ghost use Rattle.tbl_layout.specs.declared.bars.Bars.{Bars};
@@ -30,6 +30,16 @@ pub fn in_order()
     ensures { (bars : Bars) (is_expanded : Bool) (line_length : ℕ) (asked : List Asked)
         (columns : List Column) → length columns ≡ length asked
         → AreInOrder bars asked columns (laid_by bars is_expanded line_length asked columns) }
+{}
+
+/// Between columns that have their places there are as many places as the bars that they ask for, and
+/// at the edges of the picture too.
+pub fn places_between()
+    ensures { (bars : Bars) (is_expanded : Bool) (line_length : ℕ) (asked : List Asked)
+        (columns : List Column) → map (λ (c : Column). c.bars) columns
+        ≡ map (λ (a : Asked). a.bars) asked
+        → StandInOrder bars (laid_by bars is_expanded line_length asked columns).width
+        (laid_by bars is_expanded line_length asked columns).columns }
 {}
 
 /// Bars between two columns have a blank at each side, where the columns are as far apart as these

@@ -12,3 +12,4 @@ pub mod WordRuns
 pub mod AllLaid
 pub mod AllEntries
 pub mod GivenFields
+pub mod RulesBeside

@@ -1,12 +1,12 @@
 -- The lines of a table's picture, as the formatter reads them (Lesk, "Tbl": Formatting).
-use Rattle.std.specs.Prelude.{ℕ, zero, suc, nat_lt, ◌+◌, ◌-◌, max, Bool, true, false, ◌&&◌, List, [], ◌∷◌, ◌++◌, length, map, replicate, get_or, Option, None, Some, is_none, is_some, codes, if◌then◌else◌, ◌==◌}
+use Rattle.std.specs.Prelude.{ℕ, zero, suc, nat_lt, ◌+◌, ◌-◌, max, Bool, true, false, ◌&&◌, List, [], ◌∷◌, ◌++◌, length, map, replicate, get_or, Option, None, Some, is_some, codes, if◌then◌else◌, ◌==◌}
 use Rattle.roff_source.specs.Bytes.{blank, newline}
 use Rattle.tbl_format.specs.Cells.{cell_behind}
 use Rattle.tbl_format.specs.Format.{FormatRow}
 use Rattle.tbl_format.specs.declared.format.FormatKey.{FormatKey}
 use Rattle.tbl_format.specs.declared.format.Key.{Key}
 use Rattle.tbl_options.specs.declared.options.Boxing.{Boxing}
-use Rattle.tbl_layout.specs.Columns.{bar_place, bars_end, greatest, place_in, place_of_rule, stands, widest_entry}
+use Rattle.tbl_layout.specs.Columns.{bar_place, bars_begin, bars_end, greatest, place_in, place_of_rule, stands, widest_entry}
 use Rattle.tbl_layout.specs.DataLines.{is_same_sign, sign_byte}
 use Rattle.tbl_layout.specs.Entries.{Command, Content, Element, Repeated, Row, Rule, Ruled, Run, Short, blanks, columns_of, field_at, key_at, lines_of_field, up_to_last_glyph}
 use Rattle.tbl_layout.specs.LayoutLaws.{first_start, last_end}
@@ -286,42 +286,40 @@ abbrev pub rule_to : RuleLine → ℕ → List Column → ℕ
 rule_to (Whole sign) right columns = right
 rule_to (OfKeys format) right columns = last_end 0 columns
 
--- whether the rule over a column goes on over the next one
-abbrev pub is_same_rule : Option RuleSign → Option RuleSign → Bool
-is_same_rule None next = is_none next
-is_same_rule (Some sign) None = false
-is_same_rule (Some sign) (Some next) = is_same_sign sign next
-
-abbrev pub goes_on : RuleLine → ℕ → Bool
-goes_on line column = is_same_rule (sign_over line column) (sign_over line (suc column))
-
--- a rule from a place on, if there is one, which so many bars cross at another place, and which ends there, or goes on with the next
--- column's; else these bars
-abbrev pub mark_behind : Option RuleSign → Bool → ℕ → ℕ → ℕ → ℕ → Mark
-mark_behind None is_on from count at end = record { at = at; bytes = replicate count bar }
-mark_behind (Some sign) is_on from count at end = record {
-  at = from;
-  bytes = replicate (at - from) (sign_byte sign)
-      ++ (replicate count crossing ++ (if is_on then [] else replicate (end - (at + count)) (sign_byte sign)));
-}
-
 -- a rule from a place up to another, if there is one
 abbrev pub last_mark : Option RuleSign → ℕ → ℕ → Mark
 last_mark None from to = record { at = from; bytes = [] }
 last_mark (Some sign) from to = record { at = from; bytes = replicate (to - from) (sign_byte sign) }
 
--- what a line of rules draws from a column on, over columns and behind each but the last: its rule over the first begins at a place, and
--- that over the last ends at another
-abbrev pub marks_from : Bars → RuleLine → Neighbour → Neighbour → ℕ → ℕ → ℕ → List Column → List Mark
-marks_from bars line above below column from to [] = last_mark (sign_over line column) from to ∷ []
-marks_from bars line above below column from to (c ∷ []) = last_mark (sign_over line column) from to ∷ []
-marks_from bars line above below column from to (c ∷ d ∷ columns) =
-    let count = met_behind bars line above below column in
-    let at = bar_place count c d in
-    let is_on = goes_on line column in
-    if is_on && count == 0 then marks_from bars line above below (suc column) from to (d ∷ columns)
-    else mark_behind (sign_over line column) is_on from count at (bars_end c d)
-    ∷ marks_from bars line above below (suc column) (if is_on then at + count else bars_end c d) to (d ∷ columns)
+-- a rule from a place up to where the places of bars end between two columns, which so many bars cross
+abbrev pub ruled_places : RuleSign → ℕ → ℕ → Column → Column → Mark
+ruled_places sign from count c d = let at = bar_place count c d in record {
+  at = from;
+  bytes = replicate (at - from) (sign_byte sign) ++ (replicate count crossing ++ replicate (bars_end c d - (at + count)) (sign_byte sign));
+}
+
+-- what stands behind a column up to the end of the places of bars there, where so many bars meet: the rule over the column; or else, at
+-- these places alone, one in front of the next column; or else the bars
+abbrev pub places_mark : Option RuleSign → Option RuleSign → ℕ → Column → Column → Mark
+places_mark (Some sign) next count c d = ruled_places sign (c.start + c.width) count c d
+places_mark None (Some sign) count c d = ruled_places sign (bars_begin c d) count c d
+places_mark None None count c d = record { at = bar_place count c d; bytes = replicate count bar }
+
+-- how the places of bars in front of a column are ruled where the column in front of it isn't: by a rule over the whole picture, and by
+-- no rule key, which rules the places behind its column
+abbrev pub sign_in_front : RuleLine → ℕ → Option RuleSign
+sign_in_front (Whole sign) column = sign_over (Whole sign) column
+sign_in_front (OfKeys format) column = None
+
+-- what stands on a line of rules from a column on, part by part: over the column, from a place up to its end; behind it up to the end
+-- of the places of bars; and from there on over the next column. Over the last column it ends at another place
+abbrev pub parts_from : Bars → RuleLine → Neighbour → Neighbour → ℕ → ℕ → ℕ → List Column → List Mark
+parts_from bars line above below column from to [] = last_mark (sign_over line column) from to ∷ []
+parts_from bars line above below column from to (c ∷ []) = last_mark (sign_over line column) from to ∷ []
+parts_from bars line above below column from to (c ∷ d ∷ columns) =
+    last_mark (sign_over line column) from (c.start + c.width)
+    ∷ places_mark (sign_over line column) (sign_in_front line (suc column)) (met_behind bars line above below column) c d
+    ∷ parts_from bars line above below (suc column) (bars_end c d) to (d ∷ columns)
 
 -- all that it draws
 abbrev pub rule_marks : Sheet → RuleLine → Neighbour → Neighbour → List Mark
@@ -329,7 +327,7 @@ rule_marks s line above below =
     let left = met_at_edge s.bars line above below 0 in
     let right = met_at_edge s.bars line above below (length s.columns) in
     edge_mark line 0 left
-    ∷ marks_from s.bars line above below 0 (rule_from line left s.columns) (rule_to line (s.width - right) s.columns) s.columns
+    ∷ parts_from s.bars line above below 0 (rule_from line left s.columns) (rule_to line (s.width - right) s.columns) s.columns
     ++ edge_mark line (s.width - right) right ∷ []
 
 abbrev pub rule_line : Sheet → RuleLine → Neighbour → Neighbour → List ℕ

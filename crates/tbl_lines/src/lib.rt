@@ -3,6 +3,7 @@
 #![tactic(auto)]
 
 pub mod fronts;
+pub mod laws;
 pub mod row_columns;
 pub mod row_lent;
 pub mod worked_bars;

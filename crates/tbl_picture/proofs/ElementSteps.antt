@@ -26,6 +26,7 @@ use Rattle.tbl_lines.proofs.RowLines.{lines-begun, row-high}
 use Rattle.tbl_lines.proofs.RowsBegun.{entries-lie, first-places}
 use Rattle.tbl_picture.proofs.RowsOn.{some-on}
 use Rattle.tbl_picture.proofs.RowSteps.{row-laid, stand-few, stand-short}
+use Rattle.tbl_picture.proofs.RulePlaces.{unbarred-same}
 use Rattle.tbl_picture.proofs.RulesBegun.{rows-first, unbarred}
 use Rattle.tbl_picture.proofs.StepsGiven.{gives}
 use Rattle.tbl_picture.proofs.LinesBegun.{behind-rule, from-keys, line-begins, lines-behind, one-more, stands-behind, steps-behind}
@@ -76,7 +77,7 @@ module _ (bytes frame : List ℕ) (formats : List FormatRow) (rows : KeptRows) (
         lines
         ∙ ap (λ (l : LineBegun). by l (line_below (elements_of bytes formats there))) (sym b.line)
         ∙ ap (λ (k : Neighbour). by rule.line k) (sym b.same)
-        ∙ line-begins bytes formats rows rule begun there stands b.first from_is
+        ∙ line-begins bytes formats rows rule begun there can.places stands b.first from_is
         ∙ ap (λ (xs : List ℕ). xs ++ still_to_come bytes formats rows begun) front_is in
         subst (λ (k : KeptWalk). Steps bytes frame formats rows w k before after) (sym b.walk)
         (gives bytes frame formats rows w before after within begun (rule_front (Whole sign) rule.left)
@@ -84,6 +85,7 @@ module _ (bytes frame : List ℕ) (formats : List FormatRow) (rows : KeptRows) (
         (record {
           laid = can.laid;
           narrow = can.narrow;
+          places = can.places;
           room = can.room;
           element = element;
           above = can.above;
@@ -101,12 +103,14 @@ module _ (bytes frame : List ℕ) (formats : List FormatRow) (rows : KeptRows) (
         let below = line_below (elements_of bytes formats there) in
         gives bytes frame formats rows w before after within new line (adds-fitting bytes frame before after line adds)
         (lines
-        ∙ ap (λ (xs : List ℕ). xs ++ lines-then) (unbarred (sheet_of rows w) sign line-above below none)
+        ∙ ap (λ (xs : List ℕ). xs ++ lines-then)
+        (unbarred-same (sheet_of rows w) sign line-above below can.places.order none ∙ unbarred (sheet_of rows w) sign line-above below none)
         ∙ ap (λ (xs : List ℕ). line ++ xs) (sym (lines-behind bytes formats rows moved there is_last)))
         some-lines
         (record {
           laid = can.laid;
           narrow = can.narrow;
+          places = can.places;
           room = can.room;
           element = element;
           above = tt;
@@ -174,6 +178,7 @@ module _ (bytes frame : List ℕ) (formats : List FormatRow) (rows : KeptRows) (
         (record {
           laid = can.laid;
           narrow = can.narrow;
+          places = can.places;
           room = can.room;
           element = can.element;
           above = can.above;
@@ -237,6 +242,7 @@ module _ (bytes frame : List ℕ) (formats : List FormatRow) (rows : KeptRows) (
         (record {
           laid = can.laid;
           narrow = can.narrow;
+          places = can.places;
           room = can.room;
           element = can.element;
           above = can.above;

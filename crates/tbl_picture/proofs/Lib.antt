@@ -17,6 +17,8 @@ pub mod RuleLinesWalked
 pub mod RuleRowSteps
 pub mod RowsOn
 pub mod RuleMarks
+pub mod RuleParts
+pub mod RulePlaces
 pub mod RuleSteps
 pub mod RowSteps
 pub mod StepsJoined

@@ -10,6 +10,7 @@ use Rattle.tbl_layout.specs.declared.columns.Column.{Column}
 use Rattle.tbl_layout.specs.declared.entry.Entry.{Entry}
 use Rattle.tbl_picture.specs.ElementsWalked.{IsKeysLine, StandsAt, behind_line_by, boxed_from, from_line_by, keys_front, lines_behind_rule, lines_with_rules, steps_behind_rule, steps_by, to_come_by}
 use Rattle.tbl_lines.specs.PictureLines.{Neighbour, OfKeys, OfRules, Sheet, bar, behind_rules, lines_behind, rule_from, rule_line}
+use Rattle.tbl_picture.specs.RulePlaces.{HavePlaces}
 use Rattle.tbl_picture.specs.RulesWalked.{RuleLies, RuleStands, above_by, below_by, come_behind, line_of_first, line_walked, next_behind_rule, rows_at, rule_behind, rule_front, ruled_left, sheet_of}
 use Rattle.tbl_picture.specs.Walks.{KeptWalk}
 use Rattle.tbl_picture.specs.Nexts.{AtRule, Next}
@@ -18,6 +19,7 @@ use Rattle.tbl_picture.specs.declared.walk.rules.RuleBegun.{RuleBegun}
 use Rattle.tbl_picture.specs.declared.walk.rules.RuleLine.{RuleLine as LineBegun}
 use Rattle.tbl_picture.specs.declared.walk.rules.RuleLine.TheVariants.{OfKeys as KeysBegun, Whole as WholeBegun}
 use Rattle.tbl_picture.proofs.BoxedElements.{keys-lines}
+use Rattle.tbl_picture.proofs.RulePlaces.{walked-same}
 use Rattle.tbl_picture.proofs.RulesBegun.{rows-first, rule-begun}
 
 -- behind a rule over the whole picture
@@ -78,16 +80,19 @@ stands-behind-column bytes formats rows rule w elements from place s lies = reco
 
 -- a line of rules begins: what is given of it, and what is to come
 pub line-begins : (bytes : List ℕ) (formats : List FormatRow) (rows : KeptRows) (rule : RuleBegun) (w : KeptWalk) (elements : List KeptElement)
-    → RuleStands bytes formats rows rule w elements → rule.column ≡ 0 → rule.from ≡ rule_from (line_walked formats rule.line) rule.left rows.columns
+    → HavePlaces formats (sheet_of rows w) → RuleStands bytes formats rows rule w elements → rule.column ≡ 0
+    → rule.from ≡ rule_from (line_walked formats rule.line) rule.left rows.columns
     → from_line_by rule bytes formats rows w elements
     ≡ rule_front (line_walked formats rule.line) rule.left
     ++ to_come_by (AtRule rule) bytes formats rows (record w { place = rule.left; next = AtRule rule }) elements
-line-begins bytes formats rows rule w elements s first from =
+line-begins bytes formats rows rule w elements places s first from =
     let line = line_walked formats rule.line in
     let above = above_by rule.line bytes formats rows w elements in
     let below = below_by rule.line rule.below.line bytes formats rows elements in
     let behind = behind_line_by rule.line bytes formats rows w elements in
-    ap (λ (xs : List ℕ). xs ++ behind) (rule-begun (sheet_of rows w) line above below rule first s.left s.right from)
+    ap (λ (xs : List ℕ). xs ++ behind)
+    (walked-same bytes formats rows w elements rule.line rule.below.line places
+    ∙ rule-begun (sheet_of rows w) line above below rule first s.left s.right from)
     ∙ append_assoc (rule_front line rule.left) (ruled_left (sheet_of rows w) line above below rule rule.left) behind
 
 -- one more of something

@@ -127,6 +127,7 @@ module _ (bytes frame : List ℕ) (formats : List FormatRow) (rows : KeptRows) (
         (record {
           laid = can.laid;
           narrow = can.narrow;
+          places = can.places;
           room = can.room;
           element = one-more e elements at;
           above = can.above;

@@ -13,6 +13,7 @@ use Rattle.tbl_picture.specs.ElementsWalked.{CanWalk, FirstFits, IsInRow, Stands
 use Rattle.tbl_lines.specs.PictureLines.{OfRow}
 use Rattle.tbl_pieces.specs.PieceQueue.{KeptPieces}
 use Rattle.tbl_pieces.specs.Pieces.{AreWithin}
+use Rattle.tbl_picture.specs.RulePlaces.{HavePlaces}
 use Rattle.tbl_picture.specs.RulesWalked.{AreServed, IsRowFirst, IsRowThere, line_of_first, sheet_of}
 use Rattle.tbl_picture.specs.Walks.{IsOn, IsUnderWay, KeptWalk, RowEnds, RowEndsOrGoesOn, RowSteps, Stays, WalkedRow, row_left, row_steps, walked}
 use Rattle.tbl_picture.specs.Nexts.{AtCell, AtElement, AtEnd, AtFront, AtLine, AtRule, AtRuleRow, AtTop, AtWord, Next}
@@ -185,6 +186,11 @@ module _ (bytes frame : List ℕ) (formats : List FormatRow) (rows : KeptRows) (
         let first : drop k.element rows.elements ≡ Row keys rules height entries ∷ elements = ap (λ (n : ℕ). drop n rows.elements) same ∙ at in
         stands-on bytes formats rows k (drop k.element rows.elements) k.next on (subst (IsInRow bytes formats rows k) (sym first) there)
 
+    places-within : (k : KeptWalk) → k.bars ≡ w.bars → k.picture_width ≡ w.picture_width → HavePlaces formats (sheet_of rows k)
+    places-within k bars width =
+        let left : Bars → ℕ → Type 0 = λ b n. HavePlaces formats (record { bars = b; width = n; columns = rows.columns }) in
+        subst (λ (b : Bars). left b k.picture_width) (sym bars) (subst (left w.bars) (sym width) can.places)
+
     some-now : IsOn w.next → IsUnderWay w.next row w → 0 < length (still_to_come bytes formats rows w)
     some-now on under =
         omega (
@@ -211,6 +217,7 @@ module _ (bytes frame : List ℕ) (formats : List FormatRow) (rows : KeptRows) (
         (record {
           laid = can.laid;
           narrow = can.narrow;
+          places = places-within new s.stays.bars s.stays.width;
           room = omega (arith, can.room, s.stays.room);
           element = omega (arith, can.element, s.stays.element);
           above = subst (IsRowThere rows.elements) (sym s.stays.above) can.above;
@@ -244,6 +251,7 @@ module _ (bytes frame : List ℕ) (formats : List FormatRow) (rows : KeptRows) (
         (record {
           laid = can.laid;
           narrow = can.narrow;
+          places = places-within mid s.stays.bars s.stays.width;
           room = omega (arith, can.room, s.stays.room);
           element = omega (arith, within-drop mid.element rows.elements (Row keys rules height entries) elements first);
           above = subst IsRowFirst (sym first) tt;

@@ -9,7 +9,8 @@ use Rattle.tbl_layout.specs.LayoutLaws.{first_start}
 use Rattle.tbl_layout.specs.declared.data_lines.RuleSign.{RuleSign}
 use Rattle.tbl_layout.specs.declared.entry.Entry.{Entry}
 use Rattle.tbl_picture.specs.ElementsWalked.{CanWalk, IsKeysLine, StandsAt, Steps, behind_line_by, keys_front, lines_with_rules, rule_row_begun, rule_steps, steps_behind_line, steps_by, steps_left, still_to_come, to_come_by}
-use Rattle.tbl_lines.specs.PictureLines.{Neighbour, OfKeys, OfRules, behind_rules, drawn, edge_mark, marks_from, rule_from, rule_line, rule_to}
+use Rattle.tbl_lines.specs.PictureLines.{Neighbour, OfKeys, OfRules, behind_rules, drawn, edge_mark, rule_from, rule_line, rule_to}
+use Rattle.tbl_picture.specs.RuleMarks.{marks_from}
 use Rattle.tbl_pieces.specs.PieceQueue.{Adds, KeptPieces}
 use Rattle.tbl_pieces.specs.Pieces.{AreWithin}
 use Rattle.tbl_picture.specs.RulesWalked.{Crosses, Ends, FirstBegins, IsRuleOf, KeysEnded, LineEnded, RuleCrosses, RuleDoes, RuleRowNext, RuleStands, StandsBelow, above_by, below_by, come_behind, line_beside, line_of_first, line_walked, rows_at, rule_behind, rule_left, sheet_of}
@@ -36,7 +37,7 @@ module _ (bytes frame : List ℕ) (formats : List FormatRow) (rows : KeptRows) (
       let r = subst (λ (n : Next). StandsAt n bytes formats rows w es) next can.next in
       let from_is : rule.from ≡ rule_from (line_walked formats rule.line) rule.left rows.columns =
       r.from ∙ sym (keys-from formats rule.line rule.left rows.columns r.keys) in
-      let begins = line-begins bytes formats rows rule w es r.stands r.column from_is in
+      let begins = line-begins bytes formats rows rule w es can.places r.stands r.column from_is in
       let lines : still_to_come bytes formats rows w ≡ keys_front rule.left ++ still_to_come bytes formats rows new =
       ap (λ (n : Next). to_come_by n bytes formats rows w es) next ∙ begins
       ∙ ap (λ (xs : List ℕ). xs ++ still_to_come bytes formats rows new) (keys-front formats rule.line rule.left r.keys) in
@@ -45,6 +46,7 @@ module _ (bytes frame : List ℕ) (formats : List FormatRow) (rows : KeptRows) (
       (record {
         laid = can.laid;
         narrow = can.narrow;
+        places = can.places;
         room = can.room;
         element = can.element;
         above = can.above;
@@ -99,6 +101,7 @@ module _ (bytes frame : List ℕ) (formats : List FormatRow) (rows : KeptRows) (
         (record {
           laid = can.laid;
           narrow = can.narrow;
+          places = can.places;
           room = can.room;
           element = can.element;
           above = can.above;
@@ -121,6 +124,7 @@ module _ (bytes frame : List ℕ) (formats : List FormatRow) (rows : KeptRows) (
           (record {
             laid = can.laid;
             narrow = can.narrow;
+            places = can.places;
             room = can.room;
             element = can.element;
             above = tt;
@@ -196,6 +200,7 @@ module _ (bytes frame : List ℕ) (formats : List FormatRow) (rows : KeptRows) (
             (record {
               laid = can.laid;
               narrow = can.narrow;
+              places = can.places;
               room = can.room;
               element = can.element;
               above = can.above;

@@ -9,7 +9,8 @@ use Rattle.tbl_layout.specs.DataLines.{sign_byte}
 use Rattle.tbl_layout.specs.LayoutLaws.{last_end}
 use Rattle.tbl_layout.specs.declared.columns.Column.{Column}
 use Rattle.tbl_layout.specs.declared.data_lines.RuleSign.{RuleSign}
-use Rattle.tbl_lines.specs.PictureLines.{Mark, crossing, Neighbour, RuleLine, Sheet, drawn, edge_mark, goes_on, last_mark, mark_behind, marks_from, met_behind, rule_to, sign_over}
+use Rattle.tbl_lines.specs.PictureLines.{Mark, crossing, Neighbour, RuleLine, Sheet, drawn, edge_mark, last_mark, met_behind, rule_to, sign_over}
+use Rattle.tbl_picture.specs.RuleMarks.{goes_on, mark_behind, marks_from}
 use Rattle.tbl_lines.specs.RowsWalked.{IsNarrow}
 use Rattle.tbl_picture.specs.RulesWalked.{mark_given, place_behind, rule_behind, ruled_left}
 use Rattle.tbl_picture.specs.declared.walk.rules.RuleBegun.{RuleBegun}
@@ -21,7 +22,7 @@ mark-by : (t : Bool) (m : Mark) (marks : List Mark) (place : ℕ)
 mark-by true m marks place = refl
 mark-by false m marks place = sym (append_assoc (replicate (m.at - place) blank) m.bytes (drawn (m.at + length m.bytes) marks))
 
-mark-drawn : (m : Mark) (marks : List Mark) (place : ℕ) → drawn place (m ∷ marks) ≡ mark_given m place ++ drawn (place_behind m place) marks
+pub mark-drawn : (m : Mark) (marks : List Mark) (place : ℕ) → drawn place (m ∷ marks) ≡ mark_given m place ++ drawn (place_behind m place) marks
 mark-drawn m marks place = mark-by (length m.bytes == 0) m marks place
 
 -- a mark of a rule that goes on ends with the bars

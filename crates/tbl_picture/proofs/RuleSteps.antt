@@ -7,7 +7,8 @@ use Rattle.tbl_layout.specs.Columns.{bar_place, bars_end}
 use Rattle.tbl_layout.specs.declared.columns.Column.{Column}
 use Rattle.tbl_options.specs.declared.options.Boxing.{Boxing}
 use Rattle.tbl_layout.specs.declared.data_lines.RuleSign.{RuleSign}
-use Rattle.tbl_lines.specs.PictureLines.{Mark, Neighbour, RuleLine, behind_rules, edge_byte, goes_on, last_mark, mark_behind, own_behind, rule_to, shown_behind, sign_over}
+use Rattle.tbl_lines.specs.PictureLines.{Mark, Neighbour, RuleLine, behind_rules, edge_byte, last_mark, own_behind, rule_to, shown_behind, sign_over}
+use Rattle.tbl_picture.specs.RuleMarks.{goes_on, mark_behind}
 use Rattle.tbl_lines.specs.RowsWalked.{IsNarrow}
 use Rattle.tbl_pieces.specs.PieceQueue.{Adds, KeptPieces}
 use Rattle.tbl_picture.specs.RulesWalked.{AreServed, IsAmong, LengthsAre, RuleCrosses, RuleLies, RuleStands, StandsBelow, above_by, below_by, bytes_at, come_behind, first_below, line_beside, line_of_first, line_walked, mark_given, met_there, place_behind, rule_behind, rule_left, rows_at, rows_of, ruled_left, rules_first_beside, sheet_of, shown_through}

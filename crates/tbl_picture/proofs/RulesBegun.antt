@@ -12,7 +12,8 @@ use Rattle.tbl_layout.specs.declared.columns.Column.{Column}
 use Rattle.tbl_layout.specs.declared.data_lines.RuleSign.{RuleSign}
 use Rattle.tbl_layout.specs.declared.data_lines.RuleSign.TheVariants.{Double, Single}
 use Rattle.tbl_picture.specs.ElementsWalked.{plain_rule}
-use Rattle.tbl_lines.specs.PictureLines.{Mark, Neighbour, OfKeys, OfRules, RuleLine, Sheet, Whole, bars_at_edge, drawn, edge_byte, edge_mark, goes_on, last_mark, mark_behind, marks_from, met_at_edge, met_behind, rule_from, rule_line, rule_to, shown_at_edge, shown_behind}
+use Rattle.tbl_lines.specs.PictureLines.{Mark, Neighbour, OfKeys, OfRules, RuleLine, Sheet, Whole, bars_at_edge, drawn, edge_byte, edge_mark, last_mark, met_at_edge, met_behind, rule_from, rule_to, shown_at_edge, shown_behind}
+use Rattle.tbl_picture.specs.RuleMarks.{goes_on, mark_behind, marks_from, rule_line_walked}
 use Rattle.tbl_picture.specs.RulesWalked.{above_rules, rows_at, rule_front, ruled_left}
 use Rattle.tbl_picture.specs.declared.walk.rules.RuleBegun.{RuleBegun}
 
@@ -30,7 +31,7 @@ edge-drawn (suc n) b marks =
 pub rule-begun : (s : Sheet) (line : RuleLine) (above below : Neighbour) (rule : RuleBegun) → rule.column ≡ 0
     → rule.left ≡ met_at_edge s.bars line above below 0 → rule.right ≡ met_at_edge s.bars line above below (length s.columns)
     → rule.from ≡ rule_from line rule.left s.columns
-    → rule_line s line above below ≡ rule_front line rule.left ++ ruled_left s line above below rule rule.left
+    → rule_line_walked s line above below ≡ rule_front line rule.left ++ ruled_left s line above below rule rule.left
 rule-begun s line above below rule column left right from =
     let inner : ℕ → ℕ → ℕ → List Mark = λ k f r.
     marks_from s.bars line above below k f (rule_to line (s.width - r) s.columns) (drop k s.columns) ++ edge_mark line (s.width - r) r ∷ [] in
@@ -76,7 +77,7 @@ module _ (bars : Bars) (none : bars.has_any ≡ false) (sign : RuleSign) (above 
       ∙ unbarred-marks (suc column) from to (d ∷ columns)
 
 pub unbarred : (s : Sheet) (sign : RuleSign) (above below : Neighbour) → s.bars.has_any ≡ false
-    → rule_line s (Whole sign) above below ≡ plain_rule s.width sign
+    → rule_line_walked s (Whole sign) above below ≡ plain_rule s.width sign
 unbarred s sign above below none =
     let edge : ℕ → ℕ = met_at_edge s.bars (Whole sign) above below in
     let inner : ℕ → ℕ → List Mark = λ l r. marks_from s.bars (Whole sign) above below 0 l (s.width - r) s.columns in

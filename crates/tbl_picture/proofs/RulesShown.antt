@@ -11,7 +11,7 @@ use Rattle.tbl_picture.specs.RulesWalked.{AreLengths, LengthsAre, ShownThrough, 
 use Rattle.tbl_picture.specs.declared.walk.beside.Lengths.{Lengths}
 
 -- a row of the formats has no bar behind the end of its last key
-few-bars : (keys : List FormatKey) (last column : ℕ) → length keys < column → bars_among keys last column ≡ 0
+pub few-bars : (keys : List FormatKey) (last column : ℕ) → length keys < column → bars_among keys last column ≡ 0
 few-bars [] last zero few = absurd (omega (arith, few))
 few-bars [] last (suc column) few = refl
 few-bars (k ∷ keys) last zero few = absurd (omega (arith, few))
@@ -27,7 +27,7 @@ less-of a b column behind = less-by (nat_lt column b) a b column refl behind
 
 module _ (boxing : Boxing) (column : ℕ) where
   -- the bars that a box has between columns
-  abbrev inner : ℕ
+  abbrev pub inner : ℕ
   inner = inner_bars boxing 0
 
   -- what a line shows behind some that are as long, at the least
@@ -35,7 +35,7 @@ module _ (boxing : Boxing) (column : ℕ) where
   under long shown = if nat_lt column long then inner else max inner shown
 
   -- a row of rule keys has no bars of its own behind its keys
-  own-bars : (f : FormatRow) → length f.keys ≤ column → bars_between boxing f (suc column) ≡ inner
+  pub own-bars : (f : FormatRow) → length f.keys ≤ column → bars_between boxing f (suc column) ≡ inner
   own-bars f behind = ap (inner_bars boxing) (few-bars f.keys f.bars (suc column) (omega (arith, behind)))
 
   one-by : (t : Bool) (f : FormatRow) (shown : ℕ) → nat_lt column (length f.keys) ≡ t
@@ -47,7 +47,7 @@ module _ (boxing : Boxing) (column : ℕ) where
       ap (λ (n : ℕ). if nat_lt column (length f.keys) then 0 else max n shown) (own-bars f (ltb-false column (length f.keys) is))
 
   -- what a line shows behind one
-  one-shown : (f : FormatRow) (seen : Neighbour)
+  pub one-shown : (f : FormatRow) (seen : Neighbour)
       → shown_behind boxing (OfRules f seen) column ≡ (if nat_lt column (length f.keys) then 0 else max inner (shown_behind boxing seen column))
   one-shown f seen = one-by (nat_lt column (length f.keys)) f (shown_behind boxing seen column) refl
 

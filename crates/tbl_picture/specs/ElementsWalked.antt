@@ -18,6 +18,7 @@ use Rattle.tbl_lines.specs.PictureLines.{Neighbour, NoRow, OfRow, OfRules, Sheet
 use Rattle.tbl_pieces.specs.PieceQueue.{Adds, KeptPieces, bytes_left}
 use Rattle.tbl_pieces.specs.Pieces.{AreWithin}
 use Rattle.tbl_lines.specs.RowsWalked.{AreNarrow, front_count, most_steps, steps_of_columns, steps_of_lines}
+use Rattle.tbl_picture.specs.RulePlaces.{HavePlaces}
 use Rattle.tbl_picture.specs.RulesWalked.{IsRowThere, LastIs, LengthsAre, RuleBegins, RuleStands, ShownThrough, above_by, below_by, is_row, line_beside, line_walked, next_behind_rule, rows_at, rule_left, sheet_of}
 use Rattle.tbl_picture.specs.declared.walk.rules.RuleBegun.{RuleBegun}
 use Rattle.tbl_picture.specs.declared.walk.rules.RuleLine.{RuleLine as LineBegun}
@@ -166,6 +167,7 @@ StandsAt (AtWord word width place) bytes formats rows w elements = IsInRow bytes
 pub record CanWalk (bytes : List ℕ) (formats : List FormatRow) (rows : KeptRows) (w : KeptWalk) : Type 0 where
   pub laid : RowsLaid bytes formats rows
   pub narrow : AreNarrow rows.columns
+  pub places : HavePlaces formats (sheet_of rows w)
   pub room : length rows.columns ≤ w.room
   pub element : w.element ≤ length rows.elements
   pub above : IsRowThere rows.elements w.above

@@ -12,6 +12,7 @@ use Rattle.tbl_pieces.specs.PieceQueue.{KeptPieces, bytes_left}
 use Rattle.tbl_pieces.specs.Pieces.{AreWithin}
 use Rattle.tbl_lines.specs.RowsWalked.{AreNarrow}
 use Rattle.tbl_picture.specs.ElementsWalked.{CanWalk, still_to_come}
+use Rattle.tbl_picture.specs.RulePlaces.{HavePlaces}
 use Rattle.tbl_picture.specs.Walks.{KeptWalk}
 use Rattle.tbl_picture.specs.declared.giving.Giving.TheInside.{Inside}
 use Rattle.tbl_picture.specs.declared.giving.Rest.{Rest}
@@ -30,11 +31,12 @@ pub record KeptGiving : Type 0 where
   pub frame_end : ℕ
   pub columns : ℕ
 
--- the rows of a table are laid out, in so many columns at the most
-pub record IsLaidOut (t : KeptText) (r : KeptRows) (k : KeptFormat) (columns : ℕ) : Type 0 where
+-- the rows of a table are laid out, in so many columns at the most, for a picture that has these bars and is so wide
+pub record IsLaidOut (bars : Bars) (width : ℕ) (t : KeptText) (r : KeptRows) (k : KeptFormat) (columns : ℕ) : Type 0 where
   pub laid : RowsLaid (block_of t) (all_rows k.format) r
   pub few : length r.columns ≤ columns
   pub narrow : AreNarrow r.columns
+  pub places : HavePlaces (all_rows k.format) (record { bars = bars; width = width; columns = r.columns })
   pub small : length (block_of t) < 2 ^ 33
 
 -- the lines of its picture, which has these bars and is so wide

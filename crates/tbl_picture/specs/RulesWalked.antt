@@ -11,7 +11,8 @@ use Rattle.tbl_layout.specs.KeptEntries.{all_entries}
 use Rattle.tbl_layout.specs.LayoutLaws.{first_start}
 use Rattle.tbl_layout.specs.Widths.{inner_bars}
 use Rattle.tbl_layout.specs.declared.data_lines.RuleSign.{RuleSign}
-use Rattle.tbl_lines.specs.PictureLines.{Mark, Neighbour, NoRow, OfKeys, OfRow, OfRules, RuleLine, Sheet, Whole, behind_rules, drawn, edge_byte, edge_mark, line_below, marks_from, met_at_edge, met_behind, rule_to, shown_behind}
+use Rattle.tbl_lines.specs.PictureLines.{Mark, Neighbour, NoRow, OfKeys, OfRow, OfRules, RuleLine, Sheet, Whole, behind_rules, drawn, edge_byte, edge_mark, line_below, met_at_edge, met_behind, rule_to, shown_behind}
+use Rattle.tbl_picture.specs.RuleMarks.{marks_from}
 use Rattle.tbl_pieces.specs.PieceQueue.{Adds, KeptPieces}
 use Rattle.tbl_lines.specs.RowsWalked.{AreNarrow}
 use Rattle.tbl_picture.specs.Walks.{KeptWalk, row_begun}

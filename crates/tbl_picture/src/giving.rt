@@ -106,10 +106,10 @@ impl Giving {
     /// line begun, and a newline behind it or none.
     pub fn give_picture(&mut self, indent: u32, bars: Bars, width: usize, has_newline: bool)
         ensures coming { (t : KeptText) (r : KeptRows) (k : KeptFormat)
-            → IsLaidOut t r k self.old.columns → coming t r k self.new
+            → IsLaidOut bars width t r k self.old.columns → coming t r k self.new
             ≡ with_newline has_newline (picture indent (lines_laid bars width t r k) ++ t.line) }
         ensures can { (t : KeptText) (r : KeptRows) (k : KeptFormat)
-            → IsLaidOut t r k self.old.columns → CanGive t r k self.new }
+            → IsLaidOut bars width t r k self.old.columns → CanGive t r k self.new }
         ensures room { self.new.columns ≡ self.old.columns }
     {
         self.frame_end = write_frame(&mut self.frame, indent);

@@ -107,6 +107,7 @@ impl Model for Walk {
 impl Walk {
     ghost use Rattle.tbl_picture.specs.ElementsWalked.{CanWalk, StepsIf, started, still_to_come};
     ghost use Rattle.tbl_lines.specs.RowsWalked.{AreNarrow};
+    ghost use Rattle.tbl_picture.specs.RulePlaces.{HavePlaces};
     ghost use Rattle.tbl_picture.specs.Walks.{IsUnderWay, LiesInColumns, RowEndsOrGoesOn};
     ghost use Rattle.tbl_picture.specs.Walks.{lent_entries, lent_row, row_begun};
 
@@ -139,7 +140,8 @@ impl Walk {
             ≡ picture_lines (record { bars = bars; width = width; columns = rows.columns })
             (elements_of bytes formats rows.elements) }
         ensures can { (bytes : List ℕ) (formats : List FormatRow) (rows : KeptRows)
-            → RowsLaid bytes formats rows → AreNarrow rows.columns
+            → RowsLaid bytes formats rows → AreNarrow rows.columns → HavePlaces formats
+            (record { bars = bars; width = width; columns = rows.columns })
             → length rows.columns ≤ self.old.room → CanWalk bytes formats rows self.new }
     {
         self.element = 0;

@@ -1,5 +1,5 @@
 -- A table that is laid out: its picture can be given, and no line follows.
-use Rattle.std.proofs.Common.{◌≡◌, ℕ, suc, ◌+◌, ◌<◌, ◌≤◌, min, List, [], ◌∷◌, ◌++◌, length, map, take, Option, Some, None, refl, sym, ap, ◌∙◌, arith, append-nil, length-append}
+use Rattle.std.proofs.Common.{◌≡◌, ℕ, suc, ◌+◌, ◌<◌, ◌≤◌, min, List, [], ◌∷◌, ◌++◌, length, map, take, Option, Some, None, refl, sym, ap, subst, ◌∙◌, arith, append-nil, length-append}
 use Rattle.std.proofs.lemmas.List.{take_at}
 use Rattle.std.specs.List.{AllByRecursion}
 use Rattle.tbl_data.specs.TableData.{ElementEnds}
@@ -19,10 +19,13 @@ use Rattle.tbl_kept.specs.TableText.{KeptText, block_of}
 use Rattle.tbl_kept.proofs.RowsKeeping.{RowsLaid-more, elements_of-laid-more}
 use Rattle.tbl_layout.specs.Columns.{columns_from, equal_widths, gaps, gaps_from, greatest, placed, placed_with, share, spread, total, width_of_all, with_equal, with_widths}
 use Rattle.tbl_layout.specs.Entries.{Element}
+use Rattle.tbl_layout.specs.LayoutLaws.{StandInOrder}
 use Rattle.tbl_layout.specs.Spans.{all_fitted, all_wide, columns_laid, filled}
 use Rattle.tbl_layout.specs.Widths.{left_edge, separation, table_bars}
 use Rattle.tbl_layout.specs.declared.bars.Bars.{Bars}
 use Rattle.tbl_layout.specs.declared.columns.Column.{Column}
+use Rattle.tbl_format.proofs.RowsHeld.{read-held}
+use Rattle.tbl_layout.proofs.PlacesBetween.{bars-laid, bars-placed_with, bars_of_asked, bars_of_columns, places-between}
 use Rattle.tbl_layout.proofs.Spreading.{length-all_fitted}
 use Rattle.tbl_layout.proofs.Shares.{share-grows, share-most}
 use Rattle.tbl_lines.specs.RowsWalked.{AreNarrow}
@@ -31,11 +34,13 @@ use Rattle.tbl_table.specs.Kept.{PartsFit, row_open, table_of}
 use Rattle.tbl_table.specs.Laying.{IsLaid, body_of, columns_by, lacking_by}
 use Rattle.tbl_table.specs.MayTell.{line_may_tell}
 use Rattle.tbl_picture.specs.Giving.{IsLaidOut, lines_laid}
+use Rattle.tbl_picture.specs.RulePlaces.{HavePlaces}
 use Rattle.tbl_table.specs.Table.{body_filled, laid_out}
 use Rattle.tbl_table.specs.declared.begun.Begun.{Begun}
 use Rattle.tbl_table.specs.declared.begun.Begun.TheVariants.{Nothing}
 use Rattle.tbl_table.proofs.DataLies.{lies-laid}
 use Rattle.tbl_table.proofs.LineEnds.{data-reads}
+use Rattle.tbl_table.proofs.RowsPlaced.{rows-have}
 use Rattle.tbl_table.proofs.TableFits.{behind-len}
 
 -- as many columns as are asked for
@@ -182,9 +187,32 @@ module _ (l : TblLimits) (phase : Phase) (begun : Begun) (text : KeptText) (d : 
     abbrev pub places : ℕ → KeptRows
     places more = record new.rows { columns = placed_with bars more d.format.format.asked new.rows.columns }
 
-    pub laid-out : (columns more : ℕ) → columns ≡ min l.columns l.text → width_of_all bars new.rows.columns d.format.format.asked + more < 4294967296
-        → RowsLaid text.settled (all_rows d.format.format) (places more) → IsLaidOut text (places more) d.format columns
-    laid-out columns more columns_is narrow rows = record {
+    -- its columns stand in order, with places for all bars
+    places-are : (more width : ℕ) → more ≡ lacking_by bars options.expanded line_length text.settled d
+        → width ≡ (laid_out line_length (table_of phase options text d)).width
+        → HavePlaces (all_rows d.format.format) (record { bars = bars; width = width; columns = (places more).columns })
+    places-are more width more_is width_is =
+        let asked = d.format.format.asked in
+        let columns = columns_by bars line_length text.settled d in
+        let table = laid_out line_length (table_of phase options text d) in
+        let kept : bars_of_columns columns ≡ bars_of_asked asked = bars-laid bars line_length asked (body_of text.settled d) in
+        let columns_are : (places more).columns ≡ table.columns =
+        ap (λ (cs : List Column). placed_with bars more asked cs) laid.columns
+        ∙ ap (λ (n : ℕ). placed_with bars n asked columns) more_is in
+        record {
+          order = subst (λ (n : ℕ). StandInOrder bars n (places more).columns) (sym width_is)
+              (subst (StandInOrder bars table.width) (sym columns_are) (places-between bars options.expanded line_length asked columns kept));
+          rows = rows-have d.format.format.front asked (places more).columns
+              (bars-placed_with bars more asked new.rows.columns ∙ ap bars_of_columns laid.columns ∙ kept)
+              (all_rows d.format.format) (read-held d.format.format fits.keys.made).rows;
+        }
+
+    pub laid-out : (columns more width : ℕ) → columns ≡ min l.columns l.text
+        → width_of_all bars new.rows.columns d.format.format.asked + more < 4294967296
+        → more ≡ lacking_by bars options.expanded line_length text.settled d
+        → width ≡ (laid_out line_length (table_of phase options text d)).width
+        → RowsLaid text.settled (all_rows d.format.format) (places more) → IsLaidOut bars width text (places more) d.format columns
+    laid-out columns more width columns_is narrow more_is width_is rows = record {
       laid = RowsLaid-more text.settled (behind_joined text.pending text.line) (all_rows d.format.format) (places more) rows;
       few = omega (
         arith,
@@ -197,6 +225,7 @@ module _ (l : TblLimits) (phase : Phase) (begun : Begun) (text : KeptText) (d : 
         fits.bytes.few,
       );
       narrow = narrow-parts (places more).columns (placed-narrow bars 4294967296 more d.format.format.asked new.rows.columns (omega (arith, count-laid)) narrow);
+      places = places-are more width more_is width_is;
       small = omega (arith, fits.bytes.most, fits.bytes.block, fits.rooms.small, behind-len text.pending text.line, length-append text.settled (behind_joined text.pending text.line), length-append text.settled (behind_joined text.pending []));
     }
 

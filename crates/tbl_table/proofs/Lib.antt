@@ -17,6 +17,7 @@ pub mod OtherLines
 pub mod BlockCloses
 pub mod BlockRests
 pub mod TableOptions
+pub mod RowsPlaced
 pub mod LaidTables
 pub mod TableEnds
 pub mod LastLines

@@ -5,10 +5,10 @@ ghost use Rattle.std.specs.Prelude.{List, Some, drop, false, if◌then◌else◌
 ghost use Rattle.tbl_format.specs.Format.{FormatRow};
 ghost use Rattle.tbl_format.specs.RowsServed.{all_rows};
 ghost use Rattle.tbl_layout.specs.Columns.{bars_end};
-ghost use Rattle.tbl_lines.specs.PictureLines.{edge_byte, goes_on, is_same_rule};
-ghost use Rattle.tbl_lines.specs.PictureLines.{last_mark, mark_behind, own_behind, rule_to};
+ghost use Rattle.tbl_lines.specs.PictureLines.{edge_byte, last_mark, own_behind, rule_to};
 ghost use Rattle.tbl_lines.specs.PictureLines.{sign_over};
 ghost use Rattle.tbl_lines.specs.RowsWalked.{AreNarrow};
+ghost use Rattle.tbl_picture.specs.RuleMarks.{goes_on, is_same_rule, mark_behind};
 ghost use Rattle.tbl_picture.specs.RulesWalked.{AreServed, IsAmong, RuleLies, RuleStands};
 ghost use Rattle.tbl_picture.specs.RulesWalked.{bytes_at, line_walked, mark_given};
 ghost use Rattle.tbl_picture.specs.RulesWalked.{met_there, place_behind};

@@ -33,6 +33,6 @@ returns-clause-can c = λ t r k laid.
     let can = rw (← c.self.view_is) at laid.few in
     rw c.set_one.ensures (record {
       within = frame-within (block_of t) frame.new.frame.items 0 frame.result (omega (arith, frame.ensures.within));
-      rest = record { can = c.start.ensures.can (block_of t) (all_rows k.format) r laid.laid laid.narrow can; small = laid.small };
+      rest = record { can = c.start.ensures.can (block_of t) (all_rows k.format) r laid.laid laid.narrow laid.places can; small = laid.small };
       last = IsLast-long (some_piece (Frame 0 frame.result)) Lines (some-long (Frame 0 frame.result) (omega (arith, long)));
     })

@@ -2,7 +2,7 @@ use Rattle.std.proofs.Common.{◌≡◌, ◌+◌, false, List, get_or, sym, ap, 
 use Rattle.tbl_format.specs.RowsServed.{all_rows}
 use Rattle.tbl_layout.specs.Columns.{bar_place, bars_end}
 use Rattle.tbl_layout.specs.declared.columns.Column.{Column}
-use Rattle.tbl_lines.specs.PictureLines.{mark_behind}
+use Rattle.tbl_picture.specs.RuleMarks.{mark_behind}
 use Rattle.tbl_picture.specs.RulesWalked.{RuleCrosses, come_behind, place_behind, rule_behind}
 use Rattle.tbl_picture.specs.Walks.{KeptWalk}
 use Rattle.tbl_picture.specs.Nexts.{AtRule}

@@ -1,6 +1,7 @@
 use Rattle.std.proofs.Common.{Option, false, sym, subst, arith}
 use Rattle.tbl_layout.specs.declared.data_lines.RuleSign.{RuleSign}
-use Rattle.tbl_lines.specs.PictureLines.{bar, mark_behind}
+use Rattle.tbl_lines.specs.PictureLines.{bar}
+use Rattle.tbl_picture.specs.RuleMarks.{mark_behind}
 use Rattle.tbl_picture.specs.RulesWalked.{bytes_at, mark_given}
 use Rattle.tbl_pieces.specs.PieceQueue.{Adds}
 use Rattle.tbl_pieces.proofs.Adding.{adds-fewer}

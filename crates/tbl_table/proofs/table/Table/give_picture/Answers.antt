@@ -113,8 +113,11 @@ invariant_of-self-2 c =
     subst (λ (e : TableData). RowsLaid a.text.settled formats e.rows) kept_is (c.set_places.ensures.laid a.text.settled formats laid.laid) in
     let narrow : width_of_all bars new.rows.columns a.kept.format.format.asked + more < 4294967296 =
     omega (arith, within, fits.rooms.wide, more_is, ap (λ (cs : List Column). width_of_all bars cs a.kept.format.format.asked) laid.columns) in
-    let can : IsLaidOut a.text rows a.kept.format a.giving.columns =
-    laid-out a.limits a.phase a.begun a.text a.kept fits is none closed line_length a.options new laid a.giving.columns more c.self.invariant.columns narrow rows_laid in
+    let wide_is : c.lay_out-laid.result.width ≡ wide = omega (arith, width, within, fits.rooms.wide) in
+    let can : IsLaidOut c.of-bars.result c.lay_out-laid.result.width a.text rows a.kept.format a.giving.columns =
+    subst (λ (b : Bars). IsLaidOut b c.lay_out-laid.result.width a.text rows a.kept.format a.giving.columns) (sym bars_is)
+    (laid-out a.limits a.phase a.begun a.text a.kept fits is none closed line_length a.options new laid a.giving.columns more
+    c.lay_out-laid.result.width c.self.invariant.columns narrow more_is wide_is rows_laid) in
     let rooms : SameRoom a.kept.rows rows = record { entries = laid.rooms.entries; elements = laid.rooms.elements; columns = laid.rooms.columns } in
     record {
       parts = rw kept_is
@@ -176,9 +179,11 @@ returns-clause-to_come c =
     subst (λ (e : TableData). RowsLaid a.text.settled formats e.rows) kept_is (c.set_places.ensures.laid a.text.settled formats laid.laid) in
     let narrow : width_of_all bars new.rows.columns a.kept.format.format.asked + more < 4294967296 =
     omega (arith, within, fits.rooms.wide, more_is, ap (λ (cs : List Column). width_of_all bars cs a.kept.format.format.asked) laid.columns) in
-    let can : IsLaidOut a.text rows a.kept.format a.giving.columns =
-    laid-out a.limits a.phase a.begun a.text a.kept fits is none closed line_length a.options new laid a.giving.columns more c.self.invariant.columns narrow rows_laid in
     let wide_is : c.lay_out-laid.result.width ≡ wide = omega (arith, width, within, fits.rooms.wide) in
+    let can : IsLaidOut c.of-bars.result c.lay_out-laid.result.width a.text rows a.kept.format a.giving.columns =
+    subst (λ (b : Bars). IsLaidOut b c.lay_out-laid.result.width a.text rows a.kept.format a.giving.columns) (sym bars_is)
+    (laid-out a.limits a.phase a.begun a.text a.kept fits is none closed line_length a.options new laid a.giving.columns more
+    c.lay_out-laid.result.width c.self.invariant.columns narrow more_is wide_is rows_laid) in
     let indent_is : c.indent.result ≡ indent a.options.centered line_length wide = c.indent.ensures ∙ ap (λ (n : ℕ). indent a.options.centered line_length n) wide_is in
     rw (← c.self.view_is, kept_is)
     (c.give_picture.ensures.coming a.text rows a.kept.format can
