@@ -781,6 +781,32 @@ GROWING = {
     "rule_rows_between_spans": (
         b".TS\nallbox;\n" + SPAN + b".\na\n", b".T&\n" + 40 * b"_" + b"\n" + SPAN + b".\na\n",
         b".TE\n", 2_500),
+    "tall_cell": (b".TS\nl l\n^ l.\na\tb\n", b"\tb\n", b".TE\n", 5_000),
+    "tall_cells": (b".TS\n" + 40 * b"l" + b"\n" + 40 * b"^" + b".\n" + 39 * b"a\t" + b"a\n", b"\n", b".TE\n", 2_500),
+    "tall_cells_at_the_bottom": (
+        b".TS\nallbox;\n" + 40 * b"ld" + b"\n" + 40 * b"^" + b".\n" + 39 * b"a\t" + b"a\n", b"\n", b".TE\n", 2_500),
+    "tall_cells_that_take_turns": (
+        b".TS\n" + 40 * b"l" + b".\n", 19 * b"a\t\\^\t" + b"a\t\\^\n" + 19 * b"\\^\ta\t" + b"\\^\ta\n", b".TE\n", 625),
+    "tall_cells_of_two_rows": (
+        b".TS\n" + 40 * b"l|" + b".\n", 39 * b"a\t" + b"a\n" + 39 * b"\\^\t" + b"\\^\n", b".TE\n", 1_250),
+    "tall_cells_of_several_columns": (
+        b".TS\n" + 20 * b"ls" + b"\n" + 20 * b"^s" + b".\n" + 19 * b"a\t" + b"a\n", b"\n", b".TE\n", 2_500),
+    "tall_cells_in_an_allbox": (
+        b".TS\nallbox;\n" + 40 * b"l" + b"\n" + 20 * b"^l" + b".\n" + 39 * b"a\t" + b"a\n", b"\n", b".TE\n", 1_250),
+    "tall_block": (
+        b".TS\nlw(9) l\n^ l.\nT{\n" + 20_000 * b"a word\n" + b"T}\tb\n", b"\tb\n", b".TE\n", 5_000),
+    "tall_blocks_of_long_lines": (
+        b".TS\nlw(9) l\n^ l.\nT{\n" + 20_000 * b"a word " + b"\nT}\tb\n", b"\tb\n_\n", b".TE\n", 2_500),
+    "rule_lines_through_tall_cells": (
+        b".TS\n" + 40 * b"l||" + b"\n" + 40 * b"^||" + b".\n" + 39 * b"a\t" + b"a\n", b"_\n", b"\n.TE\n", 2_500),
+    "rule_lines_through_a_tall_block": (
+        b".TS\nl|l\n^|l.\nT{\n" + 10_000 * b"a\n\n" + b"T}\tb\n", b"=\n", b"\tb\n.TE\n", 5_000),
+    "rule_rows_through_tall_cells": (
+        b".TS\n" + 40 * b"l||" + b"\n", b"_ =\n", 40 * b"^||" + b".\n" + 39 * b"a\t" + b"a\n\n.TE\n", 2_500),
+    "rule_rows_of_each_length_through_tall_cells": (
+        b".TS\n" + 40 * b"l||" + b"\n", rule_rows(LENGTHS, b"_||"), 40 * b"^||" + b".\n" + 39 * b"a\t" + b"a\n\n.TE\n", 64),
+    "rules_of_fields_in_tall_cells": (
+        b".TS\n" + 40 * b"l||" + b".\n", 39 * b"_\t" + b"_\n_\n" + 39 * b"\\^\t" + b"\\^\n", b".TE\n", 625),
 }
 # The widths that some of them are given.
 GROWING_WIDTHS = dict.fromkeys(

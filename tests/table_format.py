@@ -13,7 +13,7 @@ RULES = {b"_": b"_", b"-": b"_", b"=": b"="}
 BARS = 2
 
 # Which spans are laid out: `s` those over several columns, `^` those over several rows.
-BUILT = b"s"
+BUILT = b"s^"
 
 
 def not_yet(built):

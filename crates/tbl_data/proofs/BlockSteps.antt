@@ -31,7 +31,7 @@ use Rattle.tbl_layout.specs.KeptEntries.{IsKeptBy, IsOpened, block_lines, conten
 use Rattle.tbl_layout.specs.declared.entry.BlockEntry.{BlockEntry}
 use Rattle.tbl_layout.specs.declared.entry.Entry.{Entry}
 use Rattle.tbl_layout.specs.declared.entry.EntryKind.{EntryKind}
-use Rattle.tbl_layout.specs.declared.entry.EntryKind.TheVariants.{Block as BlockKind, Repeated as RepeatedKind, Ruled as RuledKind, Short as ShortKind, Split as SplitKind, Text as TextKind}
+use Rattle.tbl_layout.specs.declared.entry.EntryKind.TheVariants.{Above as AboveKind, Block as BlockKind, Repeated as RepeatedKind, Ruled as RuledKind, Short as ShortKind, Split as SplitKind, Text as TextKind}
 
 -- the block that is the last of a row's fields, and those in front of it
 record LastBlock (row : List Entry) : Type 0 where
@@ -76,6 +76,7 @@ opened-by (BlockKind b) bytes key e kept block = kept
 opened-by (RuledKind sign) bytes key e kept block = absurd block
 opened-by ShortKind bytes key e kept block = absurd block
 opened-by (RepeatedKind b) bytes key e kept block = absurd block
+opened-by AboveKind bytes key e kept block = absurd block
 
 last-opened : (bytes : List ℕ) (format : FormatRow) (column : ℕ) (front : List Entry) (e : Entry) → AreKept bytes format column (front ++ e ∷ []) → IsBlock e.kind → IsOpened bytes e
 last-opened bytes format column [] e kept block = opened-by e.kind bytes _ e kept.0 block
@@ -89,6 +90,7 @@ content-block (BlockKind b) bytes from to block opened = ap (λ (o : BlockEntry)
 content-block (RuledKind sign) bytes from to block opened = absurd block
 content-block ShortKind bytes from to block opened = absurd block
 content-block (RepeatedKind b) bytes from to block opened = absurd block
+content-block AboveKind bytes from to block opened = absurd block
 
 -- the last of fields of which no block is filled
 last-unfilled : (front : List Entry) (e : Entry) → AreOpened (front ++ e ∷ []) → IsOpenedKind e.kind

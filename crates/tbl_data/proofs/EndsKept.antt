@@ -25,7 +25,7 @@ module _ (from to : ℕ) (order : from ≤ to) where
   entries-later (e ∷ entries) all = (omega (arith, order, all.0), entries-later entries all.1)
 
   element-later : (e : KeptElement) → ElementEnds from e → ElementEnds to e
-  element-later (Row keys rules height entries) ends = entries-later entries ends
+  element-later (Row keys rules height is_tall entries) ends = entries-later entries ends
   element-later (Rule sign) ends = tt
   element-later (Command at end) ends = omega (arith, order, ends)
 

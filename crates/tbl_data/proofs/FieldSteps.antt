@@ -1,38 +1,30 @@
 -- The fields of a line, taken one after another.
-use Rattle.std.proofs.Common.{◌≡◌, ℕ, zero, suc, ◌+◌, ◌-◌, ◌≤◌, ◌<◌, Bool, true, false, not, ◌&&◌, ◌||◌, List, [], ◌∷◌, ◌++◌, length, map, take, Some, refl, sym, ap, cond, ◌∙◌, arith, append-nil, append_assoc, length-append, nat_lt, if◌then◌else◌}
-use Rattle.std.specs.Prelude.{take_while}
+use Rattle.std.proofs.Common.{◌≡◌, ℕ, zero, suc, ◌+◌, ◌-◌, ◌≤◌, ◌<◌, Bool, true, false, not, ◌&&◌, ◌||◌, List, [], ◌∷◌, ◌++◌, length, map, take, Some, refl, sym, ap, ◌∙◌, arith, append-nil, append_assoc, length-append, nat_lt, if◌then◌else◌}
 use Rattle.std.proofs.lemmas.Bool.Decides.{nat_tests}
-use Rattle.std.proofs.lemmas.List.Sums.{take_while-cons}
 use Rattle.tbl_options.specs.declared.message.Told.{Told}
 use Rattle.tbl_format.specs.Format.{FormatRow}
 use Rattle.tbl_format.specs.declared.format.Key.{Key}
 use Rattle.tbl_kept.specs.Joined.{line_at}
-use Rattle.tbl_layout.specs.DataLines.{ends_in_block, is_laid_out, kind_under, len_of_fields, opens_block, without_opening}
+use Rattle.tbl_layout.specs.DataLines.{ends_in_block, len_of_fields, opens_block, without_opening}
 use Rattle.tbl_layout.specs.Entries.{Content, content_under, key_at}
 use Rattle.tbl_data.specs.DataRead.{cells, field_notes, keyed, notes_of_field, row_opened, serving, surplus_notes, with_fields, with_open_row, with_row}
-use Rattle.tbl_data.specs.TableRead.{TableRead, bad, with_notes}
+use Rattle.tbl_data.specs.TableRead.{TableRead, with_notes}
 
--- whether a field is laid out under its key, and what it is
-abbrev pub is-laid : Key × List ℕ → Bool
-is-laid field = is_laid_out (kind_under field.0 field.1)
-
+-- what a field is under its key
 abbrev pub content-of : Key × List ℕ → Content
 content-of field = content_under field.0 field.1
 
 -- what fields make of a table, by what they are
-abbrev pub outcome : Bool → ℕ → Bool → List Content → Bool → Bool → ℕ → TableRead → TableRead
-outcome unbuilt fault opens contents has had line t =
-    if unbuilt then bad fault t
-    else with_open_row opens (has || had) contents (with_notes (surplus_notes (has && not had) line) t)
+abbrev pub outcome : Bool → List Content → Bool → Bool → ℕ → TableRead → TableRead
+outcome opens contents has had line t = with_open_row opens (has || had) contents (with_notes (surplus_notes (has && not had) line) t)
 
 -- of those for which there is room, from a cell on
 module _ (ends : List (ℕ × ℕ)) (n : ℕ) (in_front : List Content) (had : Bool) (format : FormatRow) where
   abbrev pub within : ℕ → ℕ → ℕ → List (List ℕ) → List (List ℕ) → TableRead → TableRead
   within column room place all texts t =
       let fields = keyed format column texts in
-      let built = take_while is-laid fields in
-      outcome (nat_lt (length built) (length texts)) (line_at ends (place + len_of_fields (take (length built) texts)) n) (ends_in_block all) (in_front ++ map content-of fields)
-      (nat_lt room (length all)) had (line_at ends (place + len_of_fields texts - 1) n) (with_notes (field_notes ends n place built) t)
+      outcome (ends_in_block all) (in_front ++ map content-of fields) (nat_lt room (length all)) had (line_at ends (place + len_of_fields texts - 1) n)
+      (with_notes (field_notes ends n place fields) t)
 
 pub fields-within : (ends : List (ℕ × ℕ)) (n : ℕ) (in_front : List Content) (had : Bool) (place : ℕ) (all : List (List ℕ)) (t : TableRead)
     → with_fields ends n place all in_front had t
@@ -60,7 +52,7 @@ pub zero-less : (b : ℕ) → nat_lt 0 (suc b) ≡ true
 zero-less b = grind (arith, nat_tests)
 
 -- one field more in front of others
-module _ (ends : List (ℕ × ℕ)) (n place : ℕ) (field next : List ℕ) (rest : List (List ℕ)) (in_front : List Content) (had : Bool) (t : TableRead) (laid : is_laid_out (kind_under (key_at (serving t) (length in_front)) field) ≡ true) where
+module _ (ends : List (ℕ × ℕ)) (n place : ℕ) (field next : List ℕ) (rest : List (List ℕ)) (in_front : List Content) (had : Bool) (t : TableRead) where
   abbrev more : List (List ℕ)
   more = next ∷ rest
 
@@ -76,34 +68,26 @@ module _ (ends : List (ℕ × ℕ)) (n place : ℕ) (field next : List ℕ) (res
   abbrev content : Content
   content = content_under key field
 
-  while-front : (fields : List (Key × List ℕ)) → take_while is-laid ((key, field) ∷ fields) ≡ (key, field) ∷ take_while is-laid fields
-  while-front fields = take_while-cons is-laid (key, field) fields ∙ ap (λ (b : Bool). cond b ((key, field) ∷ take_while is-laid fields) []) laid
-
   abbrev told : List Told
   told = notes_of_field key ends n place field
 
-  -- said of the fields that are built, whether some are left, and the places
-  abbrev made : Bool → ℕ → Bool → ℕ → List Content → List (Key × List ℕ) → TableRead
-  made unbuilt fault has behind contents built =
-      outcome unbuilt (line_at ends fault n) (ends_in_block more) contents has had (line_at ends (behind - 1) n) (with_notes (field_notes ends n place built) t)
+  -- said of whether some are left, of the place behind them, and of what they are
+  abbrev made : Bool → ℕ → List Content → List (Key × List ℕ) → TableRead
+  made has behind contents fields =
+      outcome (ends_in_block more) contents has had (line_at ends (behind - 1) n) (with_notes (field_notes ends n place fields) t)
 
   within-front : (r : ℕ) (texts : List (List ℕ))
       → within ends n in_front had format column (suc r) place (field ∷ more) (field ∷ texts) t
       ≡ within ends n (in_front ++ content ∷ []) had format (suc column) r (place + length field + 1) more texts (with_notes told t)
   within-front r texts =
       let fields = keyed format (suc column) texts in
-      let built = take_while is-laid fields in
       let behind = place + length field + 1 in
-      let has = nat_lt (suc r) (length (field ∷ more)) in
-      let at : (fs : List (List ℕ)) → place + len_of_fields (field ∷ fs) ≡ behind + len_of_fields fs = λ fs. omega arith in
-      ap (λ (b : List (Key × List ℕ)). made (nat_lt (length b) (length (field ∷ texts))) (place + len_of_fields (take (length b) (field ∷ texts))) has (place + len_of_fields (field ∷ texts)) (in_front ++ map content-of ((key, field) ∷ fields)) b) (while-front fields)
-      ∙ ap (λ (b : Bool). made b (place + len_of_fields (field ∷ take (length built) texts)) has (place + len_of_fields (field ∷ texts)) (in_front ++ map content-of ((key, field) ∷ fields)) ((key, field) ∷ built)) (less_suc (length built) (length texts))
-      ∙ ap (λ (b : Bool). made (nat_lt (length built) (length texts)) (place + len_of_fields (field ∷ take (length built) texts)) b (place + len_of_fields (field ∷ texts)) (in_front ++ map content-of ((key, field) ∷ fields)) ((key, field) ∷ built)) (less_suc r (length more))
-      ∙ ap (λ (p : ℕ). made (nat_lt (length built) (length texts)) p (nat_lt r (length more)) (place + len_of_fields (field ∷ texts)) (in_front ++ map content-of ((key, field) ∷ fields)) ((key, field) ∷ built)) (at (take (length built) texts))
-      ∙ ap (λ (p : ℕ). made (nat_lt (length built) (length texts)) (behind + len_of_fields (take (length built) texts)) (nat_lt r (length more)) p (in_front ++ map content-of ((key, field) ∷ fields)) ((key, field) ∷ built)) (at texts)
-      ∙ ap (λ (c : List Content). made (nat_lt (length built) (length texts)) (behind + len_of_fields (take (length built) texts)) (nat_lt r (length more)) (behind + len_of_fields texts) c ((key, field) ∷ built)) (sym (append_assoc in_front (content ∷ []) (map content-of fields)))
-      ∙ ap (λ (ts : List Told). outcome (nat_lt (length built) (length texts)) (line_at ends (behind + len_of_fields (take (length built) texts)) n) (ends_in_block more) ((in_front ++ content ∷ []) ++ map content-of fields)
-      (nat_lt r (length more)) had (line_at ends (behind + len_of_fields texts - 1) n) (record t { notes = ts })) (sym (append_assoc t.notes told (field_notes ends n behind built)))
+      let at : place + len_of_fields (field ∷ texts) ≡ behind + len_of_fields texts = omega arith in
+      ap (λ (b : Bool). made b (place + len_of_fields (field ∷ texts)) (in_front ++ map content-of ((key, field) ∷ fields)) ((key, field) ∷ fields)) (less_suc r (length more))
+      ∙ ap (λ (p : ℕ). made (nat_lt r (length more)) p (in_front ++ map content-of ((key, field) ∷ fields)) ((key, field) ∷ fields)) at
+      ∙ ap (λ (c : List Content). made (nat_lt r (length more)) (behind + len_of_fields texts) c ((key, field) ∷ fields)) (sym (append_assoc in_front (content ∷ []) (map content-of fields)))
+      ∙ ap (λ (ts : List Told). outcome (ends_in_block more) ((in_front ++ content ∷ []) ++ map content-of fields) (nat_lt r (length more)) had
+      (line_at ends (behind + len_of_fields texts - 1) n) (record t { notes = ts })) (sym (append_assoc t.notes told (field_notes ends n behind fields)))
 
   pub one-field : length in_front < cells t
       → with_fields ends n place (field ∷ more) in_front had t ≡ with_fields ends n (place + length field + 1) more (in_front ++ content ∷ []) had (with_notes told t)
@@ -117,7 +101,7 @@ module _ (ends : List (ℕ × ℕ)) (n place : ℕ) (field next : List ℕ) (res
       ∙ ap (λ (k : ℕ). within ends n (in_front ++ content ∷ []) had format (suc column) k (place + length field + 1) more (take k (without_opening more)) (with_notes told t)) behind
       ∙ ap (λ (c : ℕ). within ends n (in_front ++ content ∷ []) had format c (cells t - length (in_front ++ content ∷ [])) (place + length field + 1) more (take (cells t - length (in_front ++ content ∷ [])) (without_opening more)) (with_notes told t)) next_column
 
--- the last field, and a first one that isn't laid out
+-- the last field
 module _ (ends : List (ℕ × ℕ)) (n place : ℕ) (in_front : List Content) (had : Bool) (t : TableRead) where
   abbrev row : FormatRow
   row = serving t
@@ -144,7 +128,7 @@ module _ (ends : List (ℕ × ℕ)) (n place : ℕ) (in_front : List Content) (h
       let opens = ends_in_block all in
       let at : place + 0 ≡ place = omega arith in
       ap (λ (k : ℕ). within ends n in_front had row next_column k place all (take k (without_opening all)) t) none
-      ∙ ap (λ (b : Bool). outcome (nat_lt 0 0) (line_at ends (place + 0) n) opens (in_front ++ map content-of []) b had (line_at ends (place + 0 - 1) n) (with_notes [] t)) (zero-less (length rest))
+      ∙ ap (λ (b : Bool). outcome opens (in_front ++ map content-of []) b had (line_at ends (place + 0 - 1) n) (with_notes [] t)) (zero-less (length rest))
       ∙ ap (λ (c : List Content). with_open_row opens true c (with_notes (surplus_notes (not had) (line_at ends (place + 0 - 1) n)) (with_notes [] t))) front-none
       ∙ ap (λ (u : TableRead). with_open_row opens true in_front (with_notes (surplus_notes (not had) (line_at ends (place + 0 - 1) n)) u)) (notes-none t)
       ∙ ap (λ (p : ℕ). with_open_row opens true in_front (with_notes (surplus_notes (not had) (line_at ends (p - 1) n)) t)) at
@@ -168,69 +152,28 @@ module _ (ends : List (ℕ × ℕ)) (n place : ℕ) (in_front : List Content) (h
     opening-last opens =
         within-room (field ∷ [])
         ∙ ap (λ (o : Bool). within ends n in_front had row next_column (suc left) place (field ∷ []) (take (suc left) (if o then [] else field ∷ [])) t) opens
-        ∙ ap (λ (o : Bool). outcome (nat_lt 0 0) (line_at ends (place + 0) n) o (in_front ++ map content-of []) (nat_lt (suc left) (length (field ∷ []))) had (line_at ends (place + 0 - 1) n) (with_notes [] t)) opens
-        ∙ ap (λ (b : Bool). outcome (nat_lt 0 0) (line_at ends (place + 0) n) true (in_front ++ map content-of []) b had (line_at ends (place + 0 - 1) n) (with_notes [] t)) no-surplus
+        ∙ ap (λ (o : Bool). outcome o (in_front ++ map content-of []) (nat_lt (suc left) (length (field ∷ []))) had (line_at ends (place + 0 - 1) n) (with_notes [] t)) opens
+        ∙ ap (λ (b : Bool). outcome true (in_front ++ map content-of []) b had (line_at ends (place + 0 - 1) n) (with_notes [] t)) no-surplus
         ∙ ap (λ (c : List Content). with_open_row true had c (with_notes [] (with_notes [] t))) front-none
         ∙ ap (λ (u : TableRead). with_open_row true had in_front u) (notes-none (with_notes [] t) ∙ notes-none t)
 
-    -- one that is laid out ends the row
-    abbrev kept-by : Bool → List (Key × List ℕ) → List (List ℕ) → TableRead
-    kept-by opens built texts =
-        outcome (nat_lt (length built) (length texts)) (line_at ends (place + len_of_fields (take (length built) texts)) n) opens (in_front ++ map content-of (keyed row next_column texts))
-        (nat_lt (suc left) (length (field ∷ []))) had (line_at ends (place + len_of_fields texts - 1) n) (with_notes (field_notes ends n place built) t)
-
-    last-kept : opens_block field ≡ false → with_fields ends n place (field ∷ []) in_front had t
-        ≡ kept-by false (take_while is-laid (keyed row next_column (take (suc left) (field ∷ [])))) (take (suc left) (field ∷ []))
-    last-kept opens =
-        within-room (field ∷ [])
-        ∙ ap (λ (o : Bool). within ends n in_front had row next_column (suc left) place (field ∷ []) (take (suc left) (if o then [] else field ∷ [])) t) opens
-        ∙ ap (λ (o : Bool). kept-by o (take_while is-laid (keyed row next_column (take (suc left) (field ∷ [])))) (take (suc left) (field ∷ []))) opens
+    -- or the row ends
+    abbrev kept-by : Bool → List (List ℕ) → TableRead
+    kept-by opens texts =
+        outcome opens (in_front ++ map content-of (keyed row next_column texts)) (nat_lt (suc left) (length (field ∷ []))) had
+        (line_at ends (place + len_of_fields texts - 1) n) (with_notes (field_notes ends n place (keyed row next_column texts)) t)
 
     one-by : (k : ℕ) → take (suc k) (field ∷ []) ≡ field ∷ []
     one-by zero = refl
     one-by (suc k) = refl
 
-    one : take (suc left) (field ∷ []) ≡ field ∷ []
-    one = one-by left
-
-    pub laid-last : opens_block field ≡ false → is_laid_out (kind_under next_key field) ≡ true
+    pub last-kept : opens_block field ≡ false
         → with_fields ends n place (field ∷ []) in_front had t ≡ with_row (in_front ++ content_under next_key field ∷ []) (with_notes (notes_of_field next_key ends n place field) t)
-    laid-last opens laid =
+    last-kept opens =
         let told = notes_of_field next_key ends n place field in
-        let whole : take_while is-laid ((next_key, field) ∷ []) ≡ (next_key, field) ∷ [] =
-        take_while-cons is-laid (next_key, field) [] ∙ ap (λ (b : Bool). cond b ((next_key, field) ∷ []) []) laid in
-        last-kept opens
-        ∙ ap (λ (fs : List (List ℕ)). kept-by false (take_while is-laid (keyed row next_column fs)) fs) one
-        ∙ ap (λ (b : List (Key × List ℕ)). kept-by false b (field ∷ [])) whole
-        ∙ ap (λ (b : Bool). outcome (nat_lt 1 1) (line_at ends (place + len_of_fields (field ∷ [])) n) false (in_front ++ content_under next_key field ∷ []) b had (line_at ends (place + len_of_fields (field ∷ []) - 1) n) (with_notes (told ++ []) t)) no-surplus
-        ∙ ap (λ (u : TableRead). with_row (in_front ++ content_under next_key field ∷ []) u) (notes-none (with_notes (told ++ []) t) ∙ ap (λ (ts : List Told). with_notes ts t) (append-nil told))
-
-    -- one that isn't laid out
-    abbrev fault-by : List (List ℕ) → List (Key × List ℕ) → List (List ℕ) → TableRead
-    fault-by all built texts =
-        outcome (nat_lt (length built) (length texts)) (line_at ends (place + len_of_fields (take (length built) texts)) n) (ends_in_block all) (in_front ++ map content-of (keyed row next_column texts))
-        (nat_lt (suc left) (length all)) had (line_at ends (place + len_of_fields texts - 1) n) (with_notes (field_notes ends n place built) t)
-
-    unbuilt-first : (all texts : List (List ℕ)) → is_laid_out (kind_under next_key field) ≡ false
-        → fault-by all (take_while is-laid (keyed row next_column (field ∷ texts))) (field ∷ texts) ≡ bad (line_at ends place n) t
-    unbuilt-first all texts unlaid =
-        let fields = keyed row (suc next_column) texts in
-        let none : take_while is-laid ((next_key, field) ∷ fields) ≡ [] =
-        take_while-cons is-laid (next_key, field) fields ∙ ap (λ (b : Bool). cond b ((next_key, field) ∷ take_while is-laid fields) []) unlaid in
-        ap (λ (b : List (Key × List ℕ)). fault-by all b (field ∷ texts)) none
-        ∙ ap (λ (b : Bool). outcome b (line_at ends (place + 0) n) (ends_in_block all) (in_front ++ map content-of (keyed row next_column (field ∷ texts)))
-        (nat_lt (suc left) (length all)) had (line_at ends (place + len_of_fields (field ∷ texts) - 1) n) (with_notes [] t)) (zero-less (length texts))
-        ∙ ap (λ (p : ℕ). bad (line_at ends p n) (with_notes [] t)) (omega arith)
-        ∙ ap (λ (u : TableRead). bad (line_at ends place n) u) (notes-none t)
-
-    pub unbuilt-last : opens_block field ≡ false → is_laid_out (kind_under next_key field) ≡ false
-        → with_fields ends n place (field ∷ []) in_front had t ≡ bad (line_at ends place n) t
-    unbuilt-last opens unlaid =
         within-room (field ∷ [])
         ∙ ap (λ (o : Bool). within ends n in_front had row next_column (suc left) place (field ∷ []) (take (suc left) (if o then [] else field ∷ [])) t) opens
-        ∙ unbuilt-first (field ∷ []) (take left []) unlaid
-
-    pub unbuilt-field : (next : List ℕ) (rest : List (List ℕ)) → is_laid_out (kind_under next_key field) ≡ false
-        → with_fields ends n place (field ∷ next ∷ rest) in_front had t ≡ bad (line_at ends place n) t
-    unbuilt-field next rest unlaid =
-        within-room (field ∷ next ∷ rest) ∙ unbuilt-first (field ∷ next ∷ rest) (take left (without_opening (next ∷ rest))) unlaid
+        ∙ ap (λ (o : Bool). kept-by o (take (suc left) (field ∷ []))) opens
+        ∙ ap (λ (fs : List (List ℕ)). kept-by false fs) (one-by left)
+        ∙ ap (λ (b : Bool). outcome false (in_front ++ content_under next_key field ∷ []) b had (line_at ends (place + len_of_fields (field ∷ []) - 1) n) (with_notes (told ++ []) t)) no-surplus
+        ∙ ap (λ (u : TableRead). with_row (in_front ++ content_under next_key field ∷ []) u) (notes-none (with_notes (told ++ []) t) ∙ ap (λ (ts : List Told). with_notes ts t) (append-nil told))

@@ -8,4 +8,5 @@ pub mod BlockSteps
 pub mod LineSteps
 pub mod EndsKept
 pub mod FieldsKept
-pub mod RulesKept
+pub mod OtherFields
+pub mod OthersKept

@@ -5,14 +5,14 @@ use Rattle.std.proofs.lemmas.List.{drop_all, drop_more, length-map, take_all}
 use Rattle.tbl_data.specs.DataRead.{cells, notes_of_field, row_opened, serving, surplus_notes, with_fields, with_open_row, with_row}
 use Rattle.tbl_data.specs.LineTaken.{EndsRow, Grows, LineLies, Makes, OpensBlock, RowFits, TakesField, cells_next, contents_in, fields_made, key_next, last_made, left_from, more_notes, surplus_kept}
 use Rattle.tbl_data.specs.TableData.{EndsBy, OpenEndsAt, SameRooms, Serves, table_by}
-use Rattle.tbl_data.specs.TableRead.{TableRead, bad, with_notes}
+use Rattle.tbl_data.specs.TableRead.{TableRead, with_notes}
 use Rattle.tbl_data.specs.declared.data_line.DataLine.{DataLine}
 use Rattle.tbl_data.specs.declared.phase.Phase.{Phase}
 use Rattle.tbl_data.specs.declared.phase.Phase.TheVariants.{InData}
 use Rattle.tbl_data.specs.declared.table_data.OpenBlock.{OpenBlock}
 use Rattle.tbl_data.specs.declared.table_data.OpenBlock.TheVariants.{Nothing}
 use Rattle.tbl_data.specs.declared.table_data.TableData.{TableData}
-use Rattle.tbl_data.proofs.FieldSteps.{laid-last, no-room, one-field, opening-last, unbuilt-field, unbuilt-last}
+use Rattle.tbl_data.proofs.FieldSteps.{last-kept, no-room, one-field, opening-last}
 use Rattle.tbl_data.proofs.EndsKept.{notes-end, within-append}
 use Rattle.tbl_data.proofs.RowSteps.{cells-is, key-is, table-notes}
 use Rattle.tbl_options.specs.Notes.{NotesWithin, told_of_all}
@@ -24,7 +24,7 @@ use Rattle.tbl_kept.specs.TableNotes.{KeptNotes}
 use Rattle.tbl_kept.specs.TableText.{KeptText, block_of}
 use Rattle.tbl_layout.proofs.Fields.{field_len, fields-front, fields_behind, front-part, length-part, rest-part}
 use Rattle.tbl_layout.specs.Data.{fields}
-use Rattle.tbl_layout.specs.DataLines.{ends_in_block, is_laid_out, kind_under, opens_block}
+use Rattle.tbl_layout.specs.DataLines.{ends_in_block, opens_block}
 use Rattle.tbl_layout.specs.Entries.{Content, content_under, key_at}
 use Rattle.tbl_layout.specs.KeptEntries.{content_of}
 
@@ -76,10 +76,10 @@ makes-as k line count most make other phase old new few same made = record {
 }
 
 -- and behind a step, which makes something of it first
-pub makes-behind : (k : KeptText) (line : DataLine) (m n most : ℕ) (make other : TableRead → TableRead) (phase : Phase) (old mid new : TableData) → m + n ≤ most
+pub makes-behind : (k : KeptText) (line : DataLine) (m n most : ℕ) (make other : TableRead → TableRead) (old mid new : TableData) → m + n ≤ most
     → ((options : Options) → make (table_by InData options (block_of k) mid) ≡ other (table_by InData options (block_of k) old))
-    → Grows m 0 old mid → (EndsBy line.to old → EndsBy line.to mid) → Makes k line n make phase mid new → Makes k line most other phase old new
-makes-behind k line m n most make other phase old mid new few same grown first made = record {
+    → Grows m 0 old mid → (EndsBy line.to old → EndsBy line.to mid) → Makes k line n make InData mid new → Makes k line most other InData old new
+makes-behind k line m n most make other old mid new few same grown first made = record {
   table = λ options is. made.table options is ∙ same options;
   fits = made.fits;
   ends = made.ends;
@@ -168,25 +168,15 @@ module _ (k : KeptText) (line : DataLine) (at : ℕ) (had : Bool) (d : TableData
         grown = record { entries = omega (arith, few, one, grown.entries); elements = omega (arith, grown.elements); notes = omega (arith, few, one, grown.notes); to_tell = grown.to_tell; rooms = grown.rooms };
       }
 
-  pub last-unbuilt : (most : ℕ) (phase : Phase) (new : TableData) → 1 ≤ most → opens_block field ≡ false → is_laid_out (kind_under key field) ≡ false
-      → Makes k line 1 (bad (line_at ends (at - line.from) line.number)) phase d new
-      → Makes k line most (last_made k line at had d) phase d new
-  last-unbuilt most phase new few opens unbuilt made =
-      makes-as k line 1 most (bad (line_at ends (at - line.from) line.number)) (last_made k line at had d) phase d new few
-      (λ options is. sym (unbuilt-last ends line.number (at - line.from) (contents_in k d) had (table_by InData options (block_of k) d) field (has-cell options) opens
-      (ap (λ (x : Key). is_laid_out (kind_under x field)) (same-key options) ∙ unbuilt)))
-      made
-
-  pub last-laid : (most : ℕ) (mid new : TableData) → line.to - at + 1 ≤ most → opens_block field ≡ false → is_laid_out (kind_under key field) ≡ true
+  pub last-ends : (most : ℕ) (mid new : TableData) → line.to - at + 1 ≤ most → opens_block field ≡ false
       → TakesField k line at line.to d mid → EndsRow (block_of k) mid new → (EndsBy line.to mid → EndsBy line.to new) → new.open ≡ Nothing → Grows 0 1 mid new
       → Makes k line most (last_made k line at had d) InData d new
-  last-laid most mid new few opens laid taken ended settled closed grown = record {
+  last-ends most mid new few opens taken ended settled closed grown = record {
     table = λ options is.
         ended.table options
         ∙ ap (λ (contents : List Content). with_row contents (table_by InData options (block_of k) mid)) taken.row
         ∙ ap (λ (t : TableRead). with_row (contents_in k d ++ content_under key field ∷ []) t) (taken.table options)
-        ∙ sym (laid-last ends line.number (at - line.from) (contents_in k d) had (table_by InData options (block_of k) d) field (has-cell options) opens
-        (ap (λ (x : Key). is_laid_out (kind_under x field)) (same-key options) ∙ laid)
+        ∙ sym (last-kept ends line.number (at - line.from) (contents_in k d) had (table_by InData options (block_of k) d) field (has-cell options) opens
         ∙ ap (λ (x : Key). with_row (contents_in k d ++ content_under x field ∷ []) (with_notes (notes_of_field x ends line.number (at - line.from) field) (table_by InData options (block_of k) d))) (same-key options));
     fits = ended.fits;
     ends = subst (λ (o : OpenBlock). OpenEndsAt line.to o new.rows.row) (sym closed) tt;
@@ -308,19 +298,19 @@ pub record FieldsSoFar (k : KeptText) (line : DataLine) (first at : ℕ) (had : 
 
 module _ (k : KeptText) (line : DataLine) (first at : ℕ) (had : Bool) (old now : TableData) (so_far : FieldsSoFar k line first at had old now) where
   -- what is left makes of it what all do
-  pub fields-end : (phase : Phase) (new : TableData) → Makes k line (line.to - at + 1) (fields_made k line at had now) phase now new
-      → Makes k line (line.to - first + 1) (fields_made k line first had old) phase old new
-  fields-end phase new made =
-      makes-behind k line (at - first) (line.to - at + 1) (line.to - first + 1) (fields_made k line at had now) (fields_made k line first had old) phase old now new
+  pub fields-end : (new : TableData) → Makes k line (line.to - at + 1) (fields_made k line at had now) InData now new
+      → Makes k line (line.to - first + 1) (fields_made k line first had old) InData old new
+  fields-end new made =
+      makes-behind k line (at - first) (line.to - at + 1) (line.to - first + 1) (fields_made k line at had now) (fields_made k line first had old) old now new
       (omega (arith, so_far.order, so_far.within)) so_far.table so_far.grown so_far.settled made
 
   module _ (lies : LineLies (block_of k) line) (len : ℕ) (is : len ≡ field_len line.separator (left_from k line at)) where
-    pub fields-last : (phase : Phase) (new : TableData) → at + len ≡ line.to → Makes k line (line.to - at + 1) (last_made k line at had now) phase now new
-        → Makes k line (line.to - first + 1) (fields_made k line first had old) phase old new
-    fields-last phase new end made =
+    pub fields-last : (new : TableData) → at + len ≡ line.to → Makes k line (line.to - at + 1) (last_made k line at had now) InData now new
+        → Makes k line (line.to - first + 1) (fields_made k line first had old) InData old new
+    fields-last new end made =
         let alone = fields-alone k line lies at len so_far.within is end in
-        fields-end phase new
-        (makes-as k line (line.to - at + 1) (line.to - at + 1) (last_made k line at had now) (fields_made k line at had now) phase now new (omega arith)
+        fields-end new
+        (makes-as k line (line.to - at + 1) (line.to - at + 1) (last_made k line at had now) (fields_made k line at had now) InData now new (omega arith)
         (λ options same. sym (ap (λ (fs : List (List ℕ)). with_fields (ends_joined k.pending) line.number (at - line.from) fs (contents_in k now) had (table_by InData options (block_of k) now)) alone))
         made)
 
@@ -346,19 +336,9 @@ module _ (k : KeptText) (line : DataLine) (first at : ℕ) (had : Bool) (old now
           ap (λ (fs : List (List ℕ)). with_fields (ends_joined k.pending) line.number (at - line.from) fs (contents_in k now) had (table_by InData options (block_of k) now))
           (fields-first k line lies at len so_far.within is more ∙ ap (λ (fs : List (List ℕ)). this ∷ fs) behind-it.is)
 
-      pub fields-unbuilt : (phase : Phase) (new : TableData) → is_laid_out (kind_under key_now this) ≡ false
-          → Makes k line 1 (bad (line_at (ends_joined k.pending) (at - line.from) line.number)) phase now new
-          → Makes k line (line.to - first + 1) (fields_made k line first had old) phase old new
-      fields-unbuilt phase new unbuilt made =
-          fields-end phase new
-          (makes-as k line 1 (line.to - at + 1) (bad (line_at (ends_joined k.pending) (at - line.from) line.number)) (fields_made k line at had now) phase now new (omega arith)
-          (λ options is. sym (made-by options ∙ unbuilt-field (ends_joined k.pending) line.number (at - line.from) (contents_in k now) had (table_by InData options (block_of k) now) this (room options) behind-it.next behind-it.rest
-          (ap (λ (x : Key). is_laid_out (kind_under x this)) (same-key-now options) ∙ unbuilt)))
-          made)
-
-      pub fields-next : (new : TableData) → line.from ≤ at → is_laid_out (kind_under key_now this) ≡ true → TakesField k line at (at + len) now new
+      pub fields-next : (new : TableData) → line.from ≤ at → TakesField k line at (at + len) now new
           → FieldsSoFar k line first (at + len + 1) had old new
-      fields-next new from laid taken =
+      fields-next new from taken =
           let ends = ends_joined k.pending in
           let n = line.number in
           let place : at - line.from + length this + 1 ≡ at + len + 1 - line.from =
@@ -368,7 +348,7 @@ module _ (k : KeptText) (line : DataLine) (first at : ℕ) (had : Bool) (old now
             table = λ options.
                 let t = table_by InData options (block_of k) now in
                 sym (made-by options
-                ∙ one-field ends n (at - line.from) this next.next next.rest (contents_in k now) had t (ap (λ (x : Key). is_laid_out (kind_under x this)) (same-key-now options) ∙ laid) (room options)
+                ∙ one-field ends n (at - line.from) this next.next next.rest (contents_in k now) had t (room options)
                 ∙ ap (λ (x : Key). with_fields ends n (at - line.from + length this + 1) (next.next ∷ next.rest) (contents_in k now ++ content_under x this ∷ []) had (with_notes (notes_of_field x ends n (at - line.from) this) t)) (same-key-now options)
                 ∙ ap (λ (fs : List (List ℕ)). with_fields ends n (at - line.from + length this + 1) fs (contents_in k now ++ content_under key_now this ∷ []) had (with_notes (notes_of_field key_now ends n (at - line.from) this) t)) (sym next.is)
                 ∙ ap (λ (p : ℕ). with_fields ends n p (fields line.separator (left_from k line (at + len + 1))) (contents_in k now ++ content_under key_now this ∷ []) had (with_notes (notes_of_field key_now ends n (at - line.from) this) t)) place

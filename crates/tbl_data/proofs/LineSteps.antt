@@ -1,6 +1,6 @@
 -- Whole lines of the data, by what they are.
 use Rattle.std.proofs.Common.{◌≡◌, ◌≢◌, ℕ, ◌+◌, ◌-◌, ◌<◌, ◌≤◌, ◌^◌, Bool, true, false, List, [], ◌∷◌, ◌++◌, length, map, take, drop, Option, Some, refl, sym, ap, subst, ◌∙◌, arith, append-nil, length-append, if◌then◌else◌}
-use Rattle.std.specs.Prelude.{is_some, nat_lt, option_map, take_while}
+use Rattle.std.specs.Prelude.{is_some, nat_lt, option_map}
 use Rattle.std.specs.List.{slice_range}
 use Rattle.tbl_data.specs.DataRead.{behind_block, cells, closed_block, field_notes, fields_with_block, item_notes, keyed, serving, with_block_line, with_fields, with_line, with_row, with_text, with_whole}
 use Rattle.tbl_data.specs.LineTaken.{EndsRow, Grows, LineLies, Makes, RowFits, block_line_made, contents_in, fields_made, left_from, made_by, more_notes, notes_kept, row_begun, text_made}
@@ -15,7 +15,7 @@ use Rattle.tbl_data.specs.declared.table_data.OpenBlock.TheVariants.{Dropped, Ke
 use Rattle.tbl_data.specs.declared.table_data.TableData.{TableData}
 use Rattle.tbl_data.proofs.BlockSteps.{begun-contents, begun-kept, begun-some, begun-surplus, row-unfilled}
 use Rattle.tbl_data.proofs.EndsKept.{all-append, notes-end, within-append}
-use Rattle.tbl_data.proofs.FieldSteps.{content-of, is-laid, outcome}
+use Rattle.tbl_data.proofs.FieldSteps.{content-of, outcome}
 use Rattle.tbl_data.proofs.LineFields.{fields-alone, fields-first, makes-as, some-fields}
 use Rattle.tbl_data.proofs.NotesTold.{items-told}
 use Rattle.tbl_data.proofs.RowSteps.{entries_in-append, table-notes}
@@ -54,14 +54,14 @@ pub none-kept : (k : KeptText) (d : TableData) → DataFits (block_of k) d → d
 none-kept k d fits closed = subst (λ (o : OpenBlock). OpenFits o d.rows.row) closed fits.block
 
 -- a row
-pub row-line : (k : KeptText) (line : DataLine) (kind : LineKind) (phase : Phase) (d new : TableData) → kind ≡ Row → d.rows.row ≡ []
-    → Makes k line (line.to - line.from + 1) (fields_made k line line.from false d) phase d new
-    → Makes k line (line.to - line.from + 1) (made_by kind k line) phase d new
-row-line k line kind phase d new is none made =
+pub row-line : (k : KeptText) (line : DataLine) (kind : LineKind) (d new : TableData) → kind ≡ Row → d.rows.row ≡ []
+    → Makes k line (line.to - line.from + 1) (fields_made k line line.from false d) InData d new
+    → Makes k line (line.to - line.from + 1) (made_by kind k line) InData d new
+row-line k line kind d new is none made =
     let count = line.to - line.from + 1 in
     let here : line.from - line.from ≡ 0 = omega arith in
     let text = left_from k line line.from in
-    makes-as k line count count (fields_made k line line.from false d) (made_by kind k line) phase d new (omega arith)
+    makes-as k line count count (fields_made k line line.from false d) (made_by kind k line) InData d new (omega arith)
     (λ options same.
     let t = table_by InData options (block_of k) d in
     ap (λ (p : ℕ). with_fields (ends_joined k.pending) line.number p (fields line.separator text) (contents_in k d) false t) here
@@ -240,11 +240,10 @@ request-notes k line kept notes told =
     omega (arith, ap (λ (n : KeptNotes). length n.notes) told, length-append kept.notes (record { line = line_at (ends_joined k.pending) 0 line.number; cause = RequestInTextBlock } ∷ []))
 
 -- fields make the same of a table of which a row is begun
-outcome-begun : (unbuilt opens has had : Bool) (fault line : ℕ) (contents : List Content) (t : TableRead) (begun : Option RowBegun)
-    → outcome unbuilt fault opens contents has had line (record t { begun = begun }) ≡ outcome unbuilt fault opens contents has had line t
-outcome-begun true opens has had fault line contents t begun = refl
-outcome-begun false true has had fault line contents t begun = refl
-outcome-begun false false has had fault line contents t begun = refl
+outcome-begun : (opens has had : Bool) (line : ℕ) (contents : List Content) (t : TableRead) (begun : Option RowBegun)
+    → outcome opens contents has had line (record t { begun = begun }) ≡ outcome opens contents has had line t
+outcome-begun true has had line contents t begun = refl
+outcome-begun false has had line contents t begun = refl
 
 fields-begun : (ends : List (ℕ × ℕ)) (n place : ℕ) (all : List (List ℕ)) (in_front : List Content) (had : Bool) (t : TableRead) (begun : Option RowBegun)
     → with_fields ends n place all in_front had (record t { begun = begun }) ≡ with_fields ends n place all in_front had t
@@ -252,9 +251,8 @@ fields-begun ends n place all in_front had t begun =
     let room = cells t - length in_front in
     let texts = take room (without_opening all) in
     let fields = keyed (serving t) (length in_front) texts in
-    let built = take_while is-laid fields in
-    outcome-begun (nat_lt (length built) (length texts)) (ends_in_block all) (nat_lt room (length all)) had (line_at ends (place + len_of_fields (take (length built) texts)) n) (line_at ends (place + len_of_fields texts - 1) n)
-    (in_front ++ map content-of fields) (with_notes (field_notes ends n place built) t) begun
+    outcome-begun (ends_in_block all) (nat_lt room (length all)) had (line_at ends (place + len_of_fields texts - 1) n)
+    (in_front ++ map content-of fields) (with_notes (field_notes ends n place fields) t) begun
 
 -- rooms go by no block
 rooms-of : (d : TableData) (o : OpenBlock) (new : TableData) → SameRooms (record d { «open» = o }) new → SameRooms d new
@@ -302,10 +300,10 @@ module _ (k : KeptText) (line : DataLine) (lies : LineLies (block_of k) line) (d
     grown = record { entries = omega (arith, grown.entries); elements = grown.elements; notes = omega (arith, grown.notes); to_tell = grown.to_tell; rooms = rooms-of d Nothing new grown.rooms };
   }
 
-  pub end-fields : (most : ℕ) (phase : Phase) (new : TableData) (had : Bool) → had ≡ had_surplus d.open → line.from + 2 + len < line.to → line.to - (line.from + 2 + len + 1) + 1 ≤ most
-      → Makes k line (line.to - (line.from + 2 + len + 1) + 1) (fields_made k line (line.from + 2 + len + 1) had ended) phase ended new
-      → Makes k line most (block_line_made End k line d) phase d new
-  end-fields most phase new had surplus more few made =
+  pub end-fields : (most : ℕ) (new : TableData) (had : Bool) → had ≡ had_surplus d.open → line.from + 2 + len < line.to → line.to - (line.from + 2 + len + 1) + 1 ≤ most
+      → Makes k line (line.to - (line.from + 2 + len + 1) + 1) (fields_made k line (line.from + 2 + len + 1) had ended) InData ended new
+      → Makes k line most (block_line_made End k line d) InData d new
+  end-fields most new had surplus more few made =
       let at = line.from + 2 + len in
       let next = some-fields line.separator (left_from k line (at + 1)) in
       let ends = ends_joined k.pending in

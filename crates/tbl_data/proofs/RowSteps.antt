@@ -1,5 +1,5 @@
 -- What is kept of a table behind a step of its data: a row that ends, a block that opens, messages.
-use Rattle.std.proofs.Common.{◌≡◌, ℕ, suc, ◌+◌, ◌-◌, ◌<◌, ◌≤◌, Bool, true, false, List, [], ◌∷◌, ◌++◌, length, map, take, drop, Option, None, Some, refl, sym, ap, subst, ◌∙◌, arith, length-append, nat_lt, if◌then◌else◌}
+use Rattle.std.proofs.Common.{◌≡◌, ◌≢◌, ℕ, suc, ◌+◌, ◌-◌, ◌<◌, ◌≤◌, Bool, true, false, List, [], ◌∷◌, ◌++◌, length, map, take, drop, Option, None, Some, refl, sym, ap, subst, ◌∙◌, arith, length-append, nat_lt, if◌then◌else◌}
 use Rattle.std.specs.List.{slice_range}
 use Rattle.std.proofs.lemmas.Bool.{eq-eqb}
 use Rattle.std.proofs.lemmas.Bool.Decides.{nat_tests}
@@ -7,14 +7,15 @@ use Rattle.std.proofs.lemmas.List.{length-drop, length-map, map-append}
 use Rattle.std.proofs.Math.Seq.{drop-append-add, get_or-append_right}
 use Rattle.tbl_data.specs.DataRead.{cells, row_opened, row_opened_under, rules_in_front, rules_next, serving}
 use Rattle.tbl_data.specs.LineTaken.{EndsRow, Grows, OpensBlock, RowFits, cells_next, key_next, more_notes}
-use Rattle.tbl_data.specs.TableData.{ElementEnds, EndsBy, EndsInBlock, EntryEnds, LastEndsAt, Serves, row_with_block, table_by}
+use Rattle.tbl_data.specs.TableData.{ElementEnds, EndsBy, EndsInBlock, LastEndsAt, Serves, row_with_block, table_by}
 use Rattle.tbl_data.specs.TableRead.{RowBegun, with_notes}
 use Rattle.tbl_data.specs.declared.phase.Phase.{Phase}
 use Rattle.tbl_data.specs.declared.phase.Phase.TheVariants.{InData}
 use Rattle.tbl_data.specs.declared.table_data.OpenBlock.TheVariants.{Dropped, Kept, Nothing}
 use Rattle.tbl_data.specs.declared.table_data.TableData.{TableData}
 use Rattle.tbl_data.proofs.EndsKept.{all-append}
-use Rattle.tbl_data.proofs.RuleRows.{rule_rows-fewer, rule_rows-last}
+use Rattle.tbl_data.proofs.OtherFields.{no-text-said, other-content, other-lies}
+use Rattle.tbl_data.proofs.RuleRows.{rule_rows-fewer, rule_rows-last, ruled-rows}
 use Rattle.tbl_format.specs.Cells.{cell_count}
 use Rattle.tbl_format.specs.Format.{Format, FormatRow}
 use Rattle.tbl_format.specs.FormatRows.{AreWithin}
@@ -28,15 +29,16 @@ use Rattle.tbl_kept.proofs.RowsKeeping.{RowBegunKept-entry, RowBegunKept-first, 
 use Rattle.tbl_kept.proofs.RowsLaidOut.{length-held_by}
 use Rattle.tbl_kept.specs.RowsLaying.{AreOpened, IsOpenedKind}
 use Rattle.tbl_layout.specs.declared.entry.EntryKind.{EntryKind}
-use Rattle.tbl_layout.specs.declared.entry.EntryKind.TheVariants.{Block as BlockKind, Repeated as RepeatedKind, Ruled as RuledKind, Short as ShortKind, Split as SplitKind, Text as TextKind}
+use Rattle.tbl_layout.specs.declared.entry.EntryKind.TheVariants.{Above as AboveKind, Block as BlockKind, Repeated as RepeatedKind, Ruled as RuledKind, Short as ShortKind, Split as SplitKind, Text as TextKind}
 use Rattle.tbl_format.specs.declared.format.Key.{Key}
 use Rattle.tbl_kept.specs.Rows.{AreKept, KeptElement, KeptRows, Row, elements_of, entries_in, rows_in_front, with_entry, with_row as row_kept}
 use Rattle.tbl_kept.specs.TableNotes.{KeptNotes}
 use Rattle.tbl_layout.specs.Entries.{Block, Content, Element, Row as OneRow, completed, key_at}
 use Rattle.tbl_layout.specs.Columns.{row_stands}
-use Rattle.tbl_layout.specs.KeptEntries.{IsKeptBy, block_lines, content_of, not_filled, opened_at, rule_entry, stands_of}
-use Rattle.tbl_layout.specs.RuleKeys.{rule_rows, rule_sign}
-use Rattle.tbl_layout.specs.declared.data_lines.RuleSign.{RuleSign}
+use Rattle.tbl_layout.specs.KeptEntries.{IsKeptBy, block_lines, content_of, kept_kind, not_filled, opened_at, rule_entry, stands_of}
+use Rattle.tbl_layout.specs.RuleKeys.{kind_of_key, rule_rows}
+use Rattle.tbl_layout.specs.declared.data_lines.FieldKind.{FieldKind}
+use Rattle.tbl_layout.specs.declared.data_lines.FieldKind.TheVariants.{Text as OneText}
 use Rattle.tbl_layout.specs.declared.entry.Entry.{Entry}
 use Rattle.tbl_text.specs.BlockWords.{lines_in}
 
@@ -151,6 +153,7 @@ opened-by (BlockKind b) bytes key e is kept = let same : BlockKind b ≡ BlockKi
 opened-by (RuledKind sign) bytes key e is kept = tt
 opened-by ShortKind bytes key e is kept = tt
 opened-by (RepeatedKind b) bytes key e is kept = tt
+opened-by AboveKind bytes key e is kept = tt
 
 pub kept-opened : (bytes : List ℕ) (format : FormatRow) (column : ℕ) (entries : List Entry) → AreKept bytes format column entries → AreOpened entries
 kept-opened bytes format column [] kept = tt
@@ -188,7 +191,8 @@ module _ (bytes : List ℕ) (d : TableData) where
             ∙ ap (λ (row : FormatRow). record ended { next_row = place; body = body ++ OneRow (rules_in_front t) row (completed row contents) ∷ [] }) (sym (row-is f d.keys d.rules served));
         fits = record {
           kept = RowBegunKept-first bytes formats (row_kept d.keys d.rules (row_at formats d.keys) d.rows) next refl
-              (RowsKept-row bytes formats d.rows d.keys d.rules served.serves before within fits.kept);
+              (RowsKept-row bytes formats d.rows d.keys d.rules served.serves before
+              (ruled-rows (drop (d.keys - d.rules) formats) d.rules (omega (arith, served.skipped))) within fits.kept);
           block = refl;
           columns = length-held_by (row_stands stands_of 0 (row_at formats d.keys).keys d.rows.row) d.rows.columns ∙ fits.columns;
           served = is.served;
@@ -200,7 +204,7 @@ module _ (bytes : List ℕ) (d : TableData) where
 pub row-grows : (d : TableData) (next skipped keys rules : ℕ) (format : FormatRow)
     → Grows 0 1 d (record d { keys = next; rules = skipped; rows = row_kept keys rules format d.rows; «open» = Nothing })
 row-grows d next skipped keys rules format =
-    let row : List KeptElement = Row keys rules 1 d.rows.row ∷ [] in
+    let row : List KeptElement = Row keys rules 1 false d.rows.row ∷ [] in
     record {
       entries = omega (arith, entries_in-append d.rows.elements row);
       elements = omega (arith, length-append d.rows.elements row);
@@ -212,11 +216,7 @@ row-grows d next skipped keys rules format =
 pub row-settled : (d : TableData) (next skipped keys rules : ℕ) (format : FormatRow) (place : ℕ) → EndsBy place d
     → EndsBy place (record d { keys = next; rules = skipped; rows = row_kept keys rules format d.rows; «open» = Nothing })
 row-settled d next skipped keys rules format place ends =
-    record { elements = all-append (ElementEnds place) d.rows.elements (Row keys rules 1 d.rows.row) ends.elements ends.row; row = tt; notes = ends.notes }
-
-pub opened-settled : (d : TableData) (to : ℕ) → EndsBy to d → EndsBy to (record d { rows = with_entry (opened_at to) d.rows; «open» = Kept })
-opened-settled d to ends =
-    record { elements = ends.elements; row = all-append (EntryEnds to) d.rows.row (opened_at to) ends.row (omega arith); notes = ends.notes }
+    record { elements = all-append (ElementEnds place) d.rows.elements (Row keys rules 1 false d.rows.row) ends.elements ends.row; row = tt; notes = ends.notes }
 
 -- a row of which the keys are known is that one
 pub row-by : (keys rules : ℕ) (row : FormatRow) (ks : List FormatKey) (k new : KeptRows) → ks ≡ row.keys
@@ -241,7 +241,7 @@ ends-at [] to = refl
 ends-at (e ∷ []) to = refl
 ends-at (e ∷ next ∷ row) to = ends-at (next ∷ row) to
 
-pub opens-kept : (bytes : List ℕ) (d : TableData) (to : ℕ) → to ≤ length bytes → length d.rows.row < cells_next d → rule_sign (key_next d) ≡ None
+pub opens-kept : (bytes : List ℕ) (d : TableData) (to : ℕ) → to ≤ length bytes → length d.rows.row < cells_next d → kind_of_key (key_next d) ≡ None
     → RowFits bytes d → OpensBlock bytes false d (record d { rows = with_entry (opened_at to) d.rows; «open» = Kept })
 opens-kept bytes d to within cell none fits =
     let rows = with_entry (opened_at to) d.rows in
@@ -251,7 +251,7 @@ opens-kept bytes d to within cell none fits =
     ap row_with_block (contents-entry bytes (all_rows d.format.format) d.rows (opened_at to))
     ∙ block-last contents 0 (block_lines bytes to to)
     ∙ ap (λ (lines : List (List ℕ)). record { fields = contents; block = Some lines; had_surplus = false }) no-line
-    ∙ sym (ap (λ (sign : Option RuleSign). row_opened_under sign contents) none) in
+    ∙ sym (ap (λ (kind : Option FieldKind). row_opened_under kind contents) none) in
     let here : to ≤ to = omega arith in
     record {
       table = λ options. ap (λ (row : RowBegun). record (table_by InData options bytes d) { begun = Some row }) block;
@@ -266,21 +266,23 @@ opens-kept bytes d to within cell none fits =
       };
     }
 
--- and under a rule key it is dropped
-pub opens-ruled : (bytes : List ℕ) (d : TableData) (to : ℕ) (sign : RuleSign) → to ≤ length bytes → length d.rows.row < cells_next d
-    → rule_sign (key_next d) ≡ Some sign → RowFits bytes d
-    → OpensBlock bytes false d (record d { rows = with_entry (rule_entry to 0 (RuledKind sign)) d.rows; «open» = Dropped false })
-opens-ruled bytes d to sign within cell is fits =
-    let e = rule_entry to 0 (RuledKind sign) in
+-- and under a key that says what its fields are it is dropped
+pub opens-said : (bytes : List ℕ) (d : TableData) (to : ℕ) (kind : FieldKind) → to ≤ length bytes → length d.rows.row < cells_next d
+    → kind_of_key (key_next d) ≡ Some kind → RowFits bytes d
+    → OpensBlock bytes false d (record d { rows = with_entry (rule_entry to 0 (kept_kind kind)) d.rows; «open» = Dropped false })
+opens-said bytes d to kind within cell is fits =
+    let e = rule_entry to 0 (kept_kind kind) in
     let contents = map (content_of bytes) d.rows.row in
+    let other : kind ≢ OneText = λ text. no-text-said (key_next d) (is ∙ ap (λ (k : FieldKind). Some k) text) in
     let row : record { fields = map (content_of bytes) (with_entry e d.rows).row; block = None; had_surplus = false } ≡ row_opened false (key_next d) contents =
     ap (λ (fields : List Content). record { fields = fields; block = None; had_surplus = false }) (contents-entry bytes (all_rows d.format.format) d.rows e)
-    ∙ sym (ap (λ (s : Option RuleSign). row_opened_under s contents) is) in
+    ∙ ap (λ (content : Content). record { fields = contents ++ content ∷ []; block = None; had_surplus = false }) (other-content kind other bytes to e.to [])
+    ∙ sym (ap (λ (k : Option FieldKind). row_opened_under k contents) is) in
     record {
       table = λ options. ap (λ (r : RowBegun). record (table_by InData options bytes d) { begun = Some r }) row;
       fits = record {
         kept = RowBegunKept-entry bytes (all_rows d.format.format) d.rows d.keys e (omega (arith, cell, fits.columns))
-            (record { order = omega arith; within = omega (arith, within) }) fits.kept;
+            (other-lies kind other bytes (key_next d) e (record { order = omega arith; within = omega (arith, within) })) fits.kept;
         block = tt;
         columns = fits.columns;
         served = fits.served;
@@ -288,14 +290,6 @@ opens-ruled bytes d to sign within cell is fits =
         notes = fits.notes;
       };
     }
-
-pub ruled-settled : (d : TableData) (to : ℕ) (sign : RuleSign) → EndsBy to d
-    → EndsBy to (record d { rows = with_entry (rule_entry to 0 (RuledKind sign)) d.rows; «open» = Dropped false })
-ruled-settled d to sign ends = record {
-  elements = ends.elements;
-  row = all-append (EntryEnds to) d.rows.row (rule_entry to 0 (RuledKind sign)) ends.row (omega arith);
-  notes = ends.notes;
-}
 
 -- and without a cell
 pub opens-surplus : (bytes : List ℕ) (d : TableData) → RowFits bytes d → OpensBlock bytes true d (record d { «open» = Dropped true })

@@ -1,7 +1,9 @@
 -- How many rows of a format are rows of rule keys alone.
-use Rattle.std.proofs.Common.{◌≡◌, ℕ, zero, suc, ◌+◌, ◌<◌, ◌≤◌, Bool, true, false, List, [], ◌∷◌, length, drop, refl, ap, arith, if◌then◌else◌}
+use Rattle.std.proofs.Common.{◌≡◌, ℕ, zero, suc, ◌+◌, ◌<◌, ◌≤◌, Bool, true, false, List, [], ◌∷◌, length, drop, take, refl, ap, arith, if◌then◌else◌}
+use Rattle.std.specs.List.{AllByRecursion}
 use Rattle.tbl_format.specs.Format.{FormatRow}
 use Rattle.tbl_format.specs.RowsServed.{row_at}
+use Rattle.tbl_kept.specs.Rows.{IsRuleRow}
 use Rattle.tbl_layout.specs.RuleKeys.{is_rule_row, rule_rows}
 
 -- not all of them are: the last takes a row of the data
@@ -37,3 +39,17 @@ rule_rows-last [] (suc at) last = refl
 rule_rows-last (format ∷ []) zero last = refl
 rule_rows-last (format ∷ next ∷ formats) zero last = absurd (omega (arith, last))
 rule_rows-last (format ∷ formats) (suc at) last = rule_rows-last formats at (omega (arith, last))
+
+-- so many of them, or fewer, are such rows
+ruled-first : (is_rule : Bool) (format : FormatRow) (others : List FormatRow) (n : ℕ) → is_rule_row format ≡ is_rule
+    → suc n ≤ (if is_rule then suc (rule_rows others) else 0) → (n ≤ rule_rows others → AllByRecursion IsRuleRow (take n others))
+    → IsRuleRow format × AllByRecursion IsRuleRow (take n others)
+ruled-first true format others n is few more = (is, more (omega (arith, few)))
+ruled-first false format others n is few more = absurd (omega (arith, few))
+
+pub ruled-rows : (formats : List FormatRow) (n : ℕ) → n ≤ rule_rows formats → AllByRecursion IsRuleRow (take n formats)
+ruled-rows formats zero few = tt
+ruled-rows [] (suc n) few = tt
+ruled-rows (format ∷ []) (suc n) few = absurd (omega (arith, few))
+ruled-rows (format ∷ next ∷ formats) (suc n) few =
+    ruled-first (is_rule_row format) format (next ∷ formats) n refl few (λ fewer. ruled-rows (next ∷ formats) n fewer)

@@ -2,7 +2,7 @@
 --
 -- A line that is whole may be joined of several lines of the input: `ends` says where each of these ended but the last, which has
 -- the number `n`. A message names the line on which what it tells begins.
-use Rattle.std.specs.Prelude.{ℕ, suc, ◌+◌, ◌-◌, Bool, true, false, not, ◌&&◌, ◌||◌, List, [], ◌∷◌, ◌++◌, length, map, take, drop, take_while, nat_lt, Option, None, Some, is_some, option_map, option_to_list, if◌then◌else◌}
+use Rattle.std.specs.Prelude.{ℕ, suc, ◌+◌, ◌-◌, Bool, true, false, not, ◌&&◌, ◌||◌, List, [], ◌∷◌, ◌++◌, length, map, take, drop, nat_lt, Option, None, Some, is_some, option_map, option_to_list, if◌then◌else◌}
 use Rattle.tbl_format.specs.Cells.{cell_count}
 use Rattle.tbl_format.specs.Format.{FormatRow, further}
 use Rattle.tbl_options.specs.Notes.{told_at}
@@ -11,10 +11,9 @@ use Rattle.tbl_options.specs.declared.message.Message.TheVariants.{NotMeasured, 
 use Rattle.tbl_options.specs.declared.message.Told.{Told}
 use Rattle.tbl_kept.specs.Joined.{behind_joined, ends_joined, goes_on, line_at}
 use Rattle.tbl_layout.specs.Data.{fields}
-use Rattle.tbl_layout.specs.DataLines.{block_line_kind, ends_in_block, is_laid_out, kind_under, len_of_fields, line_kind, without_opening}
-use Rattle.tbl_layout.specs.Entries.{Block, Command as OneCommand, Content, Row as OneRow, Rule as OneRule, Ruled, completed, content_under, key_at}
-use Rattle.tbl_layout.specs.RuleKeys.{rule_rows, rule_sign}
-use Rattle.tbl_layout.specs.declared.data_lines.RuleSign.{RuleSign}
+use Rattle.tbl_layout.specs.DataLines.{block_line_kind, ends_in_block, kind_under, len_of_fields, line_kind, without_opening}
+use Rattle.tbl_layout.specs.Entries.{Block, Command as OneCommand, Content, Row as OneRow, Rule as OneRule, completed, content_of_kind, content_under, key_at}
+use Rattle.tbl_layout.specs.RuleKeys.{kind_of_key, rule_rows}
 use Rattle.tbl_format.specs.declared.format.Key.{Key}
 use Rattle.tbl_layout.specs.declared.data_lines.BlockLineKind.{BlockLineKind}
 use Rattle.tbl_layout.specs.declared.data_lines.BlockLineKind.TheVariants.{End, Request, Text}
@@ -22,7 +21,7 @@ use Rattle.tbl_layout.specs.declared.data_lines.FieldKind.{FieldKind}
 use Rattle.tbl_layout.specs.declared.data_lines.FieldKind.TheVariants.{Text as OneText}
 use Rattle.tbl_layout.specs.declared.data_lines.LineKind.{LineKind}
 use Rattle.tbl_layout.specs.declared.data_lines.LineKind.TheVariants.{Command, Formats, Row, Rule}
-use Rattle.tbl_data.specs.TableRead.{RowBegun, TableRead, bad, columns, with_note, with_notes}
+use Rattle.tbl_data.specs.TableRead.{RowBegun, TableRead, columns, with_note, with_notes}
 use Rattle.tbl_data.specs.declared.phase.Phase.TheVariants.{InFormat}
 use Rattle.tbl_text.specs.Items.{Item, items, note}
 
@@ -33,7 +32,7 @@ item_notes ends n place (item ∷ items) =
     option_to_list (option_map (λ b. told_at (line_at ends place n) (NotMeasured b)) (note item.what))
     ++ item_notes ends n (place + length item.bytes) items
 
--- those of a field, by what it is: a rule has none
+-- those of a field, by what it is: only a text has some
 abbrev pub notes_by_kind : FieldKind → List (ℕ × ℕ) → ℕ → ℕ → List ℕ → List Told
 notes_by_kind OneText ends n place field = item_notes ends n place (items field)
 notes_by_kind kind ends n place field = []
@@ -69,15 +68,15 @@ with_row contents t = record t {
   body = t.body ++ OneRow (rules_in_front t) (serving t) (completed (serving t) contents) ∷ [];
 }
 
--- the row of which a text block opens behind some fields, in the cell of a key: under a rule key it is dropped
-abbrev pub row_opened_under : Option RuleSign → List Content → RowBegun
+-- the row of which a text block opens behind some fields, in the cell of a key: under one that says what its fields are it is dropped
+abbrev pub row_opened_under : Option FieldKind → List Content → RowBegun
 row_opened_under None contents = record { fields = contents; block = Some []; had_surplus = false }
-row_opened_under (Some sign) contents = record { fields = contents ++ Ruled sign ∷ []; block = None; had_surplus = false }
+row_opened_under (Some kind) contents = record { fields = contents ++ content_of_kind kind ∷ []; block = None; had_surplus = false }
 
 -- and without a cell
 abbrev pub row_opened : Bool → Key → List Content → RowBegun
 row_opened true key contents = record { fields = contents; block = None; had_surplus = true }
-row_opened false key contents = row_opened_under (rule_sign key) contents
+row_opened false key contents = row_opened_under (kind_of_key key) contents
 
 -- a row of which a text block opens behind its fields, the last of them or too many, or which is whole
 abbrev pub with_open_row : Bool → Bool → List Content → TableRead → TableRead
@@ -94,20 +93,18 @@ keyed format cell (field ∷ fields) = (key_at format cell, field) ∷ keyed for
 abbrev pub surplus_notes : Bool → ℕ → List Told
 surplus_notes is_first line = if is_first then told_at line TooManyFields ∷ [] else []
 
--- Fields from a place on, behind those that a row has: those are kept for which there is a cell, up to one that isn't laid out.
--- The last of them may open a text block.
+-- Fields from a place on, behind those that a row has: those are kept for which there is a cell. The last of them may open a text
+-- block.
 abbrev pub with_fields : List (ℕ × ℕ) → ℕ → ℕ → List (List ℕ) → List Content → Bool → TableRead → TableRead
 with_fields ends n place all in_front had_surplus t =
     let room = cells t - length in_front in
     let texts = take room (without_opening all) in
     let keyed_texts = keyed (serving t) (length in_front) texts in
-    let built = take_while (λ field. is_laid_out (kind_under field.0 field.1)) keyed_texts in
     let has_surplus = nat_lt room (length all) in
-    let told = with_notes (field_notes ends n place built) t in
-    if nat_lt (length built) (length texts) then bad (line_at ends (place + len_of_fields (take (length built) texts)) n) told
-    else with_open_row (ends_in_block all) (has_surplus || had_surplus)
+    with_open_row (ends_in_block all) (has_surplus || had_surplus)
     (in_front ++ map (λ field. content_under field.0 field.1) keyed_texts)
-    (with_notes (surplus_notes (has_surplus && not had_surplus) (line_at ends (place + len_of_fields texts - 1) n)) told)
+    (with_notes (surplus_notes (has_surplus && not had_surplus) (line_at ends (place + len_of_fields texts - 1) n))
+    (with_notes (field_notes ends n place keyed_texts) t))
 
 -- a line, by what it is, where no text block is open
 abbrev pub with_line : LineKind → List (ℕ × ℕ) → ℕ → List ℕ → TableRead → TableRead

@@ -23,11 +23,7 @@ use Rattle.tbl_kept.specs.TableNotes.{KeptNotes}
 use Rattle.tbl_kept.specs.TableText.{KeptText, block_of}
 use Rattle.tbl_layout.specs.Data.{fields}
 use Rattle.tbl_layout.specs.declared.data_lines.BlockLineKind.{BlockLineKind}
-use Rattle.tbl_layout.specs.declared.data_lines.FieldKind.{FieldKind}
-use Rattle.tbl_layout.specs.declared.data_lines.FieldKind.TheVariants.{Repeated, Ruled, Short}
 use Rattle.tbl_layout.specs.declared.data_lines.LineKind.{LineKind}
-use Rattle.tbl_layout.specs.declared.entry.EntryKind.{EntryKind}
-use Rattle.tbl_layout.specs.declared.entry.EntryKind.TheVariants.{Repeated as RepeatedKind, Ruled as RuledKind, Short as ShortKind}
 use Rattle.tbl_layout.specs.Entries.{Content, content_under, key_at}
 use Rattle.tbl_layout.specs.KeptEntries.{content_of}
 use Rattle.tbl_text.specs.declared.measure.Note.{Note}
@@ -85,13 +81,6 @@ pub record Grows (count added : ℕ) (old new : TableData) : Type 0 where
   pub notes : length new.notes.notes ≤ length old.notes.notes + count
   pub to_tell : new.notes.to_tell ≡ old.notes.to_tell
   pub rooms : SameRooms old new
-
--- a field that is a rule is kept as what it is
-abbrev pub KeepsRule : FieldKind → EntryKind → Type 0
-KeepsRule (Ruled sign) kept = kept ≡ RuledKind sign
-KeepsRule Short kept = kept ≡ ShortKind
-KeepsRule (Repeated b) kept = kept ≡ RepeatedKind b
-KeepsRule kind kept = ⊥
 
 -- how many cells the row that is begun has
 abbrev pub cells_next : TableData → ℕ

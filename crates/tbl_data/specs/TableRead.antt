@@ -13,7 +13,7 @@ use Rattle.tbl_data.specs.declared.phase.Phase.{Phase}
 use Rattle.tbl_data.specs.declared.phase.Phase.TheVariants.{AtHead, Bad}
 
 -- a row of which a text block is open: the fields in front of the block, and the block's lines, unless it is dropped, as its field is one
--- too many, or stands under a rule key; and whether it had one too many
+-- too many, or stands under a key that says what its fields are; and whether it had one too many
 pub record RowBegun : Type 0 where
   pub fields : List Content
   pub block : Option (List (List ℕ))

@@ -1,28 +1,24 @@
 //! The fields of a line of a table's data, as they are taken one after another (Lesk, "Tbl": Data,
 //! Text Blocks).
 
-ghost use Rattle.std.specs.Prelude.{◌≡◌, ℕ, ◌+◌, ◌-◌, ◌<◌, ◌≤◌, ◌^◌, false, List, if◌then◌else◌};
+ghost use Rattle.std.specs.Prelude.{◌≡◌, ◌≢◌, ℕ, ◌+◌, ◌-◌, ◌<◌, ◌≤◌, ◌^◌, false, List, if◌then◌else◌};
 ghost use Rattle.std.specs.Prelude.{length, slice_range, true};
-ghost use Rattle.tbl_data.specs.LineTaken.{EndsRow, Grows, HasRoom, IsOnLine, KeepsRule};
+ghost use Rattle.tbl_data.specs.LineTaken.{EndsRow, Grows, HasRoom, IsOnLine};
 ghost use Rattle.tbl_data.specs.LineTaken.{LineLies, Makes};
 ghost use Rattle.tbl_data.specs.LineTaken.{OpensBlock, RowFits, TakesField, fields_made};
 ghost use Rattle.tbl_data.specs.LineTaken.{cells_next, key_next, last_made};
 ghost use Rattle.tbl_data.specs.TableData.{EndsBy, OpenEndsAt};
 ghost use Rattle.tbl_data.specs.declared.phase.Phase.TheVariants.{InData};
-ghost use Rattle.tbl_data.specs.TableRead.{bad};
 ghost use Rattle.tbl_data.specs.declared.table_data.OpenBlock.TheVariants.{Nothing};
-ghost use Rattle.tbl_options.specs.Notes.{NotesWithin};
 ghost use Rattle.tbl_format.specs.RowsServed.{all_rows};
-ghost use Rattle.tbl_kept.specs.Joined.{ends_joined, line_at};
 ghost use Rattle.tbl_kept.specs.Rows.{entries_of};
 ghost use Rattle.tbl_kept.specs.RowsLaying.{AreOpened};
 ghost use Rattle.tbl_kept.specs.TableText.{KeptText, block_of};
-ghost use Rattle.tbl_layout.specs.DataLines.{is_laid_out, kind_under};
+ghost use Rattle.tbl_layout.specs.DataLines.{kind_under};
 ghost use Rattle.tbl_layout.specs.Entries.{is_number};
 ghost use Rattle.tbl_layout.specs.declared.data_lines.FieldKind.TheVariants.{Text as OneText};
 
-use crate::data_line::{DataLine, tell, tell_items, tell_surplus};
-use crate::phase::Phase;
+use crate::data_line::{DataLine, tell_items, tell_surplus};
 use crate::table_data::{OpenBlock, TableData};
 use tbl_format::cells::cell_count;
 use tbl_format::format::Key;
@@ -30,9 +26,8 @@ use tbl_kept::rows::key_at;
 use tbl_kept::table_text::TableText;
 use tbl_layout::data::field_len;
 use tbl_layout::data_lines::{FieldKind, ends_in_block, kind_under, opens_block};
-use tbl_layout::entry::{Entry, EntryKind};
-use tbl_layout::rule_keys::rule_sign;
-use tbl_options::notes::Cause;
+use tbl_layout::entry::{Entry, kept_kind};
+use tbl_layout::rule_keys::kind_of_key;
 use tbl_text::measure::measure;
 
 impl TableData {
@@ -44,7 +39,7 @@ impl TableData {
         line: DataLine,
         first: usize,
         had_surplus: bool,
-    ) -> Phase
+    )
         requires lies { LineLies (block_of text.old) line }
         requires at { IsOnLine line first }
         requires closed { self.old.open ≡ Nothing }
@@ -52,32 +47,24 @@ impl TableData {
         requires room { HasRoom (line.to - first + 1) self.old }
         ensures text { text.new ≡ text.old }
         ensures made { Makes text.old line (line.to - first + 1)
-            (fields_made text.old line first had_surplus self.old) result self.old self.new }
+            (fields_made text.old line first had_surplus self.old) InData self.old self.new }
     {
         let cells = self.cells_next();
         let mut at = first;
         while self.rows.row_len() < cells {
             let end = at + field_len(line.separator, &text.block()[at..line.to]);
             if end == line.to {
-                return self.take_last(text, line, at, had_surplus);
+                self.take_last(text, line, at, had_surplus);
+                return;
             }
-            let is_laid_out = self.take_field(text, line, at, end);
-            if !is_laid_out {
-                return self.refuse(text, line, at);
-            }
+            self.take_field(text, line, at, end);
             at = end + 1;
         }
-        self.take_surplus(text, line, at, had_surplus)
+        self.take_surplus(text, line, at, had_surplus);
     }
 
     /// The last field of a line, which has a cell.
-    fn take_last(
-        &mut self,
-        text: &mut TableText,
-        line: DataLine,
-        at: usize,
-        had_surplus: bool,
-    ) -> Phase
+    fn take_last(&mut self, text: &mut TableText, line: DataLine, at: usize, had_surplus: bool)
         requires lies { LineLies (block_of text.old) line }
         requires at { IsOnLine line at }
         requires closed { self.old.open ≡ Nothing }
@@ -86,27 +73,19 @@ impl TableData {
         requires room { HasRoom (line.to - at + 1) self.old }
         ensures text { text.new ≡ text.old }
         ensures made { Makes text.old line (line.to - at + 1)
-            (last_made text.old line at had_surplus self.old) result self.old self.new }
+            (last_made text.old line at had_surplus self.old) InData self.old self.new }
     {
         if opens_block(&text.block()[at..line.to]) {
-            return self.open_block(line.to, had_surplus);
+            self.open_block(line.to, had_surplus);
+            return;
         }
-        let is_laid_out = self.take_field(text, line, at, line.to);
-        if !is_laid_out {
-            return self.refuse(text, line, at);
-        }
-        self.end_row()
+        self.take_field(text, line, at, line.to);
+        self.end_row();
     }
 
     /// The surplus fields from a place on, up to the line's end: of them only a last one counts
     /// that opens a text block. They are told by the line of the separator in front of them.
-    fn take_surplus(
-        &mut self,
-        text: &mut TableText,
-        line: DataLine,
-        at: usize,
-        had_surplus: bool,
-    ) -> Phase
+    fn take_surplus(&mut self, text: &mut TableText, line: DataLine, at: usize, had_surplus: bool)
         requires lies { LineLies (block_of text.old) line }
         requires at { IsOnLine line at }
         requires closed { self.old.open ≡ Nothing }
@@ -115,7 +94,7 @@ impl TableData {
         requires room { HasRoom (line.to - at + 1) self.old }
         ensures text { text.new ≡ text.old }
         ensures made { Makes text.old line (line.to - at + 1)
-            (fields_made text.old line at had_surplus self.old) result self.old self.new }
+            (fields_made text.old line at had_surplus self.old) InData self.old self.new }
     {
         tell_surplus(&mut self.notes, text, line, at, had_surplus);
         if ends_in_block(line.separator, &text.block()[at..line.to]) {
@@ -125,8 +104,8 @@ impl TableData {
         }
     }
 
-    /// A field of a cell, which lies there, is kept as what it is. Answers whether it is laid out.
-    fn take_field(&mut self, text: &mut TableText, line: DataLine, at: usize, end: usize) -> bool
+    /// A field of a cell, which lies there, is kept as what it is.
+    fn take_field(&mut self, text: &mut TableText, line: DataLine, at: usize, end: usize)
         requires lies { LineLies (block_of text.old) line }
         requires at { IsOnLine line at }
         requires order { at ≤ end }
@@ -136,47 +115,30 @@ impl TableData {
         requires cell { length self.old.rows.row < cells_next self.old }
         requires room { HasRoom (end - at + 1) self.old }
         ensures text { text.new ≡ text.old }
-        ensures laid { result ≡ is_laid_out
-            (kind_under (key_next self.old) (slice_range (block_of text.old) at end)) }
-        ensures taken { result ≡ true → TakesField text.old line at end self.old self.new }
-        ensures same { result ≡ false → self.new ≡ self.old }
+        ensures taken { TakesField text.old line at end self.old self.new }
     {
         let key = self.key_next();
         match kind_under(key, &text.block()[at..end]) {
-            FieldKind::Text => {
-                self.take_text_field(text, line, at, end, key);
-                true
-            }
-            FieldKind::Ruled(sign) => {
-                self.take_rule_field(at, end, EntryKind::Ruled(sign));
-                true
-            }
-            FieldKind::Short => {
-                self.take_rule_field(at, end, EntryKind::Short);
-                true
-            }
-            FieldKind::Repeated(byte) => {
-                self.take_rule_field(at, end, EntryKind::Repeated(byte));
-                true
-            }
-            FieldKind::Above => false,
+            FieldKind::Text => self.take_text_field(text, line, at, end, key),
+            kind => self.take_other_field(at, end, kind),
         }
     }
 
-    /// A rule of a cell: nothing is told of it.
+    /// A field of a cell that is no text: nothing is told of it.
     #[cold]
-    fn take_rule_field(&mut self, at: usize, end: usize, kind: EntryKind)
+    fn take_other_field(&mut self, at: usize, end: usize, kind: FieldKind)
         requires order { at ≤ end }
         requires small { end < 2 ^ 32 }
         requires room { entries_of self.old.rows < self.old.rows.entry_room }
         ensures taken { (k : KeptText) (line : DataLine) → LineLies (block_of k) line
             → end ≤ line.to
-            → KeepsRule (kind_under (key_next self.old) (slice_range (block_of k) at end)) kind
-            → RowFits (block_of k) self.old → self.old.open ≡ Nothing
+            → kind_under (key_next self.old) (slice_range (block_of k) at end) ≡ kind
+            → kind ≢ OneText → RowFits (block_of k) self.old → self.old.open ≡ Nothing
             → length self.old.rows.row < cells_next self.old
             → TakesField k line at end self.old self.new }
     {
-        self.rows.keep(Entry::of_rule(at, end - at, kind));
+        self.rows
+            .keep(Entry::of_rule(at, end - at, kept_kind(kind)));
     }
 
     /// A text of a cell: it is kept, and what isn't measured of it is told.
@@ -208,13 +170,12 @@ impl TableData {
         }
     }
 
-    /// A text block begins behind a line that ends there: as a field, or dropped under a rule key,
-    /// or without a cell.
-    fn open_block(&mut self, line_end: usize, had_surplus: bool) -> Phase
+    /// A text block begins behind a line that ends there: as a field, or dropped under a key that
+    /// says what its fields are, or without a cell.
+    fn open_block(&mut self, line_end: usize, had_surplus: bool)
         requires small { line_end < 2 ^ 32 }
         requires serves { self.old.keys < length (all_rows self.old.format.format) }
         requires room { had_surplus ≡ false → entries_of self.old.rows < self.old.rows.entry_room }
-        ensures phase { result ≡ InData }
         ensures opens { (bytes : List ℕ) → line_end ≤ length bytes → (had_surplus ≡ false
             → length self.old.rows.row < cells_next self.old) → RowFits bytes self.old
             → OpensBlock bytes had_surplus self.old self.new }
@@ -225,12 +186,11 @@ impl TableData {
     {
         if had_surplus {
             self.open = OpenBlock::Dropped(true);
-            return Phase::InData;
+            return;
         }
-        match rule_sign(self.key_next()) {
-            Some(sign) => {
-                self.rows
-                    .keep(Entry::of_rule(line_end, 0, EntryKind::Ruled(sign)));
+        match kind_of_key(self.key_next()) {
+            Some(kind) => {
+                self.rows.keep(Entry::of_rule(line_end, 0, kept_kind(kind)));
                 self.open = OpenBlock::Dropped(false);
             }
             None => {
@@ -238,7 +198,6 @@ impl TableData {
                 self.open = OpenBlock::Kept;
             }
         }
-        Phase::InData
     }
 
     /// How many cells the row that is begun has.
@@ -258,7 +217,7 @@ impl TableData {
     }
 
     /// The row that is begun is whole: the next one of the format serves the next row.
-    pub(crate) fn end_row(&mut self) -> Phase
+    pub(crate) fn end_row(&mut self)
         requires few { entries_of self.old.rows < 2 ^ 32 }
         requires opened { AreOpened self.old.rows.row }
         requires elements { length self.old.rows.elements < self.old.rows.element_room }
@@ -267,7 +226,6 @@ impl TableData {
         requires columns { length self.old.rows.columns ≡ length self.old.format.format.asked }
         requires short { length self.old.rows.row ≤ cells_next self.old }
         requires small { length (all_rows self.old.format.format) < 2 ^ 32 }
-        ensures phase { result ≡ InData }
         ensures ends { (bytes : List ℕ) → RowFits bytes self.old → EndsRow bytes self.old self.new }
         ensures settled { (place : ℕ) → EndsBy place self.old → EndsBy place self.new }
         ensures closed { self.new.open ≡ Nothing }
@@ -283,28 +241,6 @@ impl TableData {
         } else {
             self.rules = 0;
         }
-        Phase::InData
-    }
-
-    /// What begins at a place of a line isn't laid out.
-    pub(crate) fn refuse(&mut self, text: &mut TableText, line: DataLine, at: usize) -> Phase
-        requires at { line.from ≤ at }
-        requires notes { NotesWithin (length (block_of text.old)) self.old.notes.notes }
-        requires room { length self.old.notes.notes < self.old.notes.note_room }
-        ensures text { text.new ≡ text.old }
-        ensures made { Makes text.old line 1
-            (bad (line_at (ends_joined text.old.pending) (at - line.from) line.number))
-            result self.old self.new }
-    {
-        self.open = OpenBlock::Nothing;
-        tell(
-            &mut self.notes,
-            text,
-            at - line.from,
-            line.number,
-            Cause::BadFormat,
-        );
-        Phase::Bad
     }
 }
 

@@ -9,7 +9,7 @@ ghost use Rattle.tbl_data.specs.LineTaken.{HasRoom, LineLies, Makes, block_line_
 ghost use Rattle.tbl_data.specs.LineTaken.{cells_next, made_by, text_made};
 ghost use Rattle.tbl_data.specs.TableData.{DataFits, EndsBy, FitsBehind, OpenBehind, OpenEndsAt};
 ghost use Rattle.tbl_data.specs.TableData.{SameRooms, begun_by, table_by};
-ghost use Rattle.tbl_data.specs.declared.phase.Phase.TheVariants.{InData};
+ghost use Rattle.tbl_data.specs.declared.phase.Phase.TheVariants.{InData, InFormat};
 ghost use Rattle.tbl_data.specs.declared.table_data.OpenBlock.TheVariants.{Nothing};
 ghost use Rattle.tbl_format.specs.RowsServed.{all_rows};
 ghost use Rattle.tbl_options.specs.declared.options.Options.{Options};
@@ -82,8 +82,14 @@ impl TableData {
         };
         match self.open {
             OpenBlock::Nothing => self.take_data_line(text, line),
-            OpenBlock::Kept => self.take_block_line(text, line),
-            OpenBlock::Dropped(_) => self.take_block_line(text, line),
+            OpenBlock::Kept => {
+                self.take_block_line(text, line);
+                Phase::InData
+            }
+            OpenBlock::Dropped(_) => {
+                self.take_block_line(text, line);
+                Phase::InData
+            }
         }
     }
 
@@ -110,7 +116,7 @@ impl TableData {
         ensures rooms { SameRooms self.old self.new }
     {
         if self.open.is_open() {
-            let _ = self.end_row();
+            self.end_row();
         }
     }
 
@@ -127,52 +133,61 @@ impl TableData {
             result self.old self.new }
     {
         match line_kind(&text.block()[line.from..line.to]) {
-            LineKind::Rule(sign) => self.take_rule(sign),
-            LineKind::Formats => self.begin_further(),
-            LineKind::Command => self.take_command(line),
-            LineKind::Row => self.take_fields(text, line, line.from, false),
+            LineKind::Rule(sign) => {
+                self.take_rule(sign);
+                Phase::InData
+            }
+            LineKind::Formats => {
+                self.begin_further();
+                Phase::InFormat
+            }
+            LineKind::Command => {
+                self.take_command(line);
+                Phase::InData
+            }
+            LineKind::Row => {
+                self.take_fields(text, line, line.from, false);
+                Phase::InData
+            }
         }
     }
 
     /// A further format follows.
-    fn begin_further(&mut self) -> Phase
+    fn begin_further(&mut self)
         requires whole { self.old.format.format.row ≡ [] }
         ensures made { (k : KeptText) (line : DataLine) → DataFits (block_of k) self.old
             → self.old.open ≡ Nothing
-            → Makes k line 0 (made_by Formats k line) result self.old self.new }
+            → Makes k line 0 (made_by Formats k line) InFormat self.old self.new }
     {
         self.format.begin_further();
         self.keys = self.format.earlier_rows();
         self.rules = 0;
-        Phase::InFormat
     }
 
     /// A line is a rule over the whole table.
-    fn take_rule(&mut self, sign: RuleSign) -> Phase
+    fn take_rule(&mut self, sign: RuleSign)
         requires { length self.old.rows.elements < self.old.rows.element_room }
         ensures made { (k : KeptText) (line : DataLine) → DataFits (block_of k) self.old
             → self.old.open ≡ Nothing
-            → Makes k line 0 (made_by (Rule sign) k line) result self.old self.new }
+            → Makes k line 0 (made_by (Rule sign) k line) InData self.old self.new }
     {
         self.rows.keep_rule(sign);
-        Phase::InData
     }
 
     /// A line is a command.
-    fn take_command(&mut self, line: DataLine) -> Phase
+    fn take_command(&mut self, line: DataLine)
         requires order { line.from ≤ line.to }
         requires small { line.to < 2 ^ 32 }
         requires room { length self.old.rows.elements < self.old.rows.element_room }
         ensures made { (k : KeptText) → line.to ≤ length (block_of k)
             → DataFits (block_of k) self.old → self.old.open ≡ Nothing
-            → Makes k line 0 (made_by Command k line) result self.old self.new }
+            → Makes k line 0 (made_by Command k line) InData self.old self.new }
     {
         self.rows.keep_command(line.from, line.to);
-        Phase::InData
     }
 
     /// A whole line is done where a text block is open.
-    fn take_block_line(&mut self, text: &mut TableText, line: DataLine) -> Phase
+    fn take_block_line(&mut self, text: &mut TableText, line: DataLine)
         requires lies { LineLies (block_of text.old) line }
         requires one_line { All (λ b. (b == newline) ≡ false) (left_from text.old line line.from) }
         requires formats { length (all_rows self.old.format.format) < 2 ^ 32 }
@@ -184,7 +199,7 @@ impl TableData {
         ensures made { Makes text.old line (line.to - line.from + 1)
             (block_line_made (block_line_kind (left_from text.old line line.from))
             text.old line self.old)
-            result self.old self.new }
+            InData self.old self.new }
     {
         match block_line_kind(&text.block()[line.from..line.to]) {
             BlockLineKind::End => self.end_block(text, line),
@@ -194,7 +209,7 @@ impl TableData {
     }
 
     /// The text block ends that is open, and fields may follow behind a separator.
-    fn end_block(&mut self, text: &mut TableText, line: DataLine) -> Phase
+    fn end_block(&mut self, text: &mut TableText, line: DataLine)
         requires lies { LineLies (block_of text.old) line }
         requires formats { length (all_rows self.old.format.format) < 2 ^ 32 }
         requires fits { DataFits (block_of text.old) self.old }
@@ -203,21 +218,22 @@ impl TableData {
         requires room { HasRoom (line.to - line.from + 1) self.old }
         ensures text { text.new ≡ text.old }
         ensures made { Makes text.old line (line.to - line.from + 1)
-            (block_line_made End text.old line self.old) result self.old self.new }
+            (block_line_made End text.old line self.old) InData self.old self.new }
     {
         let had_surplus = self.open.had_surplus();
         self.open = OpenBlock::Nothing;
         let behind = line.from + 2;
         let end = behind + field_len(line.separator, &text.block()[behind..line.to]);
         if end == line.to {
-            return self.end_row();
+            self.end_row();
+            return;
         }
-        self.take_fields(text, line, end + 1, had_surplus)
+        self.take_fields(text, line, end + 1, had_surplus);
     }
 
     /// A request in a text block. It is kept as a line of it, and passed over as the block is
     /// filled.
-    fn take_request(&mut self, text: &mut TableText, line: DataLine) -> Phase
+    fn take_request(&mut self, text: &mut TableText, line: DataLine)
         requires lies { LineLies (block_of text.old) line }
         requires one_line { All (λ b. (b == newline) ≡ false) (left_from text.old line line.from) }
         requires formats { length (all_rows self.old.format.format) < 2 ^ 32 }
@@ -227,7 +243,7 @@ impl TableData {
         requires room { HasRoom (line.to - line.from + 1) self.old }
         ensures text { text.new ≡ text.old }
         ensures made { Makes text.old line (line.to - line.from + 1)
-            (block_line_made Request text.old line self.old) result self.old self.new }
+            (block_line_made Request text.old line self.old) InData self.old self.new }
     {
         self.extend_block(line);
         tell(
@@ -237,11 +253,10 @@ impl TableData {
             line.number,
             Cause::RequestInTextBlock,
         );
-        Phase::InData
     }
 
     /// A line of a text block. What isn't measured of it is told, if the block is kept.
-    fn take_text(&mut self, text: &mut TableText, line: DataLine) -> Phase
+    fn take_text(&mut self, text: &mut TableText, line: DataLine)
         requires lies { LineLies (block_of text.old) line }
         requires one_line { All (λ b. (b == newline) ≡ false) (left_from text.old line line.from) }
         requires formats { length (all_rows self.old.format.format) < 2 ^ 32 }
@@ -251,11 +266,11 @@ impl TableData {
         requires room { HasRoom (line.to - line.from + 1) self.old }
         ensures text { text.new ≡ text.old }
         ensures made { Makes text.old line (line.to - line.from + 1)
-            (block_line_made Text text.old line self.old) result self.old self.new }
+            (block_line_made Text text.old line self.old) InData self.old self.new }
     {
         match self.open {
-            OpenBlock::Nothing => Phase::InData,
-            OpenBlock::Dropped(_) => Phase::InData,
+            OpenBlock::Nothing => {}
+            OpenBlock::Dropped(_) => {}
             OpenBlock::Kept => {
                 self.extend_block(line);
                 tell_items(
@@ -266,7 +281,6 @@ impl TableData {
                     line.from,
                     line.to,
                 );
-                Phase::InData
             }
         }
     }

@@ -15,8 +15,8 @@ pub enum OpenBlock {
     Nothing,
     /// One that is kept, as the last field of the row that is begun.
     Kept,
-    /// One that is dropped, as it stands under a rule key or without a cell, and whether the row had
-    /// a field without a cell.
+    /// One that is dropped, as it stands under a key that says what its fields are, or without a
+    /// cell, and whether the row had a field without a cell.
     Dropped(bool),
 }
 

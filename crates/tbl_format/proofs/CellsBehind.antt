@@ -1,5 +1,5 @@
 -- Which cell of a row begins behind so many columns.
-use Rattle.std.proofs.Common.{◌≡◌, ℕ, zero, suc, ◌+◌, ◌-◌, ◌<◌, ◌≤◌, nat_lt, ◌==◌, Bool, true, false, None, Some, List, [], ◌∷◌, length, get_or, inl, inr, refl, sym, ap, ◌∙◌, arith, if◌then◌else◌}
+use Rattle.std.proofs.Common.{◌≡◌, ℕ, zero, suc, ◌+◌, ◌-◌, ◌<◌, ◌≤◌, nat_lt, ◌==◌, Bool, true, false, Option, None, Some, List, [], ◌∷◌, length, get_or, inl, inr, refl, sym, ap, ◌∙◌, arith, if◌then◌else◌}
 use Rattle.std.proofs.lemmas.Bool.{cases_lt}
 use Rattle.std.proofs.lemmas.Bool.Decides.{nat_tests}
 use Rattle.tbl_format.specs.Cells.{AreCells, cell_behind, cell_from, end_of, start_of}
@@ -120,3 +120,30 @@ pub cell_behind-none : (keys : List FormatKey) (count column : ℕ) → AreCells
 cell_behind-none keys count column cells few before behind =
     none-from 0 0 keys count column cells few
     (λ cell less. omega (arith, start_of-behind keys cell, before cell less)) (omega (arith, start_of-behind keys count, behind))
+
+-- no cell has a number greater than the columns that it begins behind
+few-none : (number from column cell : ℕ) (less : Bool) → nat_lt column from ≡ less → (if less then None else Some (number + (column - from))) ≡ Some cell
+    → cell + from ≤ number + column
+few-none number from column cell true is found = absurd (cc)
+few-none number from column cell false is found =
+    let same : number + (column - from) ≡ cell = cc in
+    let past : from ≤ column = grind (arith, nat_tests, is) in
+    omega (arith, same, past)
+
+few-more : (number from column cell : ℕ) (here : Bool) (rest : Option ℕ) → (column == from) ≡ here → (if here then Some number else rest) ≡ Some cell
+    → (rest ≡ Some cell → cell + from ≤ number + column) → cell + from ≤ number + column
+few-more number from column cell true rest is found later =
+    let same : number ≡ cell = cc in
+    let at : column ≡ from = grind (arith, nat_tests, is) in
+    omega (arith, same, at)
+few-more number from column cell false rest is found later = later found
+
+few-from : (number from : ℕ) (keys : List FormatKey) (column cell : ℕ) → AreCells from keys → cell_from number from keys column ≡ Some cell
+    → cell + from ≤ number + column
+few-from number from [] column cell cells found = few-none number from column cell (nat_lt column from) refl found
+few-from number from (k ∷ keys) column cell cells found =
+    few-more number from column cell (column == from) (cell_from (suc number) k.end keys column) refl found
+    (λ later. omega (arith, cells.0, few-from (suc number) k.end keys column cell cells.1 later))
+
+pub cell_behind-few : (keys : List FormatKey) (column cell : ℕ) → AreCells 0 keys → cell_behind keys column ≡ Some cell → cell ≤ column
+cell_behind-few keys column cell cells found = omega (arith, few-from 0 0 keys column cell cells found)

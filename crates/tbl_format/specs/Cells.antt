@@ -23,6 +23,14 @@ cell_from cell from (k ∷ keys) column = if column == from then Some cell else 
 abbrev pub cell_behind : List FormatKey → ℕ → Option ℕ
 cell_behind keys column = cell_from 0 0 keys column
 
+-- the cell of these keys that has the same columns as a cell of others
+abbrev pub if_ends : List FormatKey → ℕ → Option ℕ → Option ℕ
+if_ends keys end None = None
+if_ends keys end (Some cell) = if end_of keys cell == end then Some cell else None
+
+abbrev pub same_cell : List FormatKey → List FormatKey → ℕ → Option ℕ
+same_cell keys others cell = if_ends keys (end_of others cell) (cell_behind keys (start_of others cell))
+
 -- what is said of columns, in cells: the first of these keys has a cell that begins behind so many columns
 abbrev pub by_cells : {A : Type 0} → ℕ → List FormatKey → List A → List (List A)
 by_cells from [] columns = map (λ c. c ∷ []) columns

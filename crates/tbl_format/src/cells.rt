@@ -1,7 +1,7 @@
 //! The cells of a row of a format, and the columns that they have (Lesk, "Tbl": Format).
 
-ghost use Rattle.std.specs.Prelude.{◌≡◌, ℕ, ◌<◌, ◌≤◌, ◌^◌, length};
-ghost use Rattle.tbl_format.specs.Cells.{AreCells, cell_behind, cell_count, end_of, start_of};
+ghost use Rattle.std.specs.Prelude.{◌≡◌, ℕ, ◌+◌, ◌<◌, ◌≤◌, ◌^◌, length};
+ghost use Rattle.tbl_format.specs.Cells.{same_cell, AreCells, cell_behind, cell_count, end_of, start_of};
 ghost use Rattle.tbl_format.specs.Format.{columns_of};
 
 use crate::format::FormatKey;
@@ -25,6 +25,7 @@ pub fn end_of(keys: &[FormatKey], cell: usize) -> usize
     requires { cell < 2 ^ 63 }
     ensures value { result ≡ end_of keys.now cell }
     ensures most { result < 2 ^ 64 }
+    ensures near { result ≤ 2 ^ 32 + cell }
 {
     match keys.get(cell) {
         Some(key) => key.end as usize,
@@ -37,6 +38,16 @@ pub fn end_of(keys: &[FormatKey], cell: usize) -> usize
 pub fn start_of(keys: &[FormatKey], cell: usize) -> usize
     requires { cell < 2 ^ 63 }
     ensures { result ≡ start_of keys.now cell }
+{
+    start_near(keys, cell)
+}
+
+/// The same, with the most that it may be.
+#[inline]
+fn start_near(keys: &[FormatKey], cell: usize) -> usize
+    requires { cell < 2 ^ 63 }
+    ensures value { result ≡ start_of keys.now cell }
+    ensures near { result ≤ 2 ^ 32 + cell }
 {
     if cell == 0 { 0 } else { end_of(keys, cell - 1) }
 }
@@ -61,6 +72,21 @@ pub fn cell_behind(keys: &[FormatKey], column: usize) -> Option<usize>
         Some(column)
     } else {
         cell_searched(keys, column)
+    }
+}
+
+/// The cell of a row with these keys that has the same columns as a cell of a row with others, if
+/// one has.
+pub fn same_cell(keys: &[FormatKey], others: &[FormatKey], cell: usize) -> Option<usize>
+    requires cells { AreCells 0 keys.now }
+    requires small { cell < 2 ^ 62 }
+    ensures { result ≡ same_cell keys.now others.now cell }
+{
+    let found = cell_behind(keys, start_near(others, cell))?;
+    if end_of(keys, found) == end_of(others, cell) {
+        Some(found)
+    } else {
+        None
     }
 }
 

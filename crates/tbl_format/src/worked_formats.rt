@@ -140,10 +140,11 @@ pub fn cells()
 pub fn readings()
     ensures laid_out { (format_read no_format (codes "l xR3,cen,a.")).place ≡ AtEnd }
     ensures left_out { letters_left_out no_format (codes "lxmabr X,c.") ≡ 120 ∷ 109 ∷ 88 ∷ [] }
-    ensures behind_a_fault { letters_left_out no_format (codes "lx,^ x,c.") ≡ 120 ∷ [] }
+    ensures behind_a_fault { letters_left_out no_format (codes "lx,^z x,c.") ≡ 120 ∷ [] }
     ensures rule { (format_read no_format (codes "l_,=.")).place ≡ AtEnd }
-    ensures key { (format_read no_format (codes "l,^.")).place ≡ AtFault }
-    ensures counted { (format_read no_format (codes "l,c^=.")).asked
+    ensures above { (format_read no_format (codes "l,^.")).place ≡ AtEnd }
+    ensures width { (format_read no_format (codes "l,^z.")).place ≡ AtFault }
+    ensures counted { (format_read no_format (codes "l,c^z=.")).asked
         ≡ nothing_asked ∷ nothing_asked ∷ [] }
     ensures spanned { (format_read no_format (codes "l s,s.")).place ≡ AtFault }
 {}

@@ -21,7 +21,7 @@ use Rattle.tbl_layout.specs.declared.data_lines.RuleSign.{RuleSign}
 use Rattle.tbl_layout.specs.declared.entry.BlockEntry.{BlockEntry}
 use Rattle.tbl_layout.specs.declared.entry.Entry.{Entry}
 use Rattle.tbl_layout.specs.declared.entry.EntryKind.{EntryKind}
-use Rattle.tbl_layout.specs.declared.entry.EntryKind.TheVariants.{Block as BlockKind, Repeated as RepeatedKind, Ruled as RuledKind, Short as ShortKind, Split as SplitKind, Text as TextKind}
+use Rattle.tbl_layout.specs.declared.entry.EntryKind.TheVariants.{Above as AboveKind, Block as BlockKind, Repeated as RepeatedKind, Ruled as RuledKind, Short as ShortKind, Split as SplitKind, Text as TextKind}
 use Rattle.tbl_layout.proofs.RowStands.{stands-completed}
 use Rattle.tbl_kept.specs.Rows.{Command, ElementKept, KeptElement, Row, Rule, columns_holding, elements_of, fields_of, held_by, stands_in}
 use Rattle.tbl_kept.specs.RowsLaying.{AreOpened, IsOpenedKind, all_held, block_stands, block_stands_by, holding_blocks, laid_by, laid_element, laid_entries, laid_entry, laid_row}
@@ -93,6 +93,7 @@ field-joins (BlockKind b) bytes measure key e is opened =
 field-joins (RuledKind sign) bytes measure key e is opened = not_block (RuledKind sign) key e e is refl refl
 field-joins ShortKind bytes measure key e is opened = not_block ShortKind key e e is refl refl
 field-joins (RepeatedKind byte) bytes measure key e is opened = not_block (RepeatedKind byte) key e e is refl refl
+field-joins AboveKind bytes measure key e is opened = not_block AboveKind key e e is refl refl
 
 -- so do those of all columns
 abbrev AllJoin : List Stands → List Stands → List Stands → Type 0
@@ -146,7 +147,7 @@ module _ (formats : List FormatRow) where
 
   abbrev blocks_in : ℕ → List KeptElement → List Stands
   blocks_in column [] = []
-  blocks_in column (Row keys rules height entries ∷ elements) = get_or (blocks_of keys entries) column Nowhere ∷ blocks_in column elements
+  blocks_in column (Row keys rules height is_tall entries ∷ elements) = get_or (blocks_of keys entries) column Nowhere ∷ blocks_in column elements
   blocks_in column (Rule sign ∷ elements) = blocks_in column elements
   blocks_in column (Command from to ∷ elements) = blocks_in column elements
 
@@ -160,25 +161,25 @@ module _ (formats : List FormatRow) where
   each_held-none column [] = refl
   each_held-none column (c ∷ columns) = ap (λ (cs : List Column). c ∷ cs) (each_held-none (suc column) columns)
 
-  module _ (keys rules height : ℕ) (entries : List Entry) (elements : List KeptElement) where
+  module _ (keys rules height : ℕ) (is_tall : Bool) (entries : List Entry) (elements : List KeptElement) where
     first-block : (c : Column) (column : ℕ) (rest : List Stands) → drop column (blocks_of keys entries) ≡ rest
         → with_all (needing c.needs (get_or rest 0 Nowhere)) (blocks_in column elements)
-        ≡ with_all c.needs (blocks_in column (Row keys rules height entries ∷ elements))
+        ≡ with_all c.needs (blocks_in column (Row keys rules height is_tall entries ∷ elements))
     first-block c column rest is =
         ap (λ (s : Stands). with_all (needing c.needs s) (blocks_in column elements)) (sym (get_or-rest (blocks_of keys entries) rest column is))
 
     each_held-row : (column : ℕ) (rest : List Stands) (columns : List Column) → drop column (blocks_of keys entries) ≡ rest
-        → each_held elements column (held_by rest columns) ≡ each_held (Row keys rules height entries ∷ elements) column columns
+        → each_held elements column (held_by rest columns) ≡ each_held (Row keys rules height is_tall entries ∷ elements) column columns
     each_held-row column [] [] is = refl
     each_held-row column (s ∷ rest) [] is = refl
     each_held-row column [] (c ∷ columns) is =
         ap (λ (n : Needs). record c { needs = n } ∷ each_held elements (suc column) columns)
         (ap (λ (n : Needs). with_all n (blocks_in column elements)) (sym (needing-nowhere c.needs)) ∙ first-block c column [] is)
-        ∙ ap (λ (cs : List Column). record c { needs = with_all c.needs (blocks_in column (Row keys rules height entries ∷ elements)) } ∷ cs)
+        ∙ ap (λ (cs : List Column). record c { needs = with_all c.needs (blocks_in column (Row keys rules height is_tall entries ∷ elements)) } ∷ cs)
         (each_held-row (suc column) [] columns (rest-next (blocks_of keys entries) [] column is))
     each_held-row column (s ∷ rest) (c ∷ columns) is =
         ap (λ (n : Needs). record c { needs = n } ∷ each_held elements (suc column) (held_by rest columns)) (first-block c column (s ∷ rest) is)
-        ∙ ap (λ (cs : List Column). record c { needs = with_all c.needs (blocks_in column (Row keys rules height entries ∷ elements)) } ∷ cs)
+        ∙ ap (λ (cs : List Column). record c { needs = with_all c.needs (blocks_in column (Row keys rules height is_tall entries ∷ elements)) } ∷ cs)
         (each_held-row (suc column) rest columns (rest-next (blocks_of keys entries) (s ∷ rest) column is))
 
   each_held-command : (from to : ℕ) (elements : List KeptElement) (column : ℕ) (columns : List Column)
@@ -197,9 +198,9 @@ module _ (formats : List FormatRow) where
 
   all_held-each : (elements : List KeptElement) (columns : List Column) → all_held formats elements columns ≡ each_held elements 0 columns
   all_held-each [] columns = each_held-none 0 columns
-  all_held-each (Row keys rules height entries ∷ elements) columns =
+  all_held-each (Row keys rules height is_tall entries ∷ elements) columns =
       all_held-each elements (holding_blocks (row_at formats keys).keys entries columns)
-      ∙ each_held-row keys rules height entries elements 0 (blocks_of keys entries) columns refl
+      ∙ each_held-row keys rules height is_tall entries elements 0 (blocks_of keys entries) columns refl
   all_held-each (Rule sign ∷ elements) columns = all_held-each elements columns ∙ each_held-rule sign elements 0 columns
   all_held-each (Command from to ∷ elements) columns = all_held-each elements columns ∙ each_held-command from to elements 0 columns
 
@@ -212,10 +213,10 @@ module _ (formats : List FormatRow) where
         → both (needs_of (stands_in formats column elements)) (needs_of (blocks_in column (laid_all elements)))
         ≡ needs_of (entries_of column (elements_of bytes formats (laid_all elements)))
     needs-all column [] kept = needs-same _ _ (omega arith) (omega arith) (omega arith) (omega arith) (omega arith)
-    needs-all column (Row keys rules height entries ∷ elements) kept =
+    needs-all column (Row keys rules height is_tall entries ∷ elements) kept =
         let format = row_at formats keys in
         let cells = by_cells 0 format.keys asked in
-        let short : length entries ≤ length cells = row-short bytes formats bars line_length asked keys rules height entries kept.0 in
+        let short : length entries ≤ length cells = row-short bytes formats bars line_length asked keys rules height is_tall entries kept.0 in
         let fields = laid_row bytes bars line_length asked format.keys entries in
         let same : get_or (row_stands stands_of 0 format.keys fields) column Nowhere
         ≡ get_or (row_stands stands 0 format.keys (fields_of bytes format fields)) column Nowhere =

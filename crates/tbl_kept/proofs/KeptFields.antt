@@ -13,7 +13,7 @@ use Rattle.tbl_layout.specs.Entries.{Block, Content, Text, is_number, key_at}
 use Rattle.tbl_layout.specs.KeptEntries.{IsKept, IsKeptBy, IsLaid, IsLaidBy, IsOpened, IsText, Lies, block_filled, block_lines, content_by, content_of, not_filled, text_entry, with_end}
 use Rattle.tbl_layout.specs.declared.entry.Entry.{Entry}
 use Rattle.tbl_layout.specs.declared.entry.EntryKind.{EntryKind}
-use Rattle.tbl_layout.specs.declared.entry.EntryKind.TheVariants.{Block as BlockKind, Repeated as RepeatedKind, Ruled as RuledKind, Short as ShortKind, Split as SplitKind, Text as TextKind}
+use Rattle.tbl_layout.specs.declared.entry.EntryKind.TheVariants.{Above as AboveKind, Block as BlockKind, Repeated as RepeatedKind, Ruled as RuledKind, Short as ShortKind, Split as SplitKind, Text as TextKind}
 use Rattle.tbl_text.specs.BlockWords.{lines_in}
 use Rattle.std.proofs.lemmas.Grind.{get_or_default_zero}
 use Rattle.tbl_format.proofs.Slices.{slice_range-more}
@@ -35,6 +35,7 @@ kept-within (BlockKind b) bytes key e kept = kept.lies.within
 kept-within (RuledKind sign) bytes key e kept = kept.within
 kept-within ShortKind bytes key e kept = kept.within
 kept-within (RepeatedKind byte) bytes key e kept = kept.within
+kept-within AboveKind bytes key e kept = kept.within
 
 laid-within : (kind : EntryKind) (bytes : List ℕ) (key : Key) (e : Entry) → IsLaidBy kind bytes key e → e.to ≤ length bytes
 laid-within (TextKind glyphs width) bytes key e laid = laid.within
@@ -43,6 +44,7 @@ laid-within (BlockKind b) bytes key e laid = laid.lies.within
 laid-within (RuledKind sign) bytes key e laid = laid.within
 laid-within ShortKind bytes key e laid = laid.within
 laid-within (RepeatedKind byte) bytes key e laid = laid.within
+laid-within AboveKind bytes key e laid = laid.within
 
 -- bytes behind those of the table change no field
 module _ (bytes more : List ℕ) where
@@ -63,6 +65,7 @@ module _ (bytes more : List ℕ) where
   content_by-more (RuledKind sign) from to within = refl
   content_by-more ShortKind from to within = refl
   content_by-more (RepeatedKind byte) from to within = refl
+  content_by-more AboveKind from to within = refl
 
   text-more : (number : Bool) (e : Entry) → IsText bytes number e → IsText (bytes ++ more) number e
   text-more number e text = record {
@@ -81,6 +84,7 @@ module _ (bytes more : List ℕ) where
   IsKeptBy-more (RuledKind sign) key e kept = lies-more e kept
   IsKeptBy-more ShortKind key e kept = lies-more e kept
   IsKeptBy-more (RepeatedKind byte) key e kept = lies-more e kept
+  IsKeptBy-more AboveKind key e kept = lies-more e kept
 
   IsLaidBy-more : (kind : EntryKind) (key : Key) (e : Entry) → IsLaidBy kind bytes key e → IsLaidBy kind (bytes ++ more) key e
   IsLaidBy-more (TextKind glyphs width) key e laid = text-more (is_number key) e laid
@@ -92,6 +96,7 @@ module _ (bytes more : List ℕ) where
   IsLaidBy-more (RuledKind sign) key e laid = lies-more e laid
   IsLaidBy-more ShortKind key e laid = lies-more e laid
   IsLaidBy-more (RepeatedKind byte) key e laid = lies-more e laid
+  IsLaidBy-more AboveKind key e laid = lies-more e laid
 
   pub IsKept-more : (key : Key) (e : Entry) → IsKept bytes key e → IsKept (bytes ++ more) key e
   IsKept-more key e kept = IsKeptBy-more e.kind key e kept
@@ -190,6 +195,7 @@ content-more (BlockKind b) bytes e to is grows = ap (Block b.measure) (block_lin
 content-more (RuledKind sign) bytes e to is grows = absurd (cc)
 content-more ShortKind bytes e to is grows = absurd (cc)
 content-more (RepeatedKind byte) bytes e to is grows = absurd (cc)
+content-more AboveKind bytes e to is grows = absurd (cc)
 
 pub content_of-block_end : (bytes : List ℕ) (e : Entry) (to : ℕ) → BlockGrows bytes e to
     → content_of bytes (with_end to e) ≡ with_line (slice_range bytes (e.to + 1) to) (content_of bytes e)
@@ -202,6 +208,7 @@ opened (BlockKind b) bytes key e is kept = kept
 opened (RuledKind sign) bytes key e is kept = absurd (cc)
 opened ShortKind bytes key e is kept = absurd (cc)
 opened (RepeatedKind byte) bytes key e is kept = absurd (cc)
+opened AboveKind bytes key e is kept = absurd (cc)
 
 pub IsKept-block_end : (bytes : List ℕ) (key : Key) (e : Entry) (to : ℕ) → BlockGrows bytes e to → IsKept bytes key (with_end to e)
 IsKept-block_end bytes key e to grows =
@@ -218,6 +225,7 @@ kept-opened (BlockKind b) bytes key e is kept =
 kept-opened (RuledKind sign) bytes key e is kept = tt
 kept-opened ShortKind bytes key e is kept = tt
 kept-opened (RepeatedKind byte) bytes key e is kept = tt
+kept-opened AboveKind bytes key e is kept = tt
 
 pub AreOpened-kept : (bytes : List ℕ) (format : FormatRow) (column : ℕ) (entries : List Entry) → AreKept bytes format column entries → AreOpened entries
 AreOpened-kept bytes format column [] kept = tt

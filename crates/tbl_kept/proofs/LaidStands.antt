@@ -16,7 +16,7 @@ use Rattle.tbl_layout.specs.declared.columns.Column.{Column}
 use Rattle.tbl_layout.specs.declared.columns.Stands.{Stands}
 use Rattle.tbl_layout.specs.declared.entry.Entry.{Entry}
 use Rattle.tbl_layout.specs.declared.entry.EntryKind.{EntryKind}
-use Rattle.tbl_layout.specs.declared.entry.EntryKind.TheVariants.{Block as BlockKind, Repeated as RepeatedKind, Ruled as RuledKind, Short as ShortKind, Split as SplitKind, Text as TextKind}
+use Rattle.tbl_layout.specs.declared.entry.EntryKind.TheVariants.{Above as AboveKind, Block as BlockKind, Repeated as RepeatedKind, Ruled as RuledKind, Short as ShortKind, Split as SplitKind, Text as TextKind}
 use Rattle.tbl_layout.proofs.RowStands.{wide-completed}
 use Rattle.tbl_layout.proofs.Spreading.{all_fitted-append}
 use Rattle.tbl_layout.proofs.TextStands.{text-stands}
@@ -36,6 +36,7 @@ laid-stands (BlockKind b) bytes key e is laid = ap (λ (kind : EntryKind). stand
 laid-stands (RuledKind sign) bytes key e is laid = ap (λ (kind : EntryKind). stands_by key kind (e.from == e.to)) (sym is)
 laid-stands ShortKind bytes key e is laid = ap (λ (kind : EntryKind). stands_by key kind (e.from == e.to)) (sym is)
 laid-stands (RepeatedKind byte) bytes key e is laid = ap (λ (kind : EntryKind). stands_by key kind (e.from == e.to)) (sym is)
+laid-stands AboveKind bytes key e is laid = ap (λ (kind : EntryKind). stands_by key kind (e.from == e.to)) (sym is)
 
 module _ (bytes : List ℕ) (format : FormatRow) where
   -- one under the key of its cell
@@ -77,7 +78,7 @@ pub fitted-laid : (bytes : List ℕ) (formats : List FormatRow) (columns : ℕ) 
     → AllByRecursion (ElementLaid bytes formats columns) elements → (cs : List Column)
     → fitted_rows formats bars asked elements cs ≡ all_fitted bars asked (all_wide (elements_of bytes formats elements)) cs
 fitted-laid bytes formats columns bars asked [] laid cs = refl
-fitted-laid bytes formats columns bars asked (Row keys rules height entries ∷ elements) laid cs =
+fitted-laid bytes formats columns bars asked (Row keys rules height is_tall entries ∷ elements) laid cs =
     let format = row_at formats keys in
     let own = wide_entries stands 0 format.keys (map (content_of bytes) entries) in
     let more = all_wide (elements_of bytes formats elements) in

@@ -14,3 +14,9 @@ pub mod RowsNext
 pub mod RowsLaidOut
 pub mod LaidStands
 pub mod FieldsFitted
+pub mod CellHeights
+pub mod AllLaid
+pub mod HeightSteps
+pub mod RowsRaised
+pub mod RowsAlone
+pub mod RowPassed

@@ -1,12 +1,14 @@
 -- Where the fields of rows lie, one row after another.
-use Rattle.std.proofs.Common.{◌≡◌, ℕ, zero, suc, ◌+◌, ◌-◌, ◌<◌, ◌≤◌, List, [], ◌∷◌, ◌++◌, length, map, take, drop, get_or, set, refl, sym, ap, subst, ◌∙◌, arith, length-append, length-drop}
-use Rattle.std.specs.List.{slice_range}
+use Rattle.std.proofs.Common.{◌≡◌, ℕ, zero, suc, ◌+◌, ◌-◌, ◌<◌, ◌≤◌, Bool, List, [], ◌∷◌, ◌++◌, length, map, take, drop, get_or, set, refl, sym, ap, subst, ◌∙◌, arith, length-append, length-drop}
+use Rattle.std.specs.List.{AllByRecursion, slice_range}
 use Rattle.std.proofs.lemmas.List.{drop-drop, drop_at, length-take-le, take-take, take_at}
+use Rattle.tbl_format.specs.Format.{FormatRow}
 use Rattle.tbl_layout.specs.declared.entry.Entry.{Entry}
 use Rattle.tbl_layout.specs.declared.data_lines.RuleSign.{RuleSign}
 use Rattle.tbl_text.proofs.BlockSlices.{length-slice_range}
 use Rattle.tbl_kept.specs.Rows.{Command, KeptElement, Row, Rule, entries_in}
 use Rattle.tbl_kept.specs.RowsInside.{LieBetween, kept_in}
+use Rattle.tbl_kept.specs.RowsLaying.{ElementWithin}
 use Rattle.tbl_kept.specs.declared.rows.Element.{Element}
 use Rattle.tbl_kept.specs.declared.rows.Element.TheVariants.{Command as OneCommand, Row as OneRow, Rule as OneRule}
 use Rattle.tbl_kept.specs.declared.rows.KeptRow.{KeptRow}
@@ -61,8 +63,8 @@ module _ (fields : List Entry) where
         let last = LieBetween-order row.to to elements lie.2 in
         let front : take row.to fields ≡ take row.to others =
         sym (take-take row.to to fields last) ∙ ap (λ (es : List Entry). take row.to es) same ∙ take-take row.to to others last in
-        ap (λ (es : List Entry). Row row.keys row.rules row.height es ∷ map (kept_in fields) elements) (slice_range-front fields others row.from row.to front)
-        ∙ ap (λ (es : List KeptElement). Row row.keys row.rules row.height (slice_range others row.from row.to) ∷ es) (kept-front row.to to elements same lie.2)
+        ap (λ (es : List Entry). Row row.keys row.rules row.height row.is_tall es ∷ map (kept_in fields) elements) (slice_range-front fields others row.from row.to front)
+        ∙ ap (λ (es : List KeptElement). Row row.keys row.rules row.height row.is_tall (slice_range others row.from row.to) ∷ es) (kept-front row.to to elements same lie.2)
     kept-front from to (OneRule sign ∷ elements) same lie =
         ap (λ (es : List KeptElement). Rule sign ∷ es) (kept-front from to elements same lie)
     kept-front from to (OneCommand start end ∷ elements) same lie =
@@ -81,8 +83,8 @@ module _ (fields : List Entry) where
     kept-behind from to (OneRow row ∷ elements) same lie =
         let part : slice_range fields row.from row.to ≡ slice_range others row.from row.to =
         ap (λ (es : List Entry). take (row.to - row.from) es) (drop-further from row.from (omega (arith, lie.0)) same) in
-        ap (λ (es : List Entry). Row row.keys row.rules row.height es ∷ map (kept_in fields) elements) part
-        ∙ ap (λ (es : List KeptElement). Row row.keys row.rules row.height (slice_range others row.from row.to) ∷ es)
+        ap (λ (es : List Entry). Row row.keys row.rules row.height row.is_tall es ∷ map (kept_in fields) elements) part
+        ∙ ap (λ (es : List KeptElement). Row row.keys row.rules row.height row.is_tall (slice_range others row.from row.to) ∷ es)
         (kept-behind row.to to elements (drop-further from row.to (omega (arith, lie.1)) same) lie.2)
     kept-behind from to (OneRule sign ∷ elements) same lie =
         ap (λ (es : List KeptElement). Rule sign ∷ es) (kept-behind from to elements same lie)
@@ -118,13 +120,13 @@ pub record RowChanged (fields others part : List Entry) (from to : ℕ) : Type 0
   pub is : slice_range others from to ≡ part
   pub behind : drop to others ≡ drop to fields
 
-module _ (row : KeptRow) (height : ℕ) where
+module _ (row : KeptRow) (height : ℕ) (is_tall : Bool) where
   pub LieBetween-set : (from to at : ℕ) (elements : List Element) (none : Element) → at < length elements → get_or elements at none ≡ OneRow row
-      → LieBetween from elements to → LieBetween from (set elements at (OneRow (record row { height = height }))) to
+      → LieBetween from elements to → LieBetween from (set elements at (OneRow (record row { height = height; is_tall = is_tall }))) to
   LieBetween-set from to at [] none more is lie = absurd (omega (arith, more))
   LieBetween-set from to zero (OneRow first ∷ elements) none more is lie =
       let same : first ≡ row = cc in
-      subst (λ (r : KeptRow). LieBetween from (OneRow (record r { height = height }) ∷ elements) to) same lie
+      subst (λ (r : KeptRow). LieBetween from (OneRow (record r { height = height; is_tall = is_tall }) ∷ elements) to) same lie
   LieBetween-set from to zero (OneRule sign ∷ elements) none more is lie = absurd cc
   LieBetween-set from to zero (OneCommand start end ∷ elements) none more is lie = absurd cc
   LieBetween-set from to (suc at) (OneRow first ∷ elements) none more is lie =
@@ -136,21 +138,21 @@ module _ (row : KeptRow) (height : ℕ) where
 
   module _ (fields others part : List Entry) (is_changed : RowChanged fields others part row.from row.to) where
     first-changed : (first : KeptRow) (to : ℕ) (elements : List Element) → first ≡ row → LieBetween first.to elements to
-        → Row first.keys first.rules height (slice_range others first.from first.to) ∷ map (kept_in others) elements ≡ Row row.keys row.rules height part ∷ map (kept_in fields) elements
+        → Row first.keys first.rules height is_tall (slice_range others first.from first.to) ∷ map (kept_in others) elements ≡ Row row.keys row.rules height is_tall part ∷ map (kept_in fields) elements
     first-changed first to elements same lie =
         let behind : drop first.to others ≡ drop first.to fields = subst (λ (r : KeptRow). drop r.to others ≡ drop r.to fields) (sym same) is_changed.behind in
-        ap (λ (r : KeptRow). Row r.keys r.rules height (slice_range others r.from r.to) ∷ map (kept_in others) elements) same
-        ∙ ap (λ (es : List Entry). Row row.keys row.rules height es ∷ map (kept_in others) elements) is_changed.is
-        ∙ ap (λ (es : List KeptElement). Row row.keys row.rules height part ∷ es) (kept-behind others fields first.to to elements behind lie)
+        ap (λ (r : KeptRow). Row r.keys r.rules height is_tall (slice_range others r.from r.to) ∷ map (kept_in others) elements) same
+        ∙ ap (λ (es : List Entry). Row row.keys row.rules height is_tall es ∷ map (kept_in others) elements) is_changed.is
+        ∙ ap (λ (es : List KeptElement). Row row.keys row.rules height is_tall part ∷ es) (kept-behind others fields first.to to elements behind lie)
 
     pub kept-set : (from to at : ℕ) (elements : List Element) (none : Element) → at < length elements → get_or elements at none ≡ OneRow row
         → LieBetween from elements to
-        → map (kept_in others) (set elements at (OneRow (record row { height = height })))
-        ≡ set (map (kept_in fields) elements) at (Row row.keys row.rules height part)
+        → map (kept_in others) (set elements at (OneRow (record row { height = height; is_tall = is_tall })))
+        ≡ set (map (kept_in fields) elements) at (Row row.keys row.rules height is_tall part)
     kept-set from to at [] none more is lie = absurd (omega (arith, more))
     kept-set from to zero (OneRow first ∷ elements) none more is lie =
         let same : first ≡ row = cc in
-        ap (λ (r : KeptRow). Row r.keys r.rules height (slice_range others r.from r.to) ∷ map (kept_in others) elements) (sym same)
+        ap (λ (r : KeptRow). Row r.keys r.rules height is_tall (slice_range others r.from r.to) ∷ map (kept_in others) elements) (sym same)
         ∙ first-changed first to elements same lie.2
     kept-set from to zero (OneRule sign ∷ elements) none more is lie = absurd cc
     kept-set from to zero (OneCommand start end ∷ elements) none more is lie = absurd cc
@@ -160,9 +162,9 @@ module _ (row : KeptRow) (height : ℕ) where
         sym (take-take first.to row.from others rest.first)
         ∙ ap (λ (es : List Entry). take first.to es) is_changed.front
         ∙ take-take first.to row.from fields rest.first in
-        ap (λ (es : List Entry). Row first.keys first.rules first.height es ∷ map (kept_in others) (set elements at (OneRow (record row { height = height }))))
+        ap (λ (es : List Entry). Row first.keys first.rules first.height first.is_tall es ∷ map (kept_in others) (set elements at (OneRow (record row { height = height; is_tall = is_tall }))))
         (slice_range-front others fields first.from first.to front)
-        ∙ ap (λ (es : List KeptElement). Row first.keys first.rules first.height (slice_range fields first.from first.to) ∷ es)
+        ∙ ap (λ (es : List KeptElement). Row first.keys first.rules first.height first.is_tall (slice_range fields first.from first.to) ∷ es)
         (kept-set first.to to at elements none (omega (arith, more)) is lie.2)
     kept-set from to (suc at) (OneRule sign ∷ elements) none more is lie =
         ap (λ (es : List KeptElement). Rule sign ∷ es) (kept-set from to at elements none (omega (arith, more)) is lie)
@@ -217,3 +219,10 @@ length-changed fields part from to order within len =
       length-drop (to - from) (drop from fields),
       length-drop from fields,
     )
+
+-- a row of the formats serves a row that is kept
+pub row-served : (fields : List Entry) (formats : List FormatRow) (elements : List Element) (at : ℕ) (none : Element) (row : KeptRow) → at < length elements
+    → get_or elements at none ≡ OneRow row → AllByRecursion (ElementWithin formats) (map (kept_in fields) elements) → row.keys < length formats
+row-served fields formats [] at none row more is within = absurd (omega (arith, more))
+row-served fields formats (e ∷ elements) zero none row more is within = subst (λ (x : Element). ElementWithin formats (kept_in fields x)) is within.0
+row-served fields formats (e ∷ elements) (suc at) none row more is within = row-served fields formats elements at none row (omega (arith, more)) is within.1

@@ -1,5 +1,5 @@
 -- The rows of a table, whose blocks are filled.
-use Rattle.std.proofs.Common.{◌≡◌, ℕ, suc, ◌+◌, ◌<◌, ◌≤◌, max, List, [], ◌∷◌, ◌++◌, length, map, take, set, refl, sym, ap, subst, ◌∙◌, arith}
+use Rattle.std.proofs.Common.{◌≡◌, ℕ, suc, ◌+◌, ◌<◌, ◌≤◌, max, Bool, List, [], ◌∷◌, ◌++◌, length, map, take, set, refl, sym, ap, subst, ◌∙◌, arith}
 use Rattle.std.specs.List.{AllByRecursion}
 use Rattle.std.proofs.lemmas.List.{take_more_set}
 use Rattle.tbl_format.proofs.CellColumns.{length-by_cells}
@@ -16,7 +16,7 @@ use Rattle.tbl_layout.specs.declared.columns.Stands.TheVariants.{Nowhere}
 use Rattle.tbl_layout.specs.declared.entry.BlockEntry.{BlockEntry}
 use Rattle.tbl_layout.specs.declared.entry.Entry.{Entry}
 use Rattle.tbl_layout.specs.declared.entry.EntryKind.{EntryKind}
-use Rattle.tbl_layout.specs.declared.entry.EntryKind.TheVariants.{Block as BlockKind, Repeated as RepeatedKind, Ruled as RuledKind, Short as ShortKind, Split as SplitKind, Text as TextKind}
+use Rattle.tbl_layout.specs.declared.entry.EntryKind.TheVariants.{Above as AboveKind, Block as BlockKind, Repeated as RepeatedKind, Ruled as RuledKind, Short as ShortKind, Split as SplitKind, Text as TextKind}
 use Rattle.tbl_layout.proofs.BlocksFilled.{filled-completed}
 use Rattle.tbl_kept.specs.Rows.{AreKept, AreLaid, Command, ElementKept, ElementLaid, KeptElement, Row, Rule, element_of, elements_of, height_of, rows_in_front}
 use Rattle.tbl_kept.specs.RowsLaying.{FieldLies, FieldsLie, block_stands_by, laid_by, laid_element, laid_entries}
@@ -31,6 +31,7 @@ laid-is (BlockKind b) bytes measure key e is kept = record { lies = record { ord
 laid-is (RuledKind sign) bytes measure key e is kept = subst (λ (k : EntryKind). IsLaidBy k bytes key e) is kept
 laid-is ShortKind bytes measure key e is kept = subst (λ (k : EntryKind). IsLaidBy k bytes key e) is kept
 laid-is (RepeatedKind byte) bytes measure key e is kept = subst (λ (k : EntryKind). IsLaidBy k bytes key e) is kept
+laid-is AboveKind bytes measure key e is kept = subst (λ (k : EntryKind). IsLaidBy k bytes key e) is kept
 
 laid-content : (kind : EntryKind) (bytes : List ℕ) (measure : ℕ) (e : Entry) → kind ≡ e.kind
     → content_of bytes (laid_by kind bytes measure e) ≡ filled_in measure (content_by kind bytes e.from e.to)
@@ -40,6 +41,7 @@ laid-content (BlockKind b) bytes measure e is = refl
 laid-content (RuledKind sign) bytes measure e is = ap (λ (k : EntryKind). content_by k bytes e.from e.to) (sym is)
 laid-content ShortKind bytes measure e is = ap (λ (k : EntryKind). content_by k bytes e.from e.to) (sym is)
 laid-content (RepeatedKind byte) bytes measure e is = ap (λ (k : EntryKind). content_by k bytes e.from e.to) (sym is)
+laid-content AboveKind bytes measure e is = ap (λ (k : EntryKind). content_by k bytes e.from e.to) (sym is)
 
 module _ (bytes : List ℕ) (bars : Bars) (line_length count : ℕ) where
   contents-laid : (cells : List (List Asked)) (entries : List Entry)
@@ -69,25 +71,25 @@ module _ (bytes : List ℕ) (bars : Bars) (line_length count : ℕ) where
 
 module _ (bytes : List ℕ) (formats : List FormatRow) (bars : Bars) (line_length : ℕ) (asked : List Asked) where
   -- all rows are laid out
-  pub row-short : (keys rules height : ℕ) (entries : List Entry) → ElementKept bytes formats (length asked) (Row keys rules height entries)
+  pub row-short : (keys rules height : ℕ) (is_tall : Bool) (entries : List Entry) → ElementKept bytes formats (length asked) (Row keys rules height is_tall entries)
       → length entries ≤ length (by_cells 0 (row_at formats keys).keys asked)
-  row-short keys rules height entries kept =
+  row-short keys rules height is_tall entries kept =
       omega (arith, kept.short, length-by_cells (row_at formats keys).keys asked kept.cells.cells kept.cells.short)
 
   pub all-laid : (elements : List KeptElement) → AllByRecursion (ElementKept bytes formats (length asked)) elements
       → AllByRecursion (ElementLaid bytes formats (length asked)) (map (laid_element bytes formats bars line_length asked) elements)
   all-laid [] kept = tt
-  all-laid (Row keys rules height entries ∷ elements) kept =
+  all-laid (Row keys rules height is_tall entries ∷ elements) kept =
       let format = row_at formats keys in
       let cells = by_cells 0 format.keys asked in
       let same = length-laid bytes bars line_length (length asked) cells entries in (
         record {
           serves = kept.0.serves;
           in_front = kept.0.in_front;
+          ruled = kept.0.ruled;
           cells = record { cells = kept.0.cells.cells; short = kept.0.cells.short };
           short = omega (arith, kept.0.short, same);
-          laid = fields-laid bytes bars line_length (length asked) format 0 cells entries (row-short keys rules height entries kept.0) kept.0.kept;
-          high = refl;
+          laid = fields-laid bytes bars line_length (length asked) format 0 cells entries (row-short keys rules height is_tall entries kept.0) kept.0.kept;
         },
         all-laid elements kept.1,
       )
@@ -97,7 +99,7 @@ module _ (bytes : List ℕ) (formats : List FormatRow) (bars : Bars) (line_lengt
   -- and have the same texts, and the same blocks in their measures
   element_of-laid : (e : KeptElement)
       → element_of bytes formats (laid_element bytes formats bars line_length asked e) ≡ filled_element bars line_length asked (element_of bytes formats e)
-  element_of-laid (Row keys rules height entries) =
+  element_of-laid (Row keys rules height is_tall entries) =
       let format = row_at formats keys in
       let cells = by_cells 0 format.keys asked in
       ap (λ (fields : List Content). OneRow (rows_in_front formats keys rules) format (completed format fields))
@@ -123,6 +125,7 @@ laid_by-none (BlockKind b) bytes measure e none = absurd (none b refl)
 laid_by-none (RuledKind sign) bytes measure e none = refl
 laid_by-none ShortKind bytes measure e none = refl
 laid_by-none (RepeatedKind byte) bytes measure e none = refl
+laid_by-none AboveKind bytes measure e none = refl
 
 pub block_stands-none : (kind : EntryKind) (key : Key) (e : Entry) → ((b : BlockEntry) → kind ≡ BlockKind b → ⊥)
     → block_stands_by kind key e ≡ Nowhere
@@ -132,6 +135,7 @@ block_stands-none (BlockKind b) key e none = absurd (none b refl)
 block_stands-none (RuledKind sign) key e none = refl
 block_stands-none ShortKind key e none = refl
 block_stands-none (RepeatedKind byte) key e none = refl
+block_stands-none AboveKind key e none = refl
 
 -- the lines of a row with a field more
 pub height_of-more : (entries : List Entry) (at : ℕ) (e : Entry) → at < length entries
@@ -149,6 +153,7 @@ field-lies (BlockKind b) bytes key e kept = record { order = kept.lies.order; wi
 field-lies (RuledKind sign) bytes key e kept = record { order = kept.order; within = kept.within }
 field-lies ShortKind bytes key e kept = record { order = kept.order; within = kept.within }
 field-lies (RepeatedKind byte) bytes key e kept = record { order = kept.order; within = kept.within }
+field-lies AboveKind bytes key e kept = record { order = kept.order; within = kept.within }
 
 pub fields-lie : (bytes : List ℕ) (format : FormatRow) (column : ℕ) (entries : List Entry) → AreKept bytes format column entries → FieldsLie bytes entries
 fields-lie bytes format column [] kept = tt

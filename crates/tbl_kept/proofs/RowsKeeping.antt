@@ -1,5 +1,5 @@
 -- What is kept of a table's rows stays as it is behind each step of its reading.
-use Rattle.std.proofs.Common.{◌≡◌, ℕ, zero, suc, ◌+◌, ◌-◌, ◌<◌, ◌≤◌, List, [], ◌∷◌, ◌++◌, length, map, take, drop, replicate, refl, sym, ap, subst, ◌∙◌, arith, length-append, length-drop}
+use Rattle.std.proofs.Common.{◌≡◌, ℕ, zero, suc, ◌+◌, ◌-◌, ◌<◌, ◌≤◌, Bool, false, List, [], ◌∷◌, ◌++◌, length, map, take, drop, replicate, refl, sym, ap, subst, ◌∙◌, arith, length-append, length-drop}
 use Rattle.std.specs.List.{AllByRecursion, slice_range}
 use Rattle.std.proofs.lemmas.List.{drop-append-le, length-replicate, map-append, take-append-le}
 use Rattle.tbl_format.specs.Cells.{cell_count}
@@ -8,12 +8,13 @@ use Rattle.tbl_format.specs.FormatRows.{AreWithin}
 use Rattle.tbl_format.specs.RowsServed.{row_at}
 use Rattle.tbl_layout.specs.Columns.{row_stands}
 use Rattle.tbl_layout.specs.Entries.{Command as OneCommand, Content, Element, Row as OneRow, Rule as OneRule, completed, key_at}
+use Rattle.tbl_layout.specs.Heights.{heights, talls}
 use Rattle.tbl_layout.specs.KeptEntries.{IsKept, content_of, stands_of, with_end}
 use Rattle.tbl_layout.specs.declared.columns.Column.{Column}
 use Rattle.tbl_layout.specs.declared.data_lines.RuleSign.{RuleSign}
 use Rattle.tbl_layout.specs.declared.entry.Entry.{Entry}
 use Rattle.tbl_format.proofs.Elements.{each-append}
-use Rattle.tbl_kept.specs.Rows.{AreKept, AreLaid, Command, ElementKept, ElementLaid, KeptElement, KeptRows, Row, RowBegunKept, RowsKept, RowsLaid, Rule, columns_holding, element_of, elements_of, fields_of, held_by, last_changed, no_column, no_rows, rows_in_front, with_block_end, with_columns, with_command, with_entry, with_row, with_rule}
+use Rattle.tbl_kept.specs.Rows.{AreKept, AreLaid, Command, ElementKept, ElementLaid, IsRuleRow, KeptElement, KeptRows, Row, RowBegunKept, RowsKept, RowsLaid, Rule, columns_holding, element_of, elements_of, fields_of, held_by, last_changed, no_column, no_rows, rows_in_front, with_block_end, with_columns, with_command, with_entry, with_row, with_rule}
 use Rattle.tbl_kept.specs.RowsGrowing.{BlockGrows, with_line}
 use Rattle.tbl_kept.proofs.ColumnsHeld.{columns_holding-behind, columns_holding-command, columns_holding-formats, columns_holding-more, columns_holding-rule, holding-row, length-columns_holding, row_at-more}
 use Rattle.tbl_kept.proofs.KeptFields.{AreKept-front, AreKept-last, AreKept-more, IsKept-block_end, IsLaid-more, content_of-block_end, content_of-laid-more, contents-more, last_changed-last, more-within, part-more}
@@ -37,20 +38,22 @@ RowsKept-none bytes formats entries elements columns = record { elements = tt; c
 -- bytes behind those of the table change no row
 module _ (bytes more : List ℕ) (formats : List FormatRow) where
   element-kept-more : (columns : ℕ) (e : KeptElement) → ElementKept bytes formats columns e → ElementKept (bytes ++ more) formats columns e
-  element-kept-more columns (Row keys rules height entries) kept = record {
+  element-kept-more columns (Row keys rules height is_tall entries) kept = record {
     serves = kept.serves;
     in_front = kept.in_front;
+    ruled = kept.ruled;
     cells = record { cells = kept.cells.cells; short = kept.cells.short };
     short = kept.short;
     kept = AreKept-more bytes more (row_at formats keys) 0 entries kept.kept;
     low = kept.low;
+    alone = kept.alone;
   }
   element-kept-more columns (Rule sign) kept = tt
   element-kept-more columns (Command from to) kept = record { order = kept.order; within = more-within bytes more to kept.within }
 
   element_of-more : (columns : ℕ) (e : KeptElement) → ElementKept bytes formats columns e
       → element_of (bytes ++ more) formats e ≡ element_of bytes formats e
-  element_of-more columns (Row keys rules height entries) kept =
+  element_of-more columns (Row keys rules height is_tall entries) kept =
       ap (λ (fields : List Content). OneRow (rows_in_front formats keys rules) (row_at formats keys) (completed (row_at formats keys) fields)) (contents-more bytes more (row_at formats keys) 0 entries kept.kept)
   element_of-more columns (Rule sign) kept = refl
   element_of-more columns (Command from to) kept = ap OneCommand (part-more bytes more from to kept.within)
@@ -90,34 +93,39 @@ module _ (bytes more : List ℕ) (formats : List FormatRow) where
       ∙ ap (λ (cs : List Content). content_of bytes e ∷ cs) (contents-laid-more format (suc cell) entries laid.1)
 
   element-laid-more : (columns : ℕ) (e : KeptElement) → ElementLaid bytes formats columns e → ElementLaid (bytes ++ more) formats columns e
-  element-laid-more columns (Row keys rules height entries) laid = record {
+  element-laid-more columns (Row keys rules height is_tall entries) laid = record {
     serves = laid.serves;
     in_front = laid.in_front;
+    ruled = laid.ruled;
     cells = record { cells = laid.cells.cells; short = laid.cells.short };
     short = laid.short;
     laid = fields-laid-more (row_at formats keys) 0 entries laid.laid;
-    high = laid.high;
   }
   element-laid-more columns (Rule sign) laid = tt
   element-laid-more columns (Command from to) laid = record { order = laid.order; within = more-within bytes more to laid.within }
 
   element_of-laid-more : (columns : ℕ) (e : KeptElement) → ElementLaid bytes formats columns e
       → element_of (bytes ++ more) formats e ≡ element_of bytes formats e
-  element_of-laid-more columns (Row keys rules height entries) laid =
+  element_of-laid-more columns (Row keys rules height is_tall entries) laid =
       ap (λ (fields : List Content). OneRow (rows_in_front formats keys rules) (row_at formats keys) (completed (row_at formats keys) fields)) (contents-laid-more (row_at formats keys) 0 entries laid.laid)
   element_of-laid-more columns (Rule sign) laid = refl
   element_of-laid-more columns (Command from to) laid = ap OneCommand (part-more bytes more from to laid.within)
 
-  pub RowsLaid-more : (k : KeptRows) → RowsLaid bytes formats k → RowsLaid (bytes ++ more) formats k
-  RowsLaid-more k laid =
-      each (ElementLaid bytes formats (length k.columns)) (ElementLaid (bytes ++ more) formats (length k.columns))
-      (element-laid-more (length k.columns)) k.elements laid
-
-  pub elements_of-laid-more : (k : KeptRows) → RowsLaid bytes formats k
+  pub elements_of-laid-more : (is_inside : Bool) (k : KeptRows) → RowsLaid bytes formats is_inside k
       → elements_of (bytes ++ more) formats k.elements ≡ elements_of bytes formats k.elements
-  elements_of-laid-more k laid =
+  elements_of-laid-more is_inside k laid =
       map-same (element_of (bytes ++ more) formats) (element_of bytes formats) (ElementLaid bytes formats (length k.columns))
-      (element_of-laid-more (length k.columns)) k.elements laid
+      (element_of-laid-more (length k.columns)) k.elements laid.elements
+
+  pub RowsLaid-more : (is_inside : Bool) (k : KeptRows) → RowsLaid bytes formats is_inside k → RowsLaid (bytes ++ more) formats is_inside k
+  RowsLaid-more is_inside k laid =
+      let same = elements_of-laid-more is_inside k laid in
+      record {
+        elements = each (ElementLaid bytes formats (length k.columns)) (ElementLaid (bytes ++ more) formats (length k.columns))
+            (element-laid-more (length k.columns)) k.elements laid.elements;
+        heights = laid.heights ∙ ap (heights is_inside (length k.columns)) (sym same);
+        talls = laid.talls ∙ ap (talls (length k.columns)) (sym same);
+      }
 
 -- rows of formats behind those that are known change no row
 pub rows_in_front-more : (formats more : List FormatRow) (keys rules : ℕ) → keys < length formats → rules ≤ keys
@@ -128,20 +136,22 @@ rows_in_front-more formats more keys rules serves few =
 
 module _ (bytes : List ℕ) (formats more : List FormatRow) where
   element-kept-formats : (columns : ℕ) (e : KeptElement) → ElementKept bytes formats columns e → ElementKept bytes (formats ++ more) columns e
-  element-kept-formats columns (Row keys rules height entries) kept = record {
+  element-kept-formats columns (Row keys rules height is_tall entries) kept = record {
     serves = omega (arith, kept.serves, length-append formats more);
     in_front = kept.in_front;
+    ruled = subst (AllByRecursion IsRuleRow) (sym (rows_in_front-more formats more keys rules kept.serves kept.in_front)) kept.ruled;
     cells = subst (λ (row : FormatRow). AreWithin columns row.keys) (sym (row_at-more bytes formats more columns keys kept.serves)) kept.cells;
     short = subst (λ (row : FormatRow). length entries ≤ cell_count row.keys columns) (sym (row_at-more bytes formats more columns keys kept.serves)) kept.short;
     kept = subst (λ (row : FormatRow). AreKept bytes row 0 entries) (sym (row_at-more bytes formats more columns keys kept.serves)) kept.kept;
     low = kept.low;
+    alone = kept.alone;
   }
   element-kept-formats columns (Rule sign) kept = tt
   element-kept-formats columns (Command from to) kept = record { order = kept.order; within = kept.within }
 
   element_of-formats : (columns : ℕ) (e : KeptElement) → ElementKept bytes formats columns e
       → element_of bytes (formats ++ more) e ≡ element_of bytes formats e
-  element_of-formats columns (Row keys rules height entries) kept =
+  element_of-formats columns (Row keys rules height is_tall entries) kept =
       ap (λ (row : FormatRow). OneRow (rows_in_front (formats ++ more) keys rules) row (fields_of bytes row entries))
       (row_at-more bytes formats more columns keys kept.serves)
       ∙ ap (λ (front : List FormatRow). OneRow front (row_at formats keys) (fields_of bytes (row_at formats keys) entries))
@@ -230,27 +240,27 @@ module _ (bytes : List ℕ) (formats : List FormatRow) (k : KeptRows) where
         ∙ ap (λ (c : Content). map (content_of bytes) front ++ c ∷ []) (content_of-block_end bytes e to grows)
 
   -- the row that is begun is whole
-  pub RowsKept-row : (keys rules : ℕ) → keys < length formats → rules ≤ keys → AreWithin (length k.columns) (row_at formats keys).keys
-      → RowBegunKept bytes formats keys k → RowsKept bytes formats (with_row keys rules (row_at formats keys) k)
-  RowsKept-row keys rules serves in_front cells begun =
+  pub RowsKept-row : (keys rules : ℕ) → keys < length formats → rules ≤ keys → AllByRecursion IsRuleRow (rows_in_front formats keys rules)
+      → AreWithin (length k.columns) (row_at formats keys).keys → RowBegunKept bytes formats keys k → RowsKept bytes formats (with_row keys rules (row_at formats keys) k)
+  RowsKept-row keys rules serves in_front ruled cells begun =
       let entries = row_stands stands_of 0 (row_at formats keys).keys k.row in
-      let columns : held_by entries k.columns ≡ columns_holding formats (k.elements ++ Row keys rules 1 k.row ∷ []) 0 (length k.columns) =
+      let columns : held_by entries k.columns ≡ columns_holding formats (k.elements ++ Row keys rules 1 false k.row ∷ []) 0 (length k.columns) =
       ap (λ (cs : List Column). held_by entries cs) begun.all.columns
-      ∙ holding-row formats k.elements keys rules 1 k.row (length k.columns) 0 entries refl in
+      ∙ holding-row formats k.elements keys rules 1 false k.row (length k.columns) 0 entries refl in
       let same : length (held_by entries k.columns) ≡ length k.columns =
-      ap length columns ∙ length-columns_holding formats (k.elements ++ Row keys rules 1 k.row ∷ []) 0 (length k.columns) in
-      let all : AllByRecursion (ElementKept bytes formats (length k.columns)) (k.elements ++ Row keys rules 1 k.row ∷ []) =
-      each-append (ElementKept bytes formats (length k.columns)) k.elements (Row keys rules 1 k.row ∷ []) begun.all.elements
-      (record { serves = serves; in_front = in_front; cells = cells; short = begun.short; kept = begun.row; low = refl }, tt) in
+      ap length columns ∙ length-columns_holding formats (k.elements ++ Row keys rules 1 false k.row ∷ []) 0 (length k.columns) in
+      let all : AllByRecursion (ElementKept bytes formats (length k.columns)) (k.elements ++ Row keys rules 1 false k.row ∷ []) =
+      each-append (ElementKept bytes formats (length k.columns)) k.elements (Row keys rules 1 false k.row ∷ []) begun.all.elements
+      (record { serves = serves; in_front = in_front; ruled = ruled; cells = cells; short = begun.short; kept = begun.row; low = refl; alone = refl }, tt) in
       record {
-        elements = subst (λ (n : ℕ). AllByRecursion (ElementKept bytes formats n) (k.elements ++ Row keys rules 1 k.row ∷ [])) (sym same) all;
-        columns = columns ∙ ap (λ (n : ℕ). columns_holding formats (k.elements ++ Row keys rules 1 k.row ∷ []) 0 n) (sym same);
+        elements = subst (λ (n : ℕ). AllByRecursion (ElementKept bytes formats n) (k.elements ++ Row keys rules 1 false k.row ∷ [])) (sym same) all;
+        columns = columns ∙ ap (λ (n : ℕ). columns_holding formats (k.elements ++ Row keys rules 1 false k.row ∷ []) 0 n) (sym same);
       }
 
   pub elements_of-row : (keys rules : ℕ) → elements_of bytes formats (with_row keys rules (row_at formats keys) k).elements
       ≡ elements_of bytes formats k.elements
       ++ OneRow (rows_in_front formats keys rules) (row_at formats keys) (fields_of bytes (row_at formats keys) k.row) ∷ []
-  elements_of-row keys rules = map-append (element_of bytes formats) k.elements (Row keys rules 1 k.row ∷ [])
+  elements_of-row keys rules = map-append (element_of bytes formats) k.elements (Row keys rules 1 false k.row ∷ [])
 
   -- a command
   pub RowsKept-command : (from to : ℕ) → from ≤ to → to ≤ length bytes → RowsKept bytes formats k
@@ -289,14 +299,16 @@ module _ (bytes : List ℕ) (formats : List FormatRow) (k : KeptRows) where
   length-columns count = omega (arith, length-append k.columns (replicate (count - length k.columns) no_column), length-replicate (count - length k.columns) no_column)
 
   element-wider : (few many : ℕ) → few ≤ many → (e : KeptElement) → ElementKept bytes formats few e → ElementKept bytes formats many e
-  element-wider few many less (Row keys rules height entries) kept =
+  element-wider few many less (Row keys rules height is_tall entries) kept =
       record {
         serves = kept.serves;
         in_front = kept.in_front;
+        ruled = kept.ruled;
         cells = record { cells = kept.cells.cells; short = omega (arith, kept.cells.short, less) };
         short = omega (arith, kept.short, less);
         kept = kept.kept;
         low = kept.low;
+        alone = kept.alone;
       }
   element-wider few many less (Rule sign) kept = tt
   element-wider few many less (Command from to) kept = record { order = kept.order; within = kept.within }

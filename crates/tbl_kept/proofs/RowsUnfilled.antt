@@ -20,7 +20,7 @@ use Rattle.tbl_layout.specs.declared.columns.Stands.TheVariants.{Nowhere}
 use Rattle.tbl_layout.specs.declared.entry.BlockEntry.{BlockEntry}
 use Rattle.tbl_layout.specs.declared.entry.Entry.{Entry}
 use Rattle.tbl_layout.specs.declared.entry.EntryKind.{EntryKind}
-use Rattle.tbl_layout.specs.declared.entry.EntryKind.TheVariants.{Block as BlockKind, Repeated as RepeatedKind, Ruled as RuledKind, Short as ShortKind, Split as SplitKind, Text as TextKind}
+use Rattle.tbl_layout.specs.declared.entry.EntryKind.TheVariants.{Above as AboveKind, Block as BlockKind, Repeated as RepeatedKind, Ruled as RuledKind, Short as ShortKind, Split as SplitKind, Text as TextKind}
 use Rattle.tbl_kept.specs.Rows.{Command, ElementKept, KeptElement, KeptRows, Row, Rule, height_of, held_by}
 use Rattle.tbl_kept.specs.RowsInside.{kept_in}
 use Rattle.tbl_kept.specs.RowsLaying.{NoBlocks, all_held, all_laid, block_stands, holding_blocks, is_block, laid_element, laid_entries, laid_row}
@@ -31,12 +31,12 @@ use Rattle.tbl_kept.proofs.RowsFilled.{block_stands-none, laid_by-none}
 
 -- what holds of each element of a list holds of each in a part of it
 module _ {A : Type 0} (P : A → Type 0) where
-  each-take : (n : ℕ) (xs : List A) → AllByRecursion P xs → AllByRecursion P (take n xs)
+  pub each-take : (n : ℕ) (xs : List A) → AllByRecursion P xs → AllByRecursion P (take n xs)
   each-take zero xs all = tt
   each-take (suc n) [] all = tt
   each-take (suc n) (x ∷ xs) all = (all.0, each-take n xs all.1)
 
-  each-drop : (n : ℕ) (xs : List A) → AllByRecursion P xs → AllByRecursion P (drop n xs)
+  pub each-drop : (n : ℕ) (xs : List A) → AllByRecursion P xs → AllByRecursion P (drop n xs)
   each-drop zero xs all = all
   each-drop (suc n) [] all = tt
   each-drop (suc n) (x ∷ xs) all = each-drop n xs all.1
@@ -52,6 +52,7 @@ lines_by-none (BlockKind b) none = absurd cc
 lines_by-none (RuledKind sign) none = refl
 lines_by-none ShortKind none = refl
 lines_by-none (RepeatedKind byte) none = refl
+lines_by-none AboveKind none = refl
 
 -- a row without one has a line
 lines-none : (entries : List Entry) → NoBlocks entries → greatest (map (λ e. lines_by e.kind) entries) < 2
@@ -118,7 +119,7 @@ blocks-none from (k ∷ keys) (e ∷ entries) none columns =
 
 -- rows that lie among fields without a block have none
 abbrev HasNoBlock : KeptElement → Type 0
-HasNoBlock (Row keys rules height entries) = NoBlocks entries
+HasNoBlock (Row keys rules height is_tall entries) = NoBlocks entries
 HasNoBlock (Rule sign) = Unit {0}
 HasNoBlock (Command from to) = Unit {0}
 
@@ -132,7 +133,7 @@ rows-none fields (OneCommand from to ∷ elements) none = (tt, rows-none fields 
 all_held-none : (formats : List FormatRow) (elements : List KeptElement) (columns : List Column) → AllByRecursion HasNoBlock elements
     → columns ≡ all_held formats elements columns
 all_held-none formats [] columns none = refl
-all_held-none formats (Row keys rules height entries ∷ elements) columns none =
+all_held-none formats (Row keys rules height is_tall entries ∷ elements) columns none =
     blocks-none 0 (row_at formats keys).keys entries none.0 columns
     ∙ all_held-none formats elements (holding_blocks (row_at formats keys).keys entries columns) none.1
 all_held-none formats (Rule sign ∷ elements) columns none = all_held-none formats elements columns none.1
@@ -140,9 +141,10 @@ all_held-none formats (Command from to ∷ elements) columns none = all_held-non
 
 module _ (bytes : List ℕ) (formats : List FormatRow) (bars : Bars) (line_length : ℕ) (asked : List Asked) (columns : ℕ) where
   element-none : (e : KeptElement) → HasNoBlock e → ElementKept bytes formats columns e → e ≡ laid_element bytes formats bars line_length asked e
-  element-none (Row keys rules height entries) none kept =
-      ap (λ (h : ℕ). Row keys rules h entries) (kept.low ∙ sym (height-none entries none))
-      ∙ ap (λ (es : List Entry). Row keys rules (height_of es) es)
+  element-none (Row keys rules height is_tall entries) none kept =
+      ap (λ (h : ℕ). Row keys rules h is_tall entries) (kept.low ∙ sym (height-none entries none))
+      ∙ ap (λ (t : Bool). Row keys rules (height_of entries) t entries) kept.alone
+      ∙ ap (λ (es : List Entry). Row keys rules (height_of es) false es)
       (laid-none bytes bars line_length (length asked) (by_cells 0 (row_at formats keys).keys asked) entries none)
   element-none (Rule sign) none kept = refl
   element-none (Command from to) none kept = refl

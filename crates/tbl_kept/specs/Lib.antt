@@ -5,3 +5,4 @@ pub mod Rows
 pub mod RowsInside
 pub mod RowsGrowing
 pub mod RowsLaying
+pub mod KeptHeights

@@ -1,16 +1,17 @@
 -- How the rows of a table lie in lists.
-use Rattle.std.specs.Prelude.{◌≡◌, ℕ, ◌≤◌, false, List, [], ◌∷◌, drop, length, map, vec_capacity}
+use Rattle.std.specs.Prelude.{◌≡◌, ℕ, ◌<◌, ◌≤◌, false, List, [], ◌∷◌, drop, length, map, vec_capacity}
 use Rattle.std.specs.List.{slice_range}
 use Rattle.tbl_kept.specs.Rows.{Command, KeptElement, KeptRows, Row, Rule}
-use Rattle.tbl_kept.specs.RowsLaying.{NoBlocks}
+use Rattle.tbl_kept.specs.RowsLaying.{NoBlocks, NoneGoOn}
 use Rattle.tbl_kept.specs.declared.rows.Element.{Element}
 use Rattle.tbl_kept.specs.declared.rows.Element.TheVariants.{Command as OneCommand, Row as OneRow, Rule as OneRule}
+use Rattle.tbl_kept.specs.declared.rows.KeptRow.{KeptRow}
 use Rattle.tbl_kept.specs.declared.rows.TableRows.TheInside.{Inside}
 use Rattle.tbl_layout.specs.declared.entry.Entry.{Entry}
 
 -- what an element is whose fields lie among these
 abbrev pub kept_in : List Entry → Element → KeptElement
-kept_in entries (OneRow row) = Row row.keys row.rules row.height (slice_range entries row.from row.to)
+kept_in entries (OneRow row) = Row row.keys row.rules row.height row.is_tall (slice_range entries row.from row.to)
 kept_in entries (OneRule sign) = Rule sign
 kept_in entries (OneCommand from to) = Command from to
 
@@ -31,7 +32,19 @@ LieBetween from (OneRow row ∷ elements) to = (from ≡ row.from) × (from ≤ 
 LieBetween from (OneRule sign ∷ elements) to = LieBetween from elements to
 LieBetween from (OneCommand start end ∷ elements) to = LieBetween from elements to
 
--- the room is reserved, the rows lie in front of the one that is begun, and no field is a block where it says that there is none
+-- an element is a row of one of so many rows of formats, whose fields lie among so many
+pub record RowLiesIn (fields formats : ℕ) (row : KeptRow) : Type 0 where
+  pub order : row.from ≤ row.to
+  pub within : row.to ≤ fields
+  pub serves : row.keys < formats
+
+abbrev pub LiesIn : ℕ → ℕ → Element → Type 0
+LiesIn fields formats (OneRow row) = RowLiesIn fields formats row
+LiesIn fields formats (OneRule sign) = Unit {0}
+LiesIn fields formats (OneCommand from to) = Unit {0}
+
+-- the room is reserved, the rows lie in front of the one that is begun, and no field is a block, or goes on with the cell above it, where
+-- it says that there is none
 pub record IsSound (a : Inside) : Type 0 where
   pub entries_reserved : a.entry_room ≤ vec_capacity a.entries
   pub elements_reserved : a.element_room ≤ vec_capacity a.elements
@@ -39,3 +52,7 @@ pub record IsSound (a : Inside) : Type 0 where
   pub start : a.row_start ≤ length a.entries.items
   pub rows : LieBetween 0 a.elements.items a.row_start
   pub no_blocks : a.has_block ≡ false → NoBlocks a.entries.items
+  pub no_above : a.has_above ≡ false → NoneGoOn a.entries.items
+  pub columns_few : length a.columns.items ≤ a.column_room
+  pub left_reserved : a.column_room ≤ vec_capacity a.left
+  pub left_above_reserved : a.column_room ≤ vec_capacity a.left_above

@@ -7,6 +7,7 @@ use Rattle.tbl_format.specs.RowsServed.{row_at}
 use Rattle.tbl_format.specs.declared.format.Asked.{Asked}
 use Rattle.tbl_format.specs.declared.format.FormatKey.{FormatKey}
 use Rattle.tbl_format.specs.declared.format.Key.{Key}
+use Rattle.tbl_format.specs.declared.format.Key.TheVariants.{Above as AboveKey}
 use Rattle.tbl_layout.specs.Columns.{row_stands}
 use Rattle.tbl_layout.specs.KeptEntries.{block_filled, block_lines, not_filled, stands_of}
 use Rattle.tbl_layout.specs.Spans.{Wide, all_fitted, measure_of, wide_entries}
@@ -16,7 +17,7 @@ use Rattle.tbl_layout.specs.declared.columns.Stands.{Stands}
 use Rattle.tbl_layout.specs.declared.columns.Stands.TheVariants.{Nowhere}
 use Rattle.tbl_layout.specs.declared.entry.Entry.{Entry}
 use Rattle.tbl_layout.specs.declared.entry.EntryKind.{EntryKind}
-use Rattle.tbl_layout.specs.declared.entry.EntryKind.TheVariants.{Block as BlockKind, Split as SplitKind, Text as TextKind}
+use Rattle.tbl_layout.specs.declared.entry.EntryKind.TheVariants.{Above as AboveKind, Block as BlockKind, Split as SplitKind, Text as TextKind}
 use Rattle.tbl_kept.specs.Rows.{Command, KeptElement, KeptRows, Row, Rule, height_of, held_by}
 
 -- a field, if it is a block filled in a measure
@@ -41,8 +42,8 @@ abbrev pub laid_row : List ℕ → Bars → ℕ → List Asked → List FormatKe
 laid_row bytes bars line_length asked keys entries = laid_entries bytes bars line_length (length asked) (by_cells 0 keys asked) entries
 
 abbrev pub laid_element : List ℕ → List FormatRow → Bars → ℕ → List Asked → KeptElement → KeptElement
-laid_element bytes formats bars line_length asked (Row keys rules height entries) =
-    let laid = laid_row bytes bars line_length asked (row_at formats keys).keys entries in Row keys rules (height_of laid) laid
+laid_element bytes formats bars line_length asked (Row keys rules height is_tall entries) =
+    let laid = laid_row bytes bars line_length asked (row_at formats keys).keys entries in Row keys rules (height_of laid) false laid
 laid_element bytes formats bars line_length asked (Rule sign) = Rule sign
 laid_element bytes formats bars line_length asked (Command from to) = Command from to
 
@@ -63,7 +64,7 @@ abbrev pub holding_blocks : List FormatKey → List Entry → List Column → Li
 holding_blocks keys entries columns = held_by (row_stands block_stands 0 keys entries) columns
 
 abbrev pub blocks_held : List FormatRow → KeptElement → List Column → List Column
-blocks_held formats (Row keys rules height entries) columns = holding_blocks (row_at formats keys).keys entries columns
+blocks_held formats (Row keys rules height is_tall entries) columns = holding_blocks (row_at formats keys).keys entries columns
 blocks_held formats (Rule sign) columns = columns
 blocks_held formats (Command from to) columns = columns
 
@@ -86,18 +87,30 @@ all_laid bytes formats bars line_length asked k =
     let laid = map (laid_element bytes formats bars line_length asked) k.elements in
     record k { elements = laid; columns = all_held formats laid k.columns }
 
+-- a row is as high as the most lines of its fields, and not tall
+abbrev pub IsAlone : KeptElement → Type 0
+IsAlone (Row keys rules height is_tall entries) = (height ≡ height_of entries) × (is_tall ≡ false)
+IsAlone (Rule sign) = Unit {0}
+IsAlone (Command from to) = Unit {0}
+
 -- a row of the formats serves a row
 abbrev pub ElementWithin : List FormatRow → KeptElement → Type 0
-ElementWithin formats (Row keys rules height entries) = keys < length formats
+ElementWithin formats (Row keys rules height is_tall entries) = keys < length formats
 ElementWithin formats (Rule sign) = Unit {0}
 ElementWithin formats (Command from to) = Unit {0}
 
 abbrev pub RowsWithin : List FormatRow → KeptRows → Type 0
 RowsWithin formats k = AllByRecursion (ElementWithin formats) k.elements
 
+-- few rows of rule keys stand in front of a row
+abbrev pub HasFewRules : KeptElement → Type 0
+HasFewRules (Row keys rules height is_tall entries) = rules < 4294967296
+HasFewRules (Rule sign) = Unit {0}
+HasFewRules (Command from to) = Unit {0}
+
 -- the entries of several columns of what is kept, and columns that have room for them
 abbrev pub wide_in : List FormatRow → KeptElement → List Wide
-wide_in formats (Row keys rules height entries) = wide_entries stands_of 0 (row_at formats keys).keys entries
+wide_in formats (Row keys rules height is_tall entries) = wide_entries stands_of 0 (row_at formats keys).keys entries
 wide_in formats (Rule sign) = []
 wide_in formats (Command from to) = []
 
@@ -121,6 +134,25 @@ is_block kind = false
 
 abbrev pub NoBlocks : List Entry → Type 0
 NoBlocks entries = AllByRecursion (λ (e : Entry). is_block e.kind ≡ false) entries
+
+-- whether a field goes on with the cell above it, and fields of which none does
+abbrev pub goes_on : EntryKind → Bool
+goes_on AboveKind = true
+goes_on kind = false
+
+abbrev pub NoneGoOn : List Entry → Type 0
+NoneGoOn entries = AllByRecursion (λ (e : Entry). goes_on e.kind ≡ false) entries
+
+-- rows of formats of whose keys none goes on with the cells above it
+abbrev pub is_above_key : Key → Bool
+is_above_key AboveKey = true
+is_above_key key = false
+
+abbrev pub NoKeysGoOn : List FormatKey → Type 0
+NoKeysGoOn keys = AllByRecursion (λ (k : FormatKey). is_above_key k.key ≡ false) keys
+
+abbrev pub NoFormatsGoOn : List FormatRow → Type 0
+NoFormatsGoOn formats = AllByRecursion (λ (row : FormatRow). NoKeysGoOn row.keys) formats
 
 -- a field that isn't a filled block
 abbrev pub IsOpenedKind : EntryKind → Type 0

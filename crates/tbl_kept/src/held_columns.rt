@@ -264,6 +264,7 @@ fn needs_with(needs: Needs, key: Key, entry: Entry) -> Needs
         EntryKind::Ruled(_) => needs,
         EntryKind::Short => needs,
         EntryKind::Repeated(_) => needs,
+        EntryKind::Above => needs,
     }
 }
 

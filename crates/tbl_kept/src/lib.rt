@@ -3,6 +3,7 @@
 #![tactic(auto)]
 
 pub mod held_columns;
+pub mod laws;
 pub mod rows;
 pub mod table_notes;
 pub mod table_text;

@@ -8,6 +8,7 @@ ghost use Rattle.tbl_kept.specs.RowsLaying.{AreOpened, is_block};
 
 pub use crate::held_columns::key_at;
 use crate::held_columns::{add_columns, hold};
+use cell_heights::goes_on;
 use std::alloc::{AllocError, Global};
 use std::marker::Model;
 use tbl_format::format::FormatKey;
@@ -15,6 +16,8 @@ use tbl_layout::columns::Column;
 use tbl_layout::data_lines::RuleSign;
 use tbl_layout::entry::{Entry, EntryKind};
 
+mod cell_heights;
+pub mod heights;
 mod laying;
 
 /// What stands in a table.
@@ -37,6 +40,8 @@ pub struct KeptRow {
     pub rules: u32,
     /// How many lines it has.
     pub height: u32,
+    /// Whether one of its cells goes on with one above it, or one below it with its own.
+    pub is_tall: bool,
     /// Where its fields begin.
     from: u32,
     /// Where they end.
@@ -57,14 +62,20 @@ pub struct TableRows {
     entry_room: usize,
     element_room: usize,
     column_room: usize,
+    /// Whether a field of a row goes on with the cell above it.
+    has_above: bool,
+    /// How many lines are left of the cells of a row, and of the one above it.
+    left: Vec<u32>,
+    left_above: Vec<u32>,
 }
 
 /// A row, a rule or a command, lent. Places are places in the table's bytes.
 #[derive(Clone, Copy)]
 pub enum Lent<'a> {
     /// A row: the row of the formats that serves it, among all, how many rows of rule keys stand
-    /// directly in front of it, how many lines it has, and its fields.
-    Row(usize, usize, u32, &'a [Entry]),
+    /// directly in front of it, how many lines it has, its fields, and
+    /// whether one of its cells goes on with one above it, or one below it with its own.
+    Row(usize, usize, u32, &'a [Entry], bool),
     /// A rule over the whole table.
     Rule(RuleSign),
     /// A command, by where it lies.
@@ -89,6 +100,7 @@ impl TableRows {
     ghost use Rattle.tbl_kept.specs.Rows.{with_columns, with_command, with_entry, with_row};
     ghost use Rattle.tbl_kept.specs.Rows.{with_rule};
     ghost use Rattle.tbl_kept.specs.Rows.{lent};
+    ghost use Rattle.tbl_kept.specs.RowsLaying.{HasFewRules, element_at};
 
     /// Nothing, with room for so many fields, rows and commands, and columns.
     pub fn new(
@@ -108,6 +120,9 @@ impl TableRows {
             entry_room: entries,
             element_room: elements,
             column_room: columns,
+            has_above: false,
+            left: Vec::with_capacity(alloc, columns)?,
+            left_above: Vec::with_capacity(alloc, columns)?,
         })
     }
 
@@ -119,6 +134,7 @@ impl TableRows {
         self.elements.clear();
         self.columns.clear();
         self.row_start = 0;
+        self.has_above = false;
         self.has_block = false;
     }
 
@@ -143,6 +159,7 @@ impl TableRows {
         ensures { self.new ≡ with_entry entry self.old }
     {
         self.has_block |= is_block(entry);
+        self.has_above |= goes_on(entry.kind);
         self.entries.push_reserved(entry);
     }
 
@@ -179,6 +196,7 @@ impl TableRows {
             keys: keys as u32,
             rules: rules as u32,
             height: 1,
+            is_tall: false,
             from: self.row_start as u32,
             to: self.entries.len() as u32,
         }));
@@ -222,9 +240,27 @@ impl TableRows {
                 row.rules as usize,
                 row.height,
                 &self.entries.as_slice()[row.from as usize..row.to as usize],
+                row.is_tall,
             ),
             Element::Rule(sign) => Lent::Rule(sign),
             Element::Command(from, to) => Lent::Command(from as usize, to as usize),
+        }
+    }
+
+    /// There are fewer of them than 2 ^ 60.
+    pub fn stay_few(&self)
+        ensures { length self.now.elements < 2 ^ 60 }
+    {
+        let _ = self.elements.as_slice();
+    }
+
+    /// Fewer rows of rule keys than 2 ^ 32 stand in front of a row.
+    pub fn rules_stay_few(&self, at: usize)
+        requires { at < length self.now.elements }
+        ensures { HasFewRules (element_at self.now.elements at) }
+    {
+        if let Element::Row(row) = self.elements[at] {
+            stays_few(row.rules);
         }
     }
 
@@ -235,6 +271,11 @@ impl TableRows {
         self.columns.as_slice()
     }
 }
+
+/// A number of 32 bits is less than 2 ^ 32.
+fn stays_few(number: u32)
+    ensures { number < 2 ^ 32 }
+{}
 
 /// Whether a field is a block.
 fn is_block(entry: Entry) -> bool

@@ -8,11 +8,12 @@ use Rattle.tbl_format.specs.Cells.{by_cells}
 use Rattle.tbl_format.specs.Format.{FormatRow}
 use Rattle.tbl_format.specs.declared.format.Asked.{Asked}
 use Rattle.tbl_layout.specs.Columns.{columns_from, equalled, gaps, total, with_widths}
-use Rattle.tbl_layout.specs.Entries.{Block, Command, Content, Element, Repeated, Row, Rule, Ruled, Short, Text, completed}
+use Rattle.tbl_layout.specs.Entries.{Above, Block, Command, Content, Element, Repeated, Row, Rule, Ruled, Short, Text, completed, content_of_kind}
 use Rattle.tbl_layout.specs.RuleKeys.{under_keys}
 use Rattle.tbl_layout.specs.Spans.{all_fitted, all_wide, columns_laid, filled, filled_element, filled_fields, filled_in, has_least, least_of, measure_of}
 use Rattle.tbl_layout.specs.declared.bars.Bars.{Bars}
-use Rattle.tbl_layout.specs.declared.data_lines.RuleSign.{RuleSign}
+use Rattle.tbl_layout.specs.declared.data_lines.FieldKind.{FieldKind}
+use Rattle.tbl_layout.specs.declared.data_lines.FieldKind.TheVariants.{Above as AboveKind, Repeated as RepeatedKind, Ruled as RuledKind, Short as ShortKind, Text as OneText}
 use Rattle.tbl_layout.proofs.RowStands.{all-under}
 
 -- a measure is a number of 32 bits where the length of lines is one
@@ -36,6 +37,7 @@ filled_in-twice measure other (Block m lines) = refl
 filled_in-twice measure other (Ruled sign) = refl
 filled_in-twice measure other Short = refl
 filled_in-twice measure other (Repeated b) = refl
+filled_in-twice measure other Above = refl
 
 module _ (bars : Bars) (line_length : ℕ) where
   module _ (count : ℕ) where
@@ -58,6 +60,13 @@ module _ (bars : Bars) (line_length : ℕ) where
     abbrev IsUnfilled : Content → Type 0
     IsUnfilled field = (measure : ℕ) → filled_in measure field ≡ field
 
+    unfilled-said : (kind : FieldKind) → IsUnfilled (content_of_kind kind)
+    unfilled-said (RuledKind sign) measure = refl
+    unfilled-said ShortKind measure = refl
+    unfilled-said (RepeatedKind b) measure = refl
+    unfilled-said AboveKind measure = refl
+    unfilled-said OneText measure = refl
+
     unfilled : (cells : List (List Asked)) (fields : List Content) → AllByRecursion IsUnfilled fields → filled_fields bars line_length count cells fields ≡ fields
     unfilled [] fields none = refl
     unfilled (asked ∷ cells) [] none = refl
@@ -76,9 +85,9 @@ module _ (bars : Bars) (line_length : ℕ) where
     pub filled-completed : (cells : List (List Asked)) (format : FormatRow) (fields : List Content)
         → filled_fields bars line_length count cells (completed format fields) ≡ completed format (filled_fields bars line_length count cells fields)
     filled-completed cells format fields =
-        filled-behind cells fields (under_keys Ruled (Text []) (drop (length fields) format.keys))
-        (all-under IsUnfilled Ruled (Text []) (drop (length fields) format.keys) (λ (s : RuleSign) (measure : ℕ). refl) (λ (measure : ℕ). refl))
-        ∙ ap (λ (n : ℕ). filled_fields bars line_length count cells fields ++ under_keys Ruled (Text []) (drop n format.keys))
+        filled-behind cells fields (under_keys content_of_kind (Text []) (drop (length fields) format.keys))
+        (all-under IsUnfilled content_of_kind (Text []) (drop (length fields) format.keys) unfilled-said (λ (measure : ℕ). refl))
+        ∙ ap (λ (n : ℕ). filled_fields bars line_length count cells fields ++ under_keys content_of_kind (Text []) (drop n format.keys))
         (sym (length-filled_fields cells fields))
 
   -- elements whose blocks have their measures keep them

@@ -6,12 +6,13 @@ use Rattle.tbl_format.specs.declared.format.FormatKey.{FormatKey}
 use Rattle.tbl_format.specs.declared.format.Key.{Key}
 use Rattle.tbl_format.specs.declared.format.Key.TheVariants.{Left}
 use Rattle.tbl_layout.specs.Columns.{alone, in_columns, row_stands, stands}
-use Rattle.tbl_layout.specs.Entries.{Content, Ruled, Text, completed}
-use Rattle.tbl_layout.specs.RuleKeys.{in_front_of, rule_sign, under_keys}
+use Rattle.tbl_layout.specs.Entries.{Content, Text, completed, content_of_kind}
+use Rattle.tbl_layout.specs.RuleKeys.{in_front_of, kind_of_key, under_keys}
 use Rattle.tbl_layout.specs.Spans.{Wide, if_wide, wide_entries}
 use Rattle.tbl_layout.specs.declared.columns.Stands.{Stands}
 use Rattle.tbl_layout.specs.declared.columns.Stands.TheVariants.{Nowhere}
-use Rattle.tbl_layout.specs.declared.data_lines.RuleSign.{RuleSign}
+use Rattle.tbl_layout.specs.declared.data_lines.FieldKind.{FieldKind}
+use Rattle.tbl_layout.specs.declared.data_lines.FieldKind.TheVariants.{Above, Repeated, Ruled, Short, Text as OneText}
 
 -- columns in which nothing stands
 abbrev IsNowhere : List Stands → Type 0
@@ -96,33 +97,39 @@ module _ {A : Type 0} (entry_of : Key → A → Stands) where
   wide-behind from (k ∷ keys) (field ∷ fields) more none =
       ap (λ (rest : List Wide). if_wide from (k.end - from) (alone (entry_of k.key field)) ++ rest) (wide-behind k.end keys fields more none)
 
--- rules and empty texts, which stand under keys where a row has no fields for them, stand nowhere
-all-in_front : {A : Type 0} (P : A → Type 0) (ruled : RuleSign → A) (empty : A) (sign : Option RuleSign) (fields : List A)
-    → ((s : RuleSign) → P (ruled s)) → P empty → AllByRecursion P fields → AllByRecursion P (in_front_of ruled empty sign fields)
-all-in_front P ruled empty (Some sign) fields rules none all = (rules sign, all)
-all-in_front P ruled empty None [] rules none all = tt
-all-in_front P ruled empty None (field ∷ fields) rules none all = (none, all)
+-- what stands under keys where a row has no fields for them, stands nowhere
+all-in_front : {A : Type 0} (P : A → Type 0) (said : FieldKind → A) (empty : A) (kind : Option FieldKind) (fields : List A)
+    → ((k : FieldKind) → P (said k)) → P empty → AllByRecursion P fields → AllByRecursion P (in_front_of said empty kind fields)
+all-in_front P said empty (Some kind) fields kinds none all = (kinds kind, all)
+all-in_front P said empty None [] kinds none all = tt
+all-in_front P said empty None (field ∷ fields) kinds none all = (none, all)
 
-pub all-under : {A : Type 0} (P : A → Type 0) (ruled : RuleSign → A) (empty : A) (keys : List FormatKey)
-    → ((s : RuleSign) → P (ruled s)) → P empty → AllByRecursion P (under_keys ruled empty keys)
-all-under P ruled empty [] rules none = tt
-all-under P ruled empty (k ∷ keys) rules none =
-    all-in_front P ruled empty (rule_sign k.key) (under_keys ruled empty keys) rules none (all-under P ruled empty keys rules none)
+pub all-under : {A : Type 0} (P : A → Type 0) (said : FieldKind → A) (empty : A) (keys : List FormatKey)
+    → ((k : FieldKind) → P (said k)) → P empty → AllByRecursion P (under_keys said empty keys)
+all-under P said empty [] kinds none = tt
+all-under P said empty (k ∷ keys) kinds none =
+    all-in_front P said empty (kind_of_key k.key) (under_keys said empty keys) kinds none (all-under P said empty keys kinds none)
 
-nowhere-under : (keys : List FormatKey) → AllByRecursion (StandsNowhere stands) (under_keys Ruled (Text []) keys)
-nowhere-under keys =
-    all-under (StandsNowhere stands) Ruled (Text []) keys (λ (s : RuleSign) (key : Key). refl) (λ (key : Key). refl)
+nowhere-said : (kind : FieldKind) → StandsNowhere stands (content_of_kind kind)
+nowhere-said (Ruled sign) key = refl
+nowhere-said Short key = refl
+nowhere-said (Repeated b) key = refl
+nowhere-said Above key = refl
+nowhere-said OneText key = refl
+
+nowhere-under : (keys : List FormatKey) → AllByRecursion (StandsNowhere stands) (under_keys content_of_kind (Text []) keys)
+nowhere-under keys = all-under (StandsNowhere stands) content_of_kind (Text []) keys nowhere-said (λ (key : Key). refl)
 
 -- so the fields of a row stand as they did before it was completed, and as many of them go over several columns
 pub stands-completed : (format : FormatRow) (fields : List Content) (column : ℕ)
     → get_or (row_stands stands 0 format.keys (completed format fields)) column Nowhere
     ≡ get_or (row_stands stands 0 format.keys fields) column Nowhere
 stands-completed format fields column =
-    stands-behind stands 0 format.keys fields (under_keys Ruled (Text []) (drop (length fields) format.keys))
+    stands-behind stands 0 format.keys fields (under_keys content_of_kind (Text []) (drop (length fields) format.keys))
     (nowhere-under (drop (length fields) format.keys)) column
 
 pub wide-completed : (format : FormatRow) (fields : List Content)
     → wide_entries stands 0 format.keys (completed format fields) ≡ wide_entries stands 0 format.keys fields
 wide-completed format fields =
-    wide-behind stands 0 format.keys fields (under_keys Ruled (Text []) (drop (length fields) format.keys))
+    wide-behind stands 0 format.keys fields (under_keys content_of_kind (Text []) (drop (length fields) format.keys))
     (nowhere-under (drop (length fields) format.keys))

@@ -3,7 +3,7 @@ use Rattle.std.specs.Prelude.{ℕ, ◌+◌, Bool, true, false, not, ◌&&◌, �
 use Rattle.roff_source.specs.Bytes.{tab, blank, backslash}
 use Rattle.tbl_layout.specs.Data.{fields, is_command, is_opening}
 use Rattle.tbl_format.specs.declared.format.Key.{Key}
-use Rattle.tbl_layout.specs.RuleKeys.{rule_sign}
+use Rattle.tbl_layout.specs.RuleKeys.{kind_of_key}
 use Rattle.tbl_layout.specs.Widths.{width_in_text}
 use Rattle.tbl_layout.specs.declared.data_lines.BlockLineKind.{BlockLineKind}
 use Rattle.tbl_layout.specs.declared.data_lines.BlockLineKind.TheVariants.{End, Request, Text}
@@ -43,18 +43,13 @@ field_kind field =
     else if bytes_eq (take 2 field) (codes "\\R") && is_repeated (drop 2 field) then Repeated (get_or field 2 0)
     else OneText
 
--- what it is under a key: a rule key takes it and rules the column
-abbrev pub kind_if : Option RuleSign → List ℕ → FieldKind
-kind_if (Some sign) field = Ruled sign
+-- what it is under a key: a rule key and `^` take it, whatever it is
+abbrev pub kind_if : Option FieldKind → List ℕ → FieldKind
+kind_if (Some kind) field = kind
 kind_if None field = field_kind field
 
 abbrev pub kind_under : Key → List ℕ → FieldKind
-kind_under key field = kind_if (rule_sign key) field
-
--- whether a field is laid out that is this
-abbrev pub is_laid_out : FieldKind → Bool
-is_laid_out Above = false
-is_laid_out kind = true
+kind_under key field = kind_if (kind_of_key key) field
 
 -- whether a name ends in front of these bytes: with the line, or at a blank or a tab
 abbrev pub ends_name : List ℕ → Bool

@@ -5,7 +5,7 @@ use Rattle.tbl_format.specs.Format.{FormatRow}
 use Rattle.tbl_layout.specs.DataLines.{field_kind, kind_under}
 use Rattle.tbl_layout.specs.RuleKeys.{under_keys}
 use Rattle.tbl_layout.specs.declared.data_lines.FieldKind.{FieldKind}
-use Rattle.tbl_layout.specs.declared.data_lines.FieldKind.TheVariants.{Repeated as RepeatedKind, Ruled as RuledKind, Short as ShortKind}
+use Rattle.tbl_layout.specs.declared.data_lines.FieldKind.TheVariants.{Above as AboveKind, Repeated as RepeatedKind, Ruled as RuledKind, Short as ShortKind}
 use Rattle.tbl_layout.specs.declared.data_lines.RuleSign.{RuleSign}
 use Rattle.tbl_format.specs.declared.format.Key.{Key}
 use Rattle.tbl_format.specs.declared.format.Key.TheVariants.{Left, Numeric}
@@ -16,13 +16,15 @@ use Rattle.tbl_text.specs.declared.measure.Measured.{Measured}
 use Rattle.tbl_text.specs.declared.measure.Split.{Split}
 
 -- a field: a text; a text block by its measure, which is 0 while it is read, and by its lines, of which requests are passed over; a
--- rule over its cell, or one as wide as the widest text of the cell's first column; or a byte that is repeated over the cell
+-- rule over its cell, or one as wide as the widest text of the cell's first column; a byte that is repeated over the cell; or that of
+-- the cell above, which goes on
 pub data Content : Type 0 where
   Text : (bytes : List ℕ) → Content
   Block : (measure : ℕ) (lines : List (List ℕ)) → Content
   Ruled : (sign : RuleSign) → Content
   Short : Content
   Repeated : (byte : ℕ) → Content
+  Above : Content
 
 -- what stands in a table: a row of fields, with the row of the format that serves it, and the rows of rule keys that stand directly in
 -- front of it; a rule over the whole table; or a command
@@ -36,6 +38,7 @@ abbrev pub content_by_kind : FieldKind → List ℕ → Content
 content_by_kind (RuledKind sign) field = Ruled sign
 content_by_kind ShortKind field = Short
 content_by_kind (RepeatedKind b) field = Repeated b
+content_by_kind AboveKind field = Above
 content_by_kind kind field = Text field
 
 abbrev pub content_read : List ℕ → Content
@@ -45,9 +48,12 @@ content_read field = content_by_kind (field_kind field) field
 abbrev pub content_under : Key → List ℕ → Content
 content_under key field = content_by_kind (kind_under key field) field
 
--- the fields of a row under its keys: a rule key for which it has none rules its cell still
+-- the fields of a row under its keys: a key that says what its fields are says it too where the row has none for it
+abbrev pub content_of_kind : FieldKind → Content
+content_of_kind kind = content_by_kind kind []
+
 abbrev pub completed : FormatRow → List Content → List Content
-completed format fields = fields ++ under_keys Ruled (Text []) (drop (length fields) format.keys)
+completed format fields = fields ++ under_keys content_of_kind (Text []) (drop (length fields) format.keys)
 
 -- the key and the field of a cell of a row: short rows of the format go on with `l`, and those of the data with empty fields
 abbrev pub key_at : FormatRow → ℕ → Key

@@ -5,14 +5,15 @@ use Rattle.tbl_format.specs.declared.format.Key.{Key}
 use Rattle.tbl_format.specs.Format.{FormatRow}
 use Rattle.tbl_layout.specs.Columns.{unsplit}
 use Rattle.tbl_layout.specs.RuleKeys.{under_keys}
-use Rattle.tbl_layout.specs.declared.data_lines.RuleSign.{RuleSign}
-use Rattle.tbl_layout.specs.Entries.{Block, Content, Repeated, Ruled, Short, Text, is_number}
+use Rattle.tbl_layout.specs.declared.data_lines.FieldKind.{FieldKind}
+use Rattle.tbl_layout.specs.declared.data_lines.FieldKind.TheVariants.{Above as AboveField, Repeated as RepeatedField, Ruled as RuledField, Short as ShortField, Text as OneText}
+use Rattle.tbl_layout.specs.Entries.{Above, Block, Content, Repeated, Ruled, Short, Text, is_number}
 use Rattle.tbl_layout.specs.declared.columns.Stands.{Stands}
 use Rattle.tbl_layout.specs.declared.columns.Stands.TheVariants.{Apart, Nowhere}
 use Rattle.tbl_layout.specs.declared.entry.BlockEntry.{BlockEntry}
 use Rattle.tbl_layout.specs.declared.entry.Entry.{Entry}
 use Rattle.tbl_layout.specs.declared.entry.EntryKind.{EntryKind}
-use Rattle.tbl_layout.specs.declared.entry.EntryKind.TheVariants.{Block as BlockKind, Repeated as RepeatedKind, Ruled as RuledKind, Short as ShortKind, Split as SplitKind, Text as TextKind}
+use Rattle.tbl_layout.specs.declared.entry.EntryKind.TheVariants.{Above as AboveKind, Block as BlockKind, Repeated as RepeatedKind, Ruled as RuledKind, Short as ShortKind, Split as SplitKind, Text as TextKind}
 use Rattle.tbl_layout.specs.declared.entry.SplitEntry.{SplitEntry}
 use Rattle.tbl_text.specs.BlockLines.{has_word, lines_of, widest}
 use Rattle.tbl_text.specs.BlockWords.{lines_in, parts_of}
@@ -44,23 +45,31 @@ text_entry is_number from text = entry_by from (length text) (measured is_number
 abbrev pub not_filled : BlockEntry
 not_filled = record { measure = 0; lines = 0; width = 0; has_word = false }
 
--- the field of a rule that begins at a place and has so many bytes
+-- how a field is kept that isn't measured
+abbrev pub kept_kind : FieldKind → EntryKind
+kept_kind (RuledField sign) = RuledKind sign
+kept_kind ShortField = ShortKind
+kept_kind (RepeatedField b) = RepeatedKind b
+kept_kind AboveField = AboveKind
+kept_kind OneText = TextKind 0 0
+
+-- the field, of which nothing is measured, that begins at a place and has so many bytes
 abbrev pub rule_entry : ℕ → ℕ → EntryKind → Entry
 rule_entry from len kind = record { from = from; to = from + len; kind = kind }
 
--- what stands under a key for which a row has no field: the rule of a rule key, or an empty text; and all that stands in a row
-abbrev pub rule_of : RuleSign → Entry
-rule_of sign = rule_entry 0 0 (RuledKind sign)
+-- what stands under a key for which a row has no field: what the key says, or an empty text; and all that stands in a row
+abbrev pub said_by_key : FieldKind → Entry
+said_by_key kind = rule_entry 0 0 (kept_kind kind)
 
 abbrev pub no_entry : Entry
 no_entry = record { from = 0; to = 0; kind = TextKind 0 0 }
 
-abbrev pub entry_under : Option RuleSign → Entry
-entry_under (Some sign) = rule_of sign
+abbrev pub entry_under : Option FieldKind → Entry
+entry_under (Some kind) = said_by_key kind
 entry_under None = no_entry
 
 abbrev pub all_entries : FormatRow → List Entry → List Entry
-all_entries format entries = entries ++ under_keys rule_of no_entry (drop (length entries) format.keys)
+all_entries format entries = entries ++ under_keys said_by_key no_entry (drop (length entries) format.keys)
 
 -- one of which no line is read, behind the line that opens it, which ends there
 abbrev pub opened_at : ℕ → Entry
@@ -88,6 +97,7 @@ content_by (BlockKind b) bytes from to = Block b.measure (block_lines bytes from
 content_by (RuledKind sign) bytes from to = Ruled sign
 content_by ShortKind bytes from to = Short
 content_by (RepeatedKind b) bytes from to = Repeated b
+content_by AboveKind bytes from to = Above
 
 abbrev pub content_of : List ℕ → Entry → Content
 content_of bytes e = content_by e.kind bytes e.from e.to

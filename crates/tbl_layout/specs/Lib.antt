@@ -10,3 +10,4 @@ pub mod LayoutLaws
 pub mod Spans
 pub mod SpanLaws
 pub mod KeptEntries
+pub mod Heights

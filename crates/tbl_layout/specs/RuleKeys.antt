@@ -1,10 +1,12 @@
--- Rule keys of a format: each rules its column, whatever stands in its field (Lesk, "Tbl": Format).
+-- Keys of a format that say what their fields are, whatever stands in them: rule keys and `^` (Lesk, "Tbl": Format).
 use Rattle.std.specs.Prelude.{ℕ, suc, Bool, ◌&&◌, ◌==◌, List, [], ◌∷◌, length, Option, None, Some, is_some, if◌then◌else◌}
 use Rattle.std.specs.List.{list_all}
 use Rattle.tbl_format.specs.Format.{FormatRow, columns_of}
 use Rattle.tbl_format.specs.declared.format.FormatKey.{FormatKey}
 use Rattle.tbl_format.specs.declared.format.Key.{Key}
-use Rattle.tbl_format.specs.declared.format.Key.TheVariants.{DoubleRule, Rule}
+use Rattle.tbl_format.specs.declared.format.Key.TheVariants.{Above, DoubleRule, Rule}
+use Rattle.tbl_layout.specs.declared.data_lines.FieldKind.{FieldKind}
+use Rattle.tbl_layout.specs.declared.data_lines.FieldKind.TheVariants.{Above as AboveKind, Ruled}
 use Rattle.tbl_layout.specs.declared.data_lines.RuleSign.{RuleSign}
 use Rattle.tbl_layout.specs.declared.data_lines.RuleSign.TheVariants.{Double, Single}
 
@@ -25,12 +27,19 @@ rule_rows [] = 0
 rule_rows (format ∷ []) = 0
 rule_rows (format ∷ next ∷ formats) = if is_rule_row format then suc (rule_rows (next ∷ formats)) else 0
 
--- what stands under these keys where a row has no fields for them, up to the last rule key
-abbrev pub in_front_of : {A : Type 0} → (RuleSign → A) → A → Option RuleSign → List A → List A
-in_front_of ruled empty (Some sign) fields = ruled sign ∷ fields
-in_front_of ruled empty None [] = []
-in_front_of ruled empty None (field ∷ fields) = empty ∷ field ∷ fields
+-- what the fields under a key are, whatever stands in them, if the key says so: it rules its cells, or goes on with those above
+abbrev pub kind_of_key : Key → Option FieldKind
+kind_of_key Rule = Some (Ruled Single)
+kind_of_key DoubleRule = Some (Ruled Double)
+kind_of_key Above = Some AboveKind
+kind_of_key key = None
 
-abbrev pub under_keys : {A : Type 0} → (RuleSign → A) → A → List FormatKey → List A
-under_keys ruled empty [] = []
-under_keys ruled empty (k ∷ keys) = in_front_of ruled empty (rule_sign k.key) (under_keys ruled empty keys)
+-- what stands under these keys where a row has no fields for them, up to the last that says it
+abbrev pub in_front_of : {A : Type 0} → (FieldKind → A) → A → Option FieldKind → List A → List A
+in_front_of said empty (Some kind) fields = said kind ∷ fields
+in_front_of said empty None [] = []
+in_front_of said empty None (field ∷ fields) = empty ∷ field ∷ fields
+
+abbrev pub under_keys : {A : Type 0} → (FieldKind → A) → A → List FormatKey → List A
+under_keys said empty [] = []
+under_keys said empty (k ∷ keys) = in_front_of said empty (kind_of_key k.key) (under_keys said empty keys)

@@ -12,7 +12,7 @@ ghost use Rattle.tbl_layout.specs.declared.data_lines.FieldKind.TheVariants.{Rep
 ghost use Rattle.tbl_layout.specs.Widths.{width_in_text};
 
 use crate::data::{field_len, is_opening};
-use crate::rule_keys::rule_sign;
+use crate::rule_keys::kind_of_key;
 use crate::widths::width_in_text;
 use memchr::memrchr;
 use tbl_format::format::Key;
@@ -137,12 +137,12 @@ pub fn field_kind(field: &[u8]) -> FieldKind
     }
 }
 
-/// What a field is under a key: a rule key takes it and rules the column.
+/// What a field is under a key: a rule key and `^` take it, whatever it is.
 pub fn kind_under(key: Key, field: &[u8]) -> FieldKind
     ensures { result ≡ kind_under key field.now }
 {
-    match rule_sign(key) {
-        Some(sign) => FieldKind::Ruled(sign),
+    match kind_of_key(key) {
+        Some(kind) => kind,
         None => field_kind(field),
     }
 }

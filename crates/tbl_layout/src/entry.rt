@@ -4,14 +4,15 @@
 ghost use Rattle.std.specs.Prelude.{◌≡◌, ◌+◌, ◌<◌, ◌≤◌, ◌^◌, IfSome};
 ghost use Rattle.tbl_layout.specs.KeptEntries.{entry_by, entry_under, filled_with, opened_at};
 ghost use Rattle.tbl_layout.specs.KeptEntries.{rule_entry};
-ghost use Rattle.tbl_layout.specs.RuleKeys.{rule_sign};
+ghost use Rattle.tbl_layout.specs.KeptEntries.{kept_kind};
+ghost use Rattle.tbl_layout.specs.RuleKeys.{kind_of_key};
 ghost use Rattle.tbl_layout.specs.KeptEntries.{stands_of};
 ghost use Rattle.tbl_text.specs.Measuring.{SplitLies};
 ghost use Rattle.tbl_layout.specs.KeptEntries.{kind_by, lines_by, measure_by, split_by, with_end};
 
 use crate::columns::{Stands, unsplit};
-use crate::data_lines::RuleSign;
-use crate::rule_keys::rule_sign;
+use crate::data_lines::{FieldKind, RuleSign};
+use crate::rule_keys::kind_of_key;
 use tbl_format::format::Key;
 use tbl_text::block_lines::Filled;
 use tbl_text::measure::{Measured, Split};
@@ -43,6 +44,8 @@ pub enum EntryKind {
     Short,
     /// A byte that is repeated over its column.
     Repeated(u8),
+    /// The field above goes on.
+    Above,
 }
 
 /// A number that is split in two.
@@ -83,14 +86,10 @@ impl Entry {
 
     /// What stands under a key for which a row has no field.
     pub fn under(key: Key) -> Entry
-        ensures { result ≡ entry_under (rule_sign key) }
+        ensures { result ≡ entry_under (kind_of_key key) }
     {
-        match rule_sign(key) {
-            Some(sign) => Entry {
-                from: 0,
-                to: 0,
-                kind: EntryKind::Ruled(sign),
-            },
+        match kind_of_key(key) {
+            Some(kind) => Entry::of_rule(0, 0, kept_kind(kind)),
             None => Entry::NOTHING,
         }
     }
@@ -110,7 +109,7 @@ impl Entry {
         }
     }
 
-    /// The field of a rule that begins at a place and has so many bytes.
+    /// The field, of which nothing is measured, that begins at a place and has so many bytes.
     pub fn of_rule(from: usize, len: usize, kind: EntryKind) -> Entry
         requires { from + len < 2 ^ 32 }
         ensures { result ≡ rule_entry from len kind }
@@ -179,6 +178,7 @@ impl Entry {
             EntryKind::Ruled(_) => 1,
             EntryKind::Short => 1,
             EntryKind::Repeated(_) => 1,
+            EntryKind::Above => 1,
         }
     }
 
@@ -218,7 +218,21 @@ impl Entry {
             EntryKind::Ruled(_) => Stands::Nowhere,
             EntryKind::Short => Stands::Nowhere,
             EntryKind::Repeated(_) => Stands::Nowhere,
+            EntryKind::Above => Stands::Nowhere,
         }
+    }
+}
+
+/// How a field is kept that isn't measured.
+pub fn kept_kind(kind: FieldKind) -> EntryKind
+    ensures { result ≡ kept_kind kind }
+{
+    match kind {
+        FieldKind::Ruled(sign) => EntryKind::Ruled(sign),
+        FieldKind::Short => EntryKind::Short,
+        FieldKind::Repeated(byte) => EntryKind::Repeated(byte),
+        FieldKind::Above => EntryKind::Above,
+        FieldKind::Text => EntryKind::Text(0, 0),
     }
 }
 

@@ -4,10 +4,10 @@
 ghost use Rattle.std.specs.Prelude.{◌≡◌, ℕ, ◌≤◌, get_or, length, List};
 ghost use Rattle.tbl_format.specs.Format.{FormatRow};
 ghost use Rattle.tbl_layout.specs.KeptEntries.{all_entries, no_entry};
-ghost use Rattle.tbl_layout.specs.RuleKeys.{is_rule_row, rule_sign};
+ghost use Rattle.tbl_layout.specs.RuleKeys.{is_rule_row, kind_of_key, rule_sign};
 ghost use Rattle.tbl_layout.specs.declared.entry.Entry.{Entry};
 
-use crate::data_lines::RuleSign;
+use crate::data_lines::{FieldKind, RuleSign};
 use crate::entry::{Entry, EntryKind};
 use tbl_format::cells::columns_of;
 use tbl_format::format::{FormatKey, Key};
@@ -30,6 +30,24 @@ pub fn rule_sign(key: Key) -> Option<RuleSign>
     }
 }
 
+/// What the fields of a key's cells are, whatever stands in them, if the key says so.
+pub fn kind_of_key(key: Key) -> Option<FieldKind>
+    ensures { result ≡ kind_of_key key }
+{
+    match key {
+        Key::Rule => Some(FieldKind::Ruled(RuleSign::Single)),
+        Key::DoubleRule => Some(FieldKind::Ruled(RuleSign::Double)),
+        Key::Above => Some(FieldKind::Above),
+        Key::Left => None,
+        Key::Right => None,
+        Key::Center => None,
+        Key::Numeric => None,
+        Key::WideNumeric => None,
+        Key::Alphabetic => None,
+        Key::Spanned => None,
+    }
+}
+
 /// Whether all of a row's keys are rule keys, `s` among them not.
 pub fn is_rule_row(keys: &[FormatKey]) -> bool
     ensures { (bars : ℕ) → result ≡ is_rule_row (record { keys = keys.now; bars = bars }) }
@@ -42,8 +60,8 @@ pub fn is_rule_row(keys: &[FormatKey]) -> bool
     columns_of(keys) == keys.len()
 }
 
-/// How many columns a row fills that has so many fields, under its keys: rule keys behind the last
-/// field rule their columns still.
+/// How many columns a row fills that has so many fields, under its keys: behind the last field
+/// rule keys rule their cells still, and `^` goes on with the cells above.
 pub fn filled_columns(keys: &[FormatKey], given: usize) -> usize
     ensures { (bars : ℕ) (entries : List Entry) → length entries ≡ given → result
         ≡ length (all_entries (record { keys = keys.now; bars = bars }) entries) }
@@ -51,7 +69,7 @@ pub fn filled_columns(keys: &[FormatKey], given: usize) -> usize
     let mut count = keys.len();
     while count > given {
         let last = count - 1;
-        if rule_sign(keys[last].key).is_some() {
+        if kind_of_key(keys[last].key).is_some() {
             return count;
         }
         count = last;

@@ -4,14 +4,16 @@ ghost use Rattle.std.specs.Prelude.{◌≡◌, [], ◌∷◌, Some, None, true, 
 ghost use Rattle.tbl_format.specs.Format.{nothing_asked, plain_key};
 ghost use Rattle.tbl_format.specs.declared.format.Key.TheVariants.{Alphabetic, Center, Left};
 ghost use Rattle.tbl_format.specs.declared.format.Key.TheVariants.{DoubleRule, Rule as RuleKey};
+ghost use Rattle.tbl_format.specs.declared.format.Key.TheVariants.{Above as AboveKey};
 ghost use Rattle.tbl_format.specs.declared.format.Key.TheVariants.{Numeric, Right};
 ghost use Rattle.tbl_layout.specs.BarsWorked.{all_boxed, behind_column, boxed, edges, separations};
 ghost use Rattle.tbl_layout.specs.Columns.{bars_end, needs_of, stands, widest_entry, width_of};
 ghost use Rattle.tbl_layout.specs.DataLines.{block_line_kind, ends_in_block, ends_row};
-ghost use Rattle.tbl_layout.specs.DataLines.{field_kind, is_laid_out, line_kind, without_opening};
+ghost use Rattle.tbl_layout.specs.DataLines.{field_kind, line_kind, without_opening};
 ghost use Rattle.tbl_layout.specs.DataLines.{kind_under};
 ghost use Rattle.tbl_layout.specs.Entries.{Block, Command as OneCommand, Row as OneRow};
-ghost use Rattle.tbl_layout.specs.Entries.{Ruled as OneRule, Text as OneText, completed};
+ghost use Rattle.tbl_layout.specs.Entries.{Above as OneAbove, completed};
+ghost use Rattle.tbl_layout.specs.Entries.{Ruled as OneRule, Text as OneText};
 ghost use Rattle.tbl_layout.specs.RuleKeys.{is_rule_row, rule_rows};
 ghost use Rattle.tbl_layout.specs.RulesWorked.{column_at, no_bars, row_of};
 ghost use Rattle.tbl_layout.specs.Spans.{cells_of, columns_laid, measure_of};
@@ -44,7 +46,6 @@ pub fn lines()
         ≡ Ruled Single ∷ Ruled Double ∷ Short ∷ Above ∷ [] }
     ensures repeated { map field_kind (codes "\\R " ∷ codes "\\R-" ∷ [])
         ≡ Repeated 32 ∷ Repeated 45 ∷ [] }
-    ensures unbuilt { is_laid_out (field_kind (codes "\\^")) ≡ false }
     ensures opening { ends_in_block (codes "a" ∷ codes "  T{ " ∷ []) ≡ true }
     ensures in_front { without_opening (codes "T{" ∷ codes "T{" ∷ []) ≡ codes "T{" ∷ [] }
     ensures row_ends { ends_row false 58 (codes "T{:x") ≡ true }
@@ -79,6 +80,8 @@ pub fn rule_keys()
     ensures none_further { completed (row_of (RuleKey ∷ Left ∷ [])) (OneText (codes "a") ∷ [])
         ≡ OneText (codes "a") ∷ [] }
     ensures taken { kind_under DoubleRule (codes "a") ≡ Ruled Double }
+    ensures goes_on { kind_under AboveKey (codes "a") ≡ Above }
+    ensures goes_on_behind { completed (row_of (Left ∷ AboveKey ∷ [])) [] ≡ OneText [] ∷ OneAbove ∷ [] }
     ensures not_taken { kind_under Left (codes "_") ≡ Ruled Single }
     ensures ends { map (λ bars. bars_end (column_at 0 3 bars) (column_at 7 1 0)) (0 ∷ 1 ∷ 2 ∷ [])
         ≡ 5 ∷ 5 ∷ 6 ∷ [] }

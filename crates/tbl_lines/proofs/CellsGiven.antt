@@ -6,7 +6,7 @@ use Rattle.std.proofs.lemmas.List.{drop-drop}
 use Rattle.roff_source.specs.Bytes.{blank}
 use Rattle.tbl_layout.specs.Entries.{Run, blanks, columns_of}
 use Rattle.tbl_layout.specs.declared.entry.EntryKind.{EntryKind}
-use Rattle.tbl_layout.specs.declared.entry.EntryKind.TheVariants.{Split, Text}
+use Rattle.tbl_layout.specs.declared.entry.EntryKind.TheVariants.{Above, Split, Text}
 use Rattle.tbl_layout.specs.declared.entry.SplitEntry.{SplitEntry}
 use Rattle.tbl_lines.specs.PictureLines.{Cell, at_column, end_of, repeated}
 use Rattle.tbl_lines.specs.RowsLeft.{begins_at, behind_first, cell_left, end_given, first_of, given, given_of, if_given, lines_left_by, one_less, repeated_lines, split_run, text_lines, text_run}
@@ -152,3 +152,14 @@ module _ (bytes : List ℕ) (r : RowColumn) where
       ap (λ (k : EntryKind). get_or (lines_left_by k bytes line r.column r.end r.entry r.place) 0 []) kind
       ∙ ap (λ (t : Bool). get_or (drop line (text_lines t (text_run bytes r.entry glyphs width))) 0 []) (eq-eqb r.entry.from r.entry.to none)
       ∙ ap (λ (lines : List (List Run)). get_or lines 0 []) (none-left-of line)
+
+  -- the cell above goes on: nothing stands on the line
+  pub above-empty : (line : ℕ) → r.entry.kind ≡ Above → first_of (cell_left bytes line r) ≡ []
+  above-empty line kind = ap (λ (k : EntryKind). get_or (lines_left_by k bytes line r.column r.end r.entry r.place) 0 []) kind
+
+  pub above-moved : (line : ℕ) → r.entry.kind ≡ Above
+      → cell_left bytes (suc line) (record r { place = r.place }) ≡ behind_first (cell_left bytes line r)
+  above-moved line kind =
+      let cell : List (List Run) → Cell = λ lines. record { at = begins_at r; lines = lines; below = [] } in
+      ap (λ (k : EntryKind). cell (lines_left_by k bytes (suc line) r.column r.end r.entry r.place)) kind
+      ∙ ap (λ (k : EntryKind). cell (drop 1 (lines_left_by k bytes line r.column r.end r.entry r.place))) (sym kind)

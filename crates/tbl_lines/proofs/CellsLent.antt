@@ -19,6 +19,10 @@ pub length-cells_of : (keys : List FormatKey) (columns : List Column) → AreWit
 length-cells_of keys columns lie =
     length-map (by_cells 0 keys columns) as_one ∙ length-by_cells keys columns lie.cells lie.short
 
+pub cells-few-columns : (keys : List FormatKey) (columns : List Column) → AreWithin (length columns) keys
+    → length (cells_of keys columns) ≤ length columns
+cells-few-columns keys columns lie = omega (arith, length-cells_of keys columns lie, cells-few keys lie.cells, lie.short)
+
 -- one of them
 pub cells_of-at : (keys : List FormatKey) (columns : List Column) (cell : ℕ) → AreWithin (length columns) keys → cell < length (cells_of keys columns)
     → drop cell (cells_of keys columns)

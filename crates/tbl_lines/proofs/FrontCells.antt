@@ -1,5 +1,7 @@
 -- What stands in front of the columns of a row: how much it is, one of it, and what it is on further lines.
-use Rattle.std.proofs.Common.{◌≡◌, ◌≢◌, ℕ, zero, suc, ◌+◌, ◌*◌, ◌-◌, ◌<◌, ◌≤◌, max, Bool, true, false, List, [], ◌∷◌, ◌++◌, length, drop, get_or, map, refl, sym, ap, subst, ◌∙◌, arith, length-append, None, if◌then◌else◌}
+use Rattle.std.proofs.Common.{◌≡◌, ◌≢◌, ℕ, zero, suc, ◌+◌, ◌*◌, ◌-◌, ◌<◌, ◌≤◌, max, Bool, true, false, List, [], ◌∷◌, ◌++◌, length, drop, get_or, map, refl, sym, ap, subst, ◌∙◌, arith, length-append, Option, Some, None, if◌then◌else◌}
+use Rattle.std.specs.Option.{MatchOption}
+use Rattle.std.proofs.lemmas.Bool.{ltb-true, ltb-false}
 use Rattle.std.proofs.lemmas.List.{drop-drop}
 use Rattle.tbl_format.specs.Format.{FormatRow}
 use Rattle.tbl_options.specs.declared.options.Boxing.{Boxing}
@@ -8,18 +10,19 @@ use Rattle.tbl_layout.specs.Entries.{Run, up_to_last_glyph}
 use Rattle.tbl_layout.specs.declared.bars.Bars.{Bars}
 use Rattle.tbl_layout.specs.declared.columns.Column.{Column}
 use Rattle.tbl_layout.specs.declared.data_lines.RuleSign.{RuleSign}
+use Rattle.tbl_layout.specs.declared.data_lines.RuleSign.TheVariants.{Double, Single}
 use Rattle.tbl_layout.specs.KeptEntries.{no_entry}
 use Rattle.tbl_layout.specs.declared.entry.Entry.{Entry}
 use Rattle.tbl_layout.specs.declared.entry.EntryKind.{EntryKind}
-use Rattle.tbl_layout.specs.declared.entry.EntryKind.TheVariants.{Block, Repeated, Ruled, Short, Split, Text}
+use Rattle.tbl_layout.specs.declared.entry.EntryKind.TheVariants.{Above, Block, Repeated, Ruled, Short, Split, Text}
 use Rattle.tbl_lines.specs.PictureLines.{Cell, bar, bars_at, bars_at_edge, bars_between, bars_by, crossed_at, crossing, repeated, right_bars, with_fronts}
-use Rattle.tbl_lines.specs.RowsLeft.{all_between_by, behind_first, cell_of_front, first_cell, first_of, from_line, fronts_by, is_there, joined_first, joined_kinds}
+use Rattle.tbl_lines.specs.RowsLeft.{all_between_by, behind_first, cell_of_front, first_cell, first_of, from_line, fronts_by, is_there, joined_first, joined_kinds, ruled_runs}
 use Rattle.tbl_lines.specs.RowsWalked.{HasBars, HasGlyph, front_count}
-use Rattle.tbl_lines.specs.RowsLent.{WalkedRow, fronts_of}
+use Rattle.tbl_lines.specs.RowsLent.{HasFronts, WalkedRow, fronts_given, fronts_of, row_fronts_of}
 use Rattle.tbl_lines.specs.declared.fronts.Front.{Front}
-use Rattle.tbl_lines.specs.declared.fronts.Front.TheVariants.{Bars as SomeBars, Crossed, Nothing as NoFront}
+use Rattle.tbl_lines.specs.declared.fronts.Front.TheVariants.{Bars as SomeBars, Crossed, Nothing as NoFront, Ruled as RuledFront}
 use Rattle.tbl_lines.proofs.RowColumns.{drop-none}
-use Rattle.tbl_lines.proofs.RunsGiven.{glyph-before}
+use Rattle.tbl_lines.proofs.RunsGiven.{glyph-before, glyph-behind}
 
 -- how many there are
 between-count : (b : Boxing) (format : FormatRow) (k : ℕ) (columns : List Column) (entries : List Entry)
@@ -129,14 +132,45 @@ module _ (bars : Bars) (width : ℕ) (format : FormatRow) (columns : List Column
         ∙ ap (λ (i : ℕ). one i ∷ behind all) same
         ∙ ap (λ (xs : List Cell). one n ∷ behind xs) (sym fronts-are)
 
--- where the picture has no bars there is none
-pub no-fronts : (row : WalkedRow) (line : ℕ) → row.bars.has_any ≡ false → fronts_of row line ≡ []
-no-fronts row line none =
-    let b = row.bars.boxing in
-    let right = bars_at_edge b row.format (length row.columns) in
-    let all = bars_at 0 (bars_at_edge b row.format 0)
-    ∷ all_between_by b row.format 0 row.columns row.entries ++ right_bars row.width right ∷ [] in
-    ap (λ (t : Bool). map (from_line line) (if t then all else [])) none
+-- what stands in front of the cells of a row, by its keys or given: where there is one the picture may have bars
+module _ (row : WalkedRow) where
+  abbrev by_keys : List Cell
+  by_keys = fronts_by row.bars row.width row.format row.columns row.entries
+
+  some-given : (given : Option (List Cell)) (at : ℕ) → at < length (fronts_given row.bars given by_keys) → row.bars.has_any ≡ true
+  some-given None at some = any-some row.bars row.width row.format row.columns row.entries at some
+  some-given (Some fronts) at some = some-if row.bars.has_any fronts at some
+
+  pub any-front : (at : ℕ) → at < length (row_fronts_of row) → row.bars.has_any ≡ true
+  any-front at some = some-given row.fronts at some
+
+  -- as many as columns, and one more
+  count-given : row.bars.has_any ≡ true → (given : Option (List Cell)) → MatchOption given (Unit {0}) (λ fronts. length fronts ≡ front_count row.columns)
+      → length (fronts_given row.bars given by_keys) ≡ front_count row.columns
+  count-given any None count = front-count row.bars row.width row.format row.columns row.entries any
+  count-given any (Some fronts) count = ap (λ (t : Bool). length (if t then fronts else [])) any ∙ count
+
+  pub count-fronts : HasFronts row → row.bars.has_any ≡ true → length (row_fronts_of row) ≡ front_count row.columns
+  count-fronts has any = count-given any row.fronts has
+
+  -- those that are given
+  pub fronts-given : (fronts : List Cell) → row.bars.has_any ≡ true → row.fronts ≡ Some fronts → row_fronts_of row ≡ fronts
+  fronts-given fronts any is =
+      ap (λ (given : Option (List Cell)). fronts_given row.bars given by_keys) is
+      ∙ ap (λ (t : Bool). if t then fronts else []) any
+
+  -- where the picture has no bars there is none
+  none-given : row.bars.has_any ≡ false → (given : Option (List Cell)) → fronts_given row.bars given by_keys ≡ []
+  none-given none None =
+      let b = row.bars.boxing in
+      let right = bars_at_edge b row.format (length row.columns) in
+      let all = bars_at 0 (bars_at_edge b row.format 0)
+      ∷ all_between_by b row.format 0 row.columns row.entries ++ right_bars row.width right ∷ [] in
+      ap (λ (t : Bool). if t then all else []) none
+  none-given none (Some fronts) = ap (λ (t : Bool). if t then fronts else []) none
+
+  pub no-fronts : (line : ℕ) → row.bars.has_any ≡ false → fronts_of row line ≡ []
+  no-fronts line none = ap (map (from_line line)) (none-given none row.fronts)
 
 -- on further lines
 from-next : (line : ℕ) (c : Cell) → behind_first (from_line line c) ≡ from_line (suc line) c
@@ -175,16 +209,67 @@ crossed-glyph (suc n) at zero sign end some =
 crossed-glyph (suc n) at (suc line) sign end some =
     subst (λ (lines : List (List Run)). HasGlyph (get_or lines 0 (repeated bar (suc n) ∷ []))) (sym (drop-none line)) (omega arith)
 
+-- a rule has one on each line, if it has a byte
+rule-glyph : (sign : RuleSign) (k : ℕ) → 0 < k → HasGlyph (repeated (sign_byte sign) k ∷ [])
+rule-glyph sign zero some = absurd (omega (arith, some))
+rule-glyph Single (suc k) some = omega arith
+rule-glyph Double (suc k) some = omega arith
+
+rule-glyphless : (sign : RuleSign) (k : ℕ) → k ≡ 0 → up_to_last_glyph (repeated (sign_byte sign) k ∷ []) ≡ []
+rule-glyphless Single zero none = refl
+rule-glyphless Double zero none = refl
+rule-glyphless sign (suc k) none = absurd (omega (arith, none))
+
+three-glyphs : (sign : RuleSign) (j k n : ℕ) → 0 < j + k + n
+    → HasGlyph (repeated (sign_byte sign) j ∷ repeated crossing k ∷ repeated (sign_byte sign) n ∷ [])
+three-glyphs sign j k (suc n) some =
+    glyph-behind (repeated (sign_byte sign) j ∷ repeated crossing k ∷ []) (repeated (sign_byte sign) (suc n) ∷ [])
+    (rule-glyph sign (suc n) (omega arith))
+three-glyphs sign j (suc k) zero some =
+    glyph-behind (repeated (sign_byte sign) j ∷ []) (repeated crossing (suc k) ∷ repeated (sign_byte sign) 0 ∷ [])
+    (glyph-before (repeated crossing (suc k) ∷ []) (repeated (sign_byte sign) 0 ∷ []) (omega arith))
+three-glyphs sign (suc j) zero zero some =
+    glyph-before (repeated (sign_byte sign) (suc j) ∷ []) (repeated crossing 0 ∷ repeated (sign_byte sign) 0 ∷ [])
+    (rule-glyph sign (suc j) (omega arith))
+three-glyphs sign zero zero zero some = absurd (omega (arith, some))
+
+three-glyphless : (sign : RuleSign) (j k n : ℕ) → j + k + n ≡ 0
+    → up_to_last_glyph (repeated (sign_byte sign) j ∷ repeated crossing k ∷ repeated (sign_byte sign) n ∷ []) ≡ []
+three-glyphless Single zero zero zero none = refl
+three-glyphless Double zero zero zero none = refl
+three-glyphless sign (suc j) k n none = absurd (omega (arith, none))
+three-glyphless sign zero (suc k) n none = absurd (omega (arith, none))
+three-glyphless sign zero zero (suc n) none = absurd (omega (arith, none))
+
+on-each : (line at : ℕ) (below : List Run) → first_of (from_line line (record { at = at; lines = []; below = below })) ≡ below
+on-each line at below = ap (λ (lines : List (List Run)). get_or lines 0 below) (drop-none line)
+
+module _ (from at count end line : ℕ) (sign : RuleSign) (lies : (from ≤ at) × (at + count ≤ end)) where
+  abbrev rule_there : Front
+  rule_there = RuledFront from sign at count end
+
+  ruled-glyph : from < end → HasGlyph (first_of (from_line line (cell_of_front rule_there)))
+  ruled-glyph some =
+      subst HasGlyph (sym (on-each line from (ruled_runs sign from at count end)))
+      (three-glyphs sign (at - from) count (end - (at + count)) (omega (arith, lies.0, lies.1, some)))
+
+  ruled-glyphless : end ≤ from → up_to_last_glyph (first_of (from_line line (cell_of_front rule_there))) ≡ []
+  ruled-glyphless none =
+      ap up_to_last_glyph (on-each line from (ruled_runs sign from at count end))
+      ∙ three-glyphless sign (at - from) count (end - (at + count)) (omega (arith, lies.0, lies.1, none))
+
 -- whether what stands there has a glyph on a line
 pub front-glyph : (f : Front) (line : ℕ) → HasBars f → is_there f ≡ true → HasGlyph (first_of (from_line line (cell_of_front f)))
 front-glyph NoFront line has is = absurd (cc)
 front-glyph (SomeBars at n) line has is = bars-glyph n at line has
 front-glyph (Crossed at n sign end) line has is = crossed-glyph n at line sign end has
+front-glyph (RuledFront from sign at count end) line has is = ruled-glyph from at count end line sign has (ltb-true from end is)
 
-pub front-glyphless : (f : Front) (line : ℕ) → is_there f ≡ false → up_to_last_glyph (first_of (from_line line (cell_of_front f))) ≡ []
-front-glyphless NoFront line is = ap (λ (lines : List (List Run)). up_to_last_glyph (get_or lines 0 [])) (drop-none line)
-front-glyphless (SomeBars at n) line is = absurd (cc)
-front-glyphless (Crossed at n sign end) line is = absurd (cc)
+pub front-glyphless : (f : Front) (line : ℕ) → HasBars f → is_there f ≡ false → up_to_last_glyph (first_of (from_line line (cell_of_front f))) ≡ []
+front-glyphless NoFront line has is = ap (λ (lines : List (List Run)). up_to_last_glyph (get_or lines 0 [])) (drop-none line)
+front-glyphless (SomeBars at n) line has is = absurd (cc)
+front-glyphless (Crossed at n sign end) line has is = absurd (cc)
+front-glyphless (RuledFront from sign at count end) line has is = ruled-glyphless from at count end line sign has (ltb-false from end is)
 
 -- which of them, or of the cells, stands at a place
 with-none : (fs : List Cell) → with_fronts fs [] ≡ fs
@@ -237,6 +322,7 @@ joined-one (Block block) = refl
 joined-one (Ruled sign) = refl
 joined-one Short = refl
 joined-one (Repeated b) = refl
+joined-one Above = refl
 
 pub joined-at : (at : ℕ) (entries : List Entry)
     → joined_first (drop at entries) ≡ joined_kinds (get_or entries at no_entry).kind (get_or entries (suc at) no_entry).kind

@@ -2,6 +2,7 @@ pub mod BlockColumns
 pub mod CellsGiven
 pub mod CellsLent
 pub mod FrontCells
+pub mod FrontsLent
 pub mod RowMarks
 pub mod RowCells
 pub mod RowColumns
@@ -13,3 +14,16 @@ pub mod AllLaid
 pub mod AllEntries
 pub mod GivenFields
 pub mod RulesBeside
+pub mod PlainRows
+pub mod PlainLines
+pub mod PlainKeys
+pub mod RulesDrawn
+pub mod RulesFree
+pub mod RulesShown
+pub mod RulesOrdered
+pub mod RulesMet
+pub mod RulesAlone
+pub mod PlainHeights
+pub mod PlainShown
+pub mod PlainTables
+pub mod KeptAlone

@@ -6,13 +6,13 @@ use Rattle.std.proofs.lemmas.Bool.{eq-eqb, ltb-true, ltb-false, ne_eqb}
 use Rattle.std.proofs.lemmas.List.{length-map}
 use Rattle.tbl_format.specs.declared.format.Key.{Key}
 use Rattle.tbl_layout.specs.Columns.{place_in, stands}
-use Rattle.tbl_layout.specs.Entries.{Block, Content, Run, Text, block_line, is_number, lines_of_field, run_of}
+use Rattle.tbl_layout.specs.Entries.{Above, Block, Content, Run, Text, block_line, is_number, lines_of_field, run_of}
 use Rattle.tbl_layout.specs.KeptEntries.{IsFilled, IsLaidBy, IsText, block_lines, content_by, content_of, kind_with, lines_by, stands_by, stands_of}
 use Rattle.tbl_layout.specs.declared.columns.Column.{Column}
 use Rattle.tbl_layout.specs.declared.columns.Stands.{Stands}
 use Rattle.tbl_layout.specs.declared.entry.Entry.{Entry}
 use Rattle.tbl_layout.specs.declared.entry.EntryKind.{EntryKind}
-use Rattle.tbl_layout.specs.declared.entry.EntryKind.TheVariants.{Block as BlockKind, Repeated as RepeatedKind, Ruled as RuledKind, Short as ShortKind, Split as SplitKind, Text as TextKind}
+use Rattle.tbl_layout.specs.declared.entry.EntryKind.TheVariants.{Above as AboveKind, Block as BlockKind, Repeated as RepeatedKind, Ruled as RuledKind, Short as ShortKind, Split as SplitKind, Text as TextKind}
 use Rattle.tbl_lines.specs.PictureLines.{Cell, cell_of, is_ruled, one_run, repeated, rule_end}
 use Rattle.tbl_lines.specs.RowsLeft.{begins_at, begins_by, block_text, cell_left, end_by, is_ruled_by, lines_left_by, rule_end_by, text_lines, text_run}
 use Rattle.tbl_lines.specs.RowsLent.{first_place}
@@ -127,6 +127,15 @@ module _ (bytes : List ℕ) (c : Column) (end : ℕ) (key : Key) (e : Entry) whe
             ∙ ap (λ (k : EntryKind). max 1 (lines_by k)) (sym laid.is);
       }
 
+  -- nothing is left where the field above goes on
+  above-field : e.kind ≡ AboveKind → FieldSame bytes c end key e Above
+  above-field kind = record {
+    begins = ap (λ (k : EntryKind). begins_by k c key e) kind;
+    stands = ap (λ (k : EntryKind). stands_by key k (e.from == e.to)) kind;
+    lines = ap (λ (k : EntryKind). lines_left_by k bytes 0 c end e (first_place e)) kind;
+    high = ap (λ (k : EntryKind). max 1 (lines_by k)) (sym kind);
+  }
+
 -- whether a field is a rule that is drawn so
 pub ruled-same : (sign : RuleSign) (k : EntryKind) (bytes : List ℕ) (from to : ℕ) → is_ruled sign (content_by k bytes from to) ≡ is_ruled_by sign k
 ruled-same sign (TextKind glyphs width) bytes from to = refl
@@ -135,6 +144,7 @@ ruled-same sign (BlockKind b) bytes from to = refl
 ruled-same sign (RuledKind other) bytes from to = refl
 ruled-same sign ShortKind bytes from to = refl
 ruled-same sign (RepeatedKind b) bytes from to = refl
+ruled-same sign AboveKind bytes from to = refl
 
 -- what is left of a field that begins is the field, in front of these columns and these fields
 module _ (bars : ℕ) (bytes : List ℕ) (c : Column) (columns : List Column) (key : Key) (e : Entry) (next : Content) (entries : List Entry) where
@@ -186,3 +196,6 @@ module _ (bars : ℕ) (bytes : List ℕ) (c : Column) (columns : List Column) (k
       rule-cell (RuledKind sign) is (ap (λ (end : ℕ). one_run c.start (repeated (sign_byte sign) (end - c.start))) (ends sign)) refl
   cell-same ShortKind is laid ends = rule-cell ShortKind is refl refl
   cell-same (RepeatedKind b) is laid ends = rule-cell (RepeatedKind b) is refl refl
+  cell-same AboveKind is laid ends =
+      field-cell Above (above-field bytes c (end_by bars e.kind c columns entries) key e (sym is))
+      (ap (λ (k : EntryKind). content_by k bytes e.from e.to) (sym is)) refl

@@ -3,7 +3,7 @@ use Rattle.std.proofs.Common.{◌≡◌, ℕ, zero, suc, ◌+◌, ◌-◌, ◌�
 use Rattle.std.specs.List.{AllByRecursion}
 use Rattle.std.proofs.lemmas.List.{drop-drop, drop-map}
 use Rattle.tbl_format.specs.Format.{FormatRow}
-use Rattle.tbl_kept.specs.Rows.{AreLaid, RowLaid, fields_of}
+use Rattle.tbl_kept.specs.Rows.{AreLaid, RowLaid, fields_of, height_of}
 use Rattle.tbl_format.specs.RowsServed.{row_at}
 use Rattle.tbl_layout.specs.Columns.{greatest}
 use Rattle.tbl_layout.specs.Entries.{Content, field_at, up_to_last_glyph, Run, Text, key_at}
@@ -11,7 +11,7 @@ use Rattle.tbl_layout.specs.KeptEntries.{IsLaid, all_entries, content_by, conten
 use Rattle.tbl_layout.specs.declared.columns.Column.{Column}
 use Rattle.tbl_layout.specs.declared.entry.Entry.{Entry}
 use Rattle.tbl_layout.specs.declared.entry.EntryKind.{EntryKind}
-use Rattle.tbl_layout.specs.declared.entry.EntryKind.TheVariants.{Block as BlockKind, Repeated as RepeatedKind, Ruled as RuledKind, Short as ShortKind, Split as SplitKind, Text as TextKind}
+use Rattle.tbl_layout.specs.declared.entry.EntryKind.TheVariants.{Above as AboveKind, Block as BlockKind, Repeated as RepeatedKind, Ruled as RuledKind, Short as ShortKind, Split as SplitKind, Text as TextKind}
 use Rattle.tbl_options.specs.declared.options.Boxing.{Boxing}
 use Rattle.tbl_layout.specs.declared.bars.Bars.{Bars}
 use Rattle.tbl_lines.specs.PictureLines.{Cell, all_between, at_column, bars_at, bars_at_edge, bars_between, bars_by, cell_of, cells_from, end_of, fronts, height as row_height, joined_sign, joint, line_of, lines_from, right_bars, row_cells, rule_end, with_fronts, written}
@@ -20,7 +20,8 @@ use Rattle.tbl_lines.specs.RowsLent.{WalkedRow, first_place, fronts_of, line_cel
 use Rattle.tbl_layout.specs.declared.data_lines.RuleSign.{RuleSign}
 use Rattle.roff_source.specs.Bytes.{newline}
 use Rattle.tbl_lines.proofs.AllEntries.{fields-all}
-use Rattle.tbl_lines.proofs.AllLaid.{all-high, all-laid, all-short}
+use Rattle.tbl_kept.proofs.AllLaid.{all-laid}
+use Rattle.tbl_lines.proofs.AllLaid.{all-high, all-short}
 use Rattle.tbl_lines.proofs.CellsLent.{length-cells_of}
 use Rattle.tbl_lines.proofs.RowColumns.{drop-next}
 use Rattle.tbl_lines.proofs.RowCells.{CellSame, cell-same, drop-past, get-at, get-past, ruled-same}
@@ -130,6 +131,7 @@ joined-last (BlockKind b) bytes from to = refl
 joined-last (RuledKind other) bytes from to = refl
 joined-last ShortKind bytes from to = refl
 joined-last (RepeatedKind b) bytes from to = refl
+joined-last AboveKind bytes from to = refl
 
 joined-two : (k : EntryKind) (bytes : List ℕ) (e f : Entry) → joined_sign (content_by k bytes e.from e.to) (content_of bytes f) ≡ joined_kinds k f.kind
 joined-two (TextKind glyphs width) bytes e f = refl
@@ -138,6 +140,7 @@ joined-two (BlockKind b) bytes e f = refl
 joined-two (RuledKind sign) bytes e f = ap (λ (t : Bool). if t then Some sign else None) (ruled-same sign f.kind bytes f.from f.to)
 joined-two ShortKind bytes e f = refl
 joined-two (RepeatedKind b) bytes e f = refl
+joined-two AboveKind bytes e f = refl
 
 module _ (boxing : Boxing) (bytes : List ℕ) (format : FormatRow) (all_entries : List Entry) where
   abbrev fields : List Content
@@ -245,7 +248,7 @@ fronts-same bars width bytes format columns entries =
 
 -- a row that begins: how high it is, and its lines
 module _ (bytes : List ℕ) (formats : List FormatRow) (bars : Bars) (width : ℕ) (columns : List Column) (keys rules height : ℕ) (entries : List Entry)
-    (laid : RowLaid bytes formats (length columns) keys rules height entries) where
+    (laid : RowLaid bytes formats (length columns) keys rules entries) (high : height ≡ height_of entries) where
   abbrev row_now : WalkedRow
   row_now = walked bytes formats bars width columns keys height entries
 
@@ -288,7 +291,7 @@ module _ (bytes : List ℕ) (formats : List FormatRow) (bars : Bars) (width : �
       let low = fronts-low bars width format_now row_now.columns stand in
       omega (
         arith,
-        laid.high,
+        high,
         all-high format_now entries,
         ap (λ (fs : List Cell). greatest (map (λ c. length c.lines) (with_fronts fs cells_of_fields))) same-fronts,
         highest-fronts (fronts_by bars width format_now row_now.columns stand) cells_of_fields low,

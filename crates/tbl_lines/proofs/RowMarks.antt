@@ -3,13 +3,13 @@ use Rattle.std.proofs.Common.{◌≡◌, ℕ, zero, suc, ◌+◌, ◌*◌, ◌�
 use Rattle.std.proofs.lemmas.List.{length-map}
 use Rattle.tbl_layout.specs.Entries.{up_to_last_glyph}
 use Rattle.tbl_lines.specs.PictureLines.{Cell, with_fronts}
-use Rattle.tbl_lines.specs.RowsLeft.{cell_left, cell_of_front, first_cell, first_of, from_line, fronts_by, is_there, row_columns}
+use Rattle.tbl_lines.specs.RowsLeft.{cell_left, cell_of_front, first_cell, first_of, from_line, is_there, row_columns}
 use Rattle.tbl_lines.specs.RowsWalked.{HasBars, HasGlyph, PlacesLie, front_count}
-use Rattle.tbl_lines.specs.RowsLent.{WalkedRow, fronts_of, line_cells}
+use Rattle.tbl_lines.specs.RowsLent.{HasFronts, WalkedRow, fronts_of, line_cells, row_fronts_of}
 use Rattle.tbl_lines.specs.declared.fronts.Front.{Front}
 use Rattle.tbl_lines.specs.declared.row_columns.RowColumn.{RowColumn}
 use Rattle.tbl_text.specs.declared.block_parts.BlockPlace.{BlockPlace}
-use Rattle.tbl_lines.proofs.FrontCells.{front-count, front-glyph, front-glyphless, length-fronts, no-fronts, with-even, with-odd, with-past}
+use Rattle.tbl_lines.proofs.FrontCells.{count-fronts, front-glyph, front-glyphless, length-fronts, no-fronts, with-even, with-odd, with-past}
 use Rattle.tbl_lines.proofs.RowColumns.{length-row_columns, map-at}
 
 -- the first of some cells
@@ -34,7 +34,7 @@ module _ (row : WalkedRow) (line : ℕ) (places : List BlockPlace) where
   fields = map (cell_left row.bytes line) columns
 
   abbrev pub these : List Cell
-  these = fronts_by row.bars row.width row.format row.columns row.entries
+  these = row_fronts_of row
 
   -- in a picture without bars there are the fields alone
   pub plain-cells : row.bars.has_any ≡ false → cells ≡ fields
@@ -46,10 +46,10 @@ module _ (row : WalkedRow) (line : ℕ) (places : List BlockPlace) where
         length-map columns (cell_left row.bytes line)
         ∙ length-row_columns row.bars.boxing row.format row.bytes 0 row.columns row.entries places short lie
 
-    module _ (any : row.bars.has_any ≡ true) where
+    module _ (has_fronts : HasFronts row) (any : row.bars.has_any ≡ true) where
       many-fronts-now : length (fronts_of row line) ≡ front_count row.columns
       many-fronts-now =
-          length-map these (from_line line) ∙ front-count row.bars row.width row.format row.columns row.entries any
+          length-map these (from_line line) ∙ count-fronts row has_fronts any
 
       pub many-cells : length cells ≡ front_count row.columns + length row.entries
       many-cells = omega (arith, length-fronts (fronts_of row line) fields, many-fields, many-fronts-now)
@@ -65,7 +65,7 @@ module _ (row : WalkedRow) (line : ℕ) (places : List BlockPlace) where
           let this : from_line line (cell_of_front f) ≡ first_cell (drop at cells) = sym (same ∙ front-at i f is) in
           record {
             yes = λ yes. subst (λ (c : Cell). HasGlyph (first_of c)) this (front-glyph f line has (sym found ∙ yes));
-            no = λ no. ap (λ (c : Cell). up_to_last_glyph (first_of c)) (sym this) ∙ front-glyphless f line (sym found ∙ no);
+            no = λ no. ap (λ (c : Cell). up_to_last_glyph (first_of c)) (sym this) ∙ front-glyphless f line has (sym found ∙ no);
           }
 
       -- behind the last field

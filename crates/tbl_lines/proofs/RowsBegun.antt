@@ -12,7 +12,7 @@ use Rattle.tbl_layout.specs.Entries.{Run, key_at, run_of, without}
 use Rattle.tbl_layout.specs.KeptEntries.{IsLaidBy, Lies, split_by}
 use Rattle.tbl_layout.specs.declared.entry.Entry.{Entry}
 use Rattle.tbl_layout.specs.declared.entry.EntryKind.{EntryKind}
-use Rattle.tbl_layout.specs.declared.entry.EntryKind.TheVariants.{Block as BlockKind, Repeated as RepeatedKind, Ruled as RuledKind, Short as ShortKind, Split as SplitKind, Text as TextKind}
+use Rattle.tbl_layout.specs.declared.entry.EntryKind.TheVariants.{Above as AboveKind, Block as BlockKind, Repeated as RepeatedKind, Ruled as RuledKind, Short as ShortKind, Split as SplitKind, Text as TextKind}
 use Rattle.tbl_lines.specs.RowsLeft.{block_text, parts_to, split_run, text_run}
 use Rattle.tbl_lines.specs.RowsWalked.{PlacesLie}
 use Rattle.tbl_lines.specs.RowsLent.{first_place}
@@ -80,6 +80,7 @@ entry-lies (BlockKind b) bytes key e laid = record { order = laid.lies.order; wi
 entry-lies (RuledKind sign) bytes key e laid = record { order = laid.order; within = laid.within }
 entry-lies ShortKind bytes key e laid = record { order = laid.order; within = laid.within }
 entry-lies (RepeatedKind b) bytes key e laid = record { order = laid.order; within = laid.within }
+entry-lies AboveKind bytes key e laid = record { order = laid.order; within = laid.within }
 
 pub entries-lie : (bytes : List ℕ) (format : FormatRow) (cell : ℕ) (entries : List Entry)
     → AreLaid bytes format cell entries → AllByRecursion (Lies bytes) entries

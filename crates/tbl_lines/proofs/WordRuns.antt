@@ -8,7 +8,7 @@ use Rattle.tbl_layout.specs.Entries.{Run, block_line, columns_of, further_words}
 use Rattle.tbl_layout.specs.declared.columns.Column.{Column}
 use Rattle.tbl_layout.specs.declared.entry.Entry.{Entry}
 use Rattle.tbl_layout.specs.declared.entry.EntryKind.{EntryKind}
-use Rattle.tbl_layout.specs.declared.entry.EntryKind.TheVariants.{Block, Repeated, Ruled, Short, Split, Text}
+use Rattle.tbl_layout.specs.declared.entry.EntryKind.TheVariants.{Above, Block, Repeated, Ruled, Short, Split, Text}
 use Rattle.tbl_layout.specs.KeptEntries.{Lies, measure_by}
 use Rattle.tbl_lines.specs.PictureLines.{Cell}
 use Rattle.tbl_lines.specs.RowsLeft.{begins_at, behind_first, block_text, cell_left, first_of, lines_left_by}
@@ -68,6 +68,7 @@ block-by (Block b) bytes line c end e p is = refl
 block-by (Ruled sign) bytes line c end e p is = absurd is
 block-by Short bytes line c end e p is = absurd is
 block-by (Repeated b) bytes line c end e p is = absurd is
+block-by Above bytes line c end e p is = absurd is
 
 module _ (bytes : List ℕ) (line : ℕ) (r : RowColumn) (is : IsBlock r.entry.kind) where
   pub block-first : first_of (cell_left bytes line r)

@@ -1,5 +1,11 @@
 pub mod PictureLines
+pub mod CellsLeft
+pub mod LinesLeft
+pub mod PictureLeft
 pub mod WorkedPictures
 pub mod RowsLeft
 pub mod RowsWalked
 pub mod RowsLent
+pub mod RowsAlone
+pub mod RulePlaces
+pub mod RulesAlone

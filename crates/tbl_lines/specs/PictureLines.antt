@@ -373,6 +373,10 @@ frame_sign bars = if nat_lt 1 bars then Double else Single
 abbrev pub frame_rules : Boxing → List Element
 frame_rules boxing = if boxing.bars == 0 then [] else Rule (frame_sign boxing.bars) ∷ []
 
+-- elements, the first of them behind a row or not, with the rules that the box adds between and behind them
+abbrev pub boxed_from : Boxing → Bool → List Element → List Element
+boxed_from boxing behind_row elements = ruled_inside boxing behind_row elements ++ frame_rules boxing
+
 -- what stands in a table, with the rules that its box adds
 abbrev pub boxed : Boxing → List Element → List Element
 boxed boxing elements = frame_rules boxing ++ (ruled_inside boxing false elements ++ frame_rules boxing)

@@ -1,5 +1,5 @@
 -- What is left of a row of a table's picture, as it is walked: of each field its lines that were not given.
-use Rattle.std.specs.Prelude.{ℕ, zero, suc, ◌+◌, ◌-◌, min, Bool, true, false, List, [], ◌∷◌, ◌++◌, drop, get_or, length, map, Option, None, Some, if◌then◌else◌, ◌==◌}
+use Rattle.std.specs.Prelude.{ℕ, zero, suc, nat_lt, ◌+◌, ◌-◌, min, Bool, true, false, List, [], ◌∷◌, ◌++◌, drop, get_or, length, map, Option, None, Some, if◌then◌else◌, ◌==◌}
 use Rattle.std.specs.List.{slice_range, flat_map}
 use Rattle.tbl_format.specs.Format.{FormatRow}
 use Rattle.tbl_format.specs.declared.format.FormatKey.{FormatKey}
@@ -16,11 +16,11 @@ use Rattle.tbl_layout.specs.declared.data_lines.RuleSign.{RuleSign}
 use Rattle.tbl_layout.specs.declared.data_lines.RuleSign.TheVariants.{Single}
 use Rattle.tbl_layout.specs.declared.entry.Entry.{Entry}
 use Rattle.tbl_layout.specs.declared.entry.EntryKind.{EntryKind}
-use Rattle.tbl_layout.specs.declared.entry.EntryKind.TheVariants.{Block, Repeated, Ruled, Short, Split, Text}
+use Rattle.tbl_layout.specs.declared.entry.EntryKind.TheVariants.{Above, Block, Repeated, Ruled, Short, Split, Text}
 use Rattle.tbl_layout.specs.declared.entry.SplitEntry.{SplitEntry}
-use Rattle.tbl_lines.specs.PictureLines.{Cell, at_column, bars_at, bars_at_edge, bars_between, bars_by, crossed_at, end_of, joint, nothing_there, repeated, right_bars, with_fronts}
+use Rattle.tbl_lines.specs.PictureLines.{Cell, at_column, bars_at, bars_at_edge, bars_between, bars_by, crossed_at, crossing, end_of, joint, nothing_there, repeated, right_bars, with_fronts}
 use Rattle.tbl_lines.specs.declared.fronts.Front.{Front}
-use Rattle.tbl_lines.specs.declared.fronts.Front.TheVariants.{Bars as SomeBars, Crossed, Nothing as NoFront}
+use Rattle.tbl_lines.specs.declared.fronts.Front.TheVariants.{Bars as SomeBars, Crossed, Nothing as NoFront, Ruled as RuledFront}
 use Rattle.tbl_lines.specs.declared.row_columns.RowColumn.{RowColumn}
 use Rattle.tbl_text.specs.BlockLines.{lines_of, rest_of_line, width_behind}
 use Rattle.tbl_text.specs.BlockPlaces.{parts_at, word_at}
@@ -67,6 +67,7 @@ lines_left_by (Block b) bytes line c end e place = map block_line (lines_of b.me
 lines_left_by (Ruled sign) bytes line c end e place = repeated_lines line (sign_byte sign) (end - c.start)
 lines_left_by Short bytes line c end e place = repeated_lines line (sign_byte Single) (widest_entry c.needs)
 lines_left_by (Repeated b) bytes line c end e place = repeated_lines line b c.width
+lines_left_by Above bytes line c end e place = []
 
 -- the column of the page at which the field of a column stands
 abbrev pub begins_by : EntryKind → Column → Key → Entry → ℕ
@@ -144,15 +145,22 @@ fronts_by bars width format columns entries =
     ∷ all_between_by bars.boxing format 0 columns entries ++ right_bars width (bars_at_edge bars.boxing format (length columns)) ∷ []
     else []
 
--- one of them
+-- a rule from a place up to another one, which so many bars cross at a third
+abbrev pub ruled_runs : RuleSign → ℕ → ℕ → ℕ → ℕ → List Run
+ruled_runs sign from at count end =
+    repeated (sign_byte sign) (at - from) ∷ repeated crossing count ∷ repeated (sign_byte sign) (end - (at + count)) ∷ []
+
+-- one of them: such a rule stands on each line
 abbrev pub cell_of_front : Front → Cell
 cell_of_front NoFront = nothing_there
 cell_of_front (SomeBars at n) = bars_at at n
 cell_of_front (Crossed at n sign end) = crossed_at at n sign end
+cell_of_front (RuledFront from sign at count end) = record { at = from; lines = []; below = ruled_runs sign from at count end }
 
 -- whether something stands there
 abbrev pub is_there : Front → Bool
 is_there NoFront = false
+is_there (RuledFront from sign at count end) = nat_lt from end
 is_there front = true
 
 -- what is left of a cell from a line of its row on

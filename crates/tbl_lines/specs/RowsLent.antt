@@ -1,6 +1,7 @@
 -- A row whose lines are given, with all that stands in it, as it is lent to those that give them.
-use Rattle.std.specs.Prelude.{◌≡◌, ℕ, ◌<◌, ◌≤◌, true, List, length, map, nat_lt, None, if◌then◌else◌}
+use Rattle.std.specs.Prelude.{◌≡◌, ℕ, ◌<◌, ◌≤◌, true, List, [], length, map, nat_lt, Option, None, Some, if◌then◌else◌}
 use Rattle.std.specs.List.{AllByRecursion}
+use Rattle.std.specs.Option.{MatchOption, option_map}
 use Rattle.tbl_format.specs.Format.{FormatRow, columns_of}
 use Rattle.tbl_format.specs.FormatRows.{AreWithin}
 use Rattle.tbl_format.specs.RowsServed.{row_at}
@@ -10,14 +11,15 @@ use Rattle.tbl_layout.specs.declared.columns.Column.{Column}
 use Rattle.tbl_layout.specs.declared.entry.Entry.{Entry}
 use Rattle.tbl_layout.specs.KeptEntries.{Lies, all_entries}
 use Rattle.tbl_lines.specs.PictureLines.{Cell, with_fronts}
-use Rattle.tbl_lines.specs.RowsLeft.{cell_left, from_line, fronts_by, row_columns}
-use Rattle.tbl_lines.specs.RowsWalked.{AreNarrow, PlacesLie}
+use Rattle.tbl_lines.specs.RowsLeft.{cell_left, cell_of_front, from_line, fronts_by, row_columns}
+use Rattle.tbl_lines.specs.RowsWalked.{AreNarrow, HasBars, PlacesLie, front_count}
+use Rattle.tbl_lines.specs.declared.fronts.Front.{Front}
 use Rattle.tbl_lines.specs.declared.row_lent.RowLent.{RowLent}
 use Rattle.tbl_text.specs.declared.block_parts.BlockPlace.{BlockPlace}
 use Rattle.tbl_text.specs.declared.block_parts.BlockPlace.TheVariants.{AtEnd, AtLine as AtPlace}
 
 -- a row that is walked: its picture's bars, and how wide that is, the table's bytes, the row of the formats, the columns of each cell as
--- one, its lines and its fields
+-- one, its lines and its fields, and what stands in front of each cell and behind the last, if its keys don't say that
 pub record WalkedRow : Type 0 where
   pub bars : Bars
   pub width : ℕ
@@ -26,6 +28,7 @@ pub record WalkedRow : Type 0 where
   pub columns : List Column
   pub height : ℕ
   pub entries : List Entry
+  pub fronts : Option (List Cell)
 
 -- one that is lent, and its row of the formats
 abbrev pub lent_format : RowLent → FormatRow
@@ -39,12 +42,24 @@ lent_entries row = all_entries (lent_format row) row.entries.now
 abbrev pub lent_columns : RowLent → List Column
 lent_columns row = cells_of row.keys.now row.columns.now
 
--- its cells have their columns
+-- what stands in front of its cells, if that is given
+abbrev pub lent_fronts : RowLent → Option (List Cell)
+lent_fronts row = option_map (λ fronts. map cell_of_front fronts.now) row.fronts
+
+-- these stand in front of so many cells, and behind the last
+pub record AreFronts (columns : List Column) (fronts : List Front) : Type 0 where
+  pub count : length fronts ≡ front_count columns
+  pub some : AllByRecursion HasBars fronts
+
+-- its cells have their columns; and where it is given what stands in front of them, that is as much as it has to be, and the keys don't
+-- say it
 pub record LiesInColumns (row : RowLent) : Type 0 where
   pub cells : AreWithin (length row.columns.now) row.keys.now
   pub narrow : AreNarrow row.columns.now
   pub few : length row.columns.now < 4294967296
   pub plain : row.is_plain ≡ true → columns_of row.keys.now ≡ length row.keys.now
+  pub by_keys : row.is_plain ≡ true → row.fronts ≡ None
+  pub fronts : MatchOption row.fronts (Unit {0}) (λ fronts. AreFronts (lent_columns row) fronts.now)
 
 abbrev pub lent_row : RowLent → WalkedRow
 lent_row row = record {
@@ -55,11 +70,25 @@ lent_row row = record {
   columns = lent_columns row;
   height = row.height;
   entries = lent_entries row;
+  fronts = lent_fronts row;
 }
 
--- what stands in front of its columns, from a line on
+-- what stands in front of each cell of a row, and behind the last: what is given, or what its keys say; in a picture without bars
+-- nothing
+abbrev pub fronts_given : Bars → Option (List Cell) → List Cell → List Cell
+fronts_given bars None by_keys = by_keys
+fronts_given bars (Some fronts) by_keys = if bars.has_any then fronts else []
+
+abbrev pub row_fronts_of : WalkedRow → List Cell
+row_fronts_of row = fronts_given row.bars row.fronts (fronts_by row.bars row.width row.format row.columns row.entries)
+
+-- what is given of that is as much as it has to be
+abbrev pub HasFronts : WalkedRow → Type 0
+HasFronts row = MatchOption row.fronts (Unit {0}) (λ fronts. length fronts ≡ front_count row.columns)
+
+-- and from a line on
 abbrev pub fronts_of : WalkedRow → ℕ → List Cell
-fronts_of row line = map (from_line line) (fronts_by row.bars row.width row.format row.columns row.entries)
+fronts_of row line = map (from_line line) (row_fronts_of row)
 
 -- all that is left of it from a line on, where its blocks go on at these places
 abbrev pub line_cells : WalkedRow → ℕ → List BlockPlace → List Cell
@@ -76,6 +105,7 @@ walked bytes formats bars width columns keys height entries = record {
   columns = cells_of (row_at formats keys).keys columns;
   height = height;
   entries = all_entries (row_at formats keys) entries;
+  fronts = None;
 }
 
 -- the cells of a row stand in its columns and lie in the table's bytes, and so do these places, at which their blocks go on

@@ -1,5 +1,5 @@
 -- What the walk of a row's lines needs, and how many steps it may take.
-use Rattle.std.specs.Prelude.{◌≡◌, ℕ, zero, suc, ◌+◌, ◌<◌, max, List, [], ◌∷◌, drop, length, map}
+use Rattle.std.specs.Prelude.{◌≡◌, ℕ, zero, suc, ◌+◌, ◌<◌, ◌≤◌, max, List, [], ◌∷◌, drop, length, map}
 use Rattle.std.specs.List.{AllByRecursion}
 use Rattle.tbl_layout.specs.Entries.{Run, block_line, up_to_last_glyph}
 use Rattle.tbl_layout.specs.KeptEntries.{measure_by}
@@ -10,7 +10,7 @@ use Rattle.tbl_layout.specs.declared.entry.EntryKind.TheVariants.{Block}
 use Rattle.tbl_lines.specs.PictureLines.{Cell}
 use Rattle.tbl_lines.specs.RowsLeft.{behind_first, block_text, cell_left, first_of, lines_left_by, repeated_lines}
 use Rattle.tbl_lines.specs.declared.fronts.Front.{Front}
-use Rattle.tbl_lines.specs.declared.fronts.Front.TheVariants.{Bars as SomeBars, Crossed, Nothing as NoFront}
+use Rattle.tbl_lines.specs.declared.fronts.Front.TheVariants.{Bars as SomeBars, Crossed, Nothing as NoFront, Ruled as RuledFront}
 use Rattle.tbl_lines.specs.declared.row_columns.RowColumn.{RowColumn}
 use Rattle.tbl_text.specs.BlockLines.{behind_rest, lines_of}
 use Rattle.tbl_text.specs.BlockPlaces.{IsWithin, LiesBehind, left_at, parts_at}
@@ -42,11 +42,12 @@ LastHasGlyph zero (c ∷ cells) = Unit {0}
 LastHasGlyph (suc zero) (c ∷ cells) = HasGlyph (first_of c)
 LastHasGlyph (suc (suc n)) (c ∷ cells) = LastHasGlyph (suc n) cells
 
--- what stands in front of a column, if it isn't nothing, has some bars
+-- what stands in front of a column, if it isn't nothing, has some bars, or is a rule: bars cross it where it stands
 abbrev pub HasBars : Front → Type 0
 HasBars NoFront = Unit {0}
 HasBars (SomeBars at n) = 0 < n
 HasBars (Crossed at n sign end) = 0 < n
+HasBars (RuledFront from sign at count end) = (from ≤ at) × (at + count ≤ end)
 
 -- a field is a block
 abbrev pub IsBlock : EntryKind → Type 0

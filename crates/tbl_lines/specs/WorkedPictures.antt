@@ -1,10 +1,11 @@
 -- The pictures of small tables, by the lines of their data.
-use Rattle.std.specs.Prelude.{ℕ, true, false, not, List, [], ◌∷◌, map, Option, ◌==◌}
+use Rattle.std.specs.Prelude.{ℕ, true, false, not, List, [], ◌∷◌, length, map, Option, ◌==◌}
 use Rattle.tbl_format.specs.Format.{FormatRow, nothing_asked}
 use Rattle.tbl_format.specs.declared.format.Asked.{Asked}
 use Rattle.tbl_format.specs.declared.format.FormatKey.{FormatKey}
 use Rattle.tbl_format.specs.declared.format.Key.{Key}
 use Rattle.tbl_options.specs.declared.options.Boxing.{Boxing}
+use Rattle.tbl_layout.specs.Columns.{needs_of}
 use Rattle.tbl_layout.specs.Data.{fields}
 use Rattle.tbl_layout.specs.DataLines.{line_kind}
 use Rattle.tbl_layout.specs.Entries.{Block, Command, Element, Row, Rule, content_read}
@@ -13,7 +14,11 @@ use Rattle.tbl_layout.specs.declared.data_lines.LineKind.TheVariants.{Command as
 use Rattle.tbl_layout.specs.RulesWorked.{row_of}
 use Rattle.tbl_layout.specs.Spans.{filled, laid}
 use Rattle.tbl_layout.specs.declared.bars.Bars.{Bars}
-use Rattle.tbl_lines.specs.PictureLines.{picture_lines}
+use Rattle.tbl_layout.specs.Heights.{heights}
+use Rattle.tbl_lines.specs.PictureLeft.{picture_left}
+use Rattle.tbl_layout.specs.declared.columns.Column.{Column}
+use Rattle.tbl_layout.specs.declared.data_lines.RuleSign.{RuleSign}
+use Rattle.tbl_lines.specs.PictureLines.{drawn, picture_lines, places_mark}
 
 -- a line of the data: a rule, a command, or a row whose fields are split at colons
 abbrev pub element_by : FormatRow → LineKind → List ℕ → Element
@@ -125,3 +130,23 @@ abbrev pub lines_of_widths : Boxing → List (Option ℕ) → List Element → L
 lines_of_widths boxing widths elements =
     lines_of_elements (record { boxing = boxing; front = 0; has_any = not (boxing.bars == 0) })
     (map (λ least. record nothing_asked { least = least }) widths) elements
+
+-- the same by what is left of cells, also of several rows
+abbrev pub lines_left_of : Bars → List Asked → List Element → List ℕ
+lines_left_of bars asked elements =
+    let table = laid bars false 65 asked elements in
+    let all = filled bars 65 asked elements in
+    let columns = table.columns in
+    picture_left (record { bars = bars; width = table.width; columns = columns }) (heights bars.boxing.is_inside (length columns) all) all
+
+abbrev pub tall_lines : Boxing → List ℕ → List Element → List ℕ
+tall_lines boxing bars elements =
+    lines_left_of (record { boxing = boxing; front = 0; has_any = true }) (map (λ n. record nothing_asked { bars = n }) bars) elements
+
+-- a column that begins at a place, is so wide and has so many bars behind it
+abbrev pub column_from : ℕ → ℕ → ℕ → Column
+column_from start width bars = record { needs = needs_of []; bars = bars; width = width; start = start }
+
+-- what is drawn behind a column with so many bars behind it, of which so many meet, in front of a column four places further
+abbrev pub places_drawn : ℕ → Option RuleSign → Option RuleSign → ℕ → List ℕ
+places_drawn bars sign next count = drawn 0 (places_mark sign next count (column_from 0 3 bars) (column_from 7 2 0) ∷ [])

@@ -7,7 +7,7 @@ ghost use Rattle.tbl_lines.specs.RowsLeft.{joined_first, joined_kinds};
 ghost use Rattle.tbl_lines.specs.PictureLines.{bars_at, bars_by};
 ghost use Rattle.tbl_lines.specs.RowsWalked.{HasBars, IsNarrow};
 ghost use Rattle.tbl_lines.specs.RowsLent.{LiesInColumns, lent_columns, lent_entries};
-ghost use Rattle.tbl_lines.specs.RowsLent.{lent_format};
+ghost use Rattle.tbl_lines.specs.RowsLent.{lent_format, lent_row, row_fronts_of};
 ghost use Rattle.tbl_layout.specs.KeptEntries.{all_entries};
 
 use crate::row_columns::is_ruled;
@@ -28,10 +28,30 @@ pub enum Front {
     /// The same of bars that two rules of the row cross on its first line, their sign, and where
     /// the second one's column begins.
     Crossed(usize, u8, RuleSign, usize),
+    /// A rule with this sign from a column of the page on, which so many bars cross at another one,
+    /// and which ends there.
+    Ruled(usize, RuleSign, usize, u8, usize),
 }
 
 /// What stands in front of a cell, or behind the last.
 pub fn front_at(row: &RowLent<'_>, at: usize) -> Front
+    requires within { at < length (row_fronts_of (lent_row row.now)) }
+    requires lies { LiesInColumns row.now }
+    ensures at { let all = row_fronts_of (lent_row row.now) in
+        drop at all ≡ cell_of_front result ∷ drop (suc at) all }
+    ensures some { HasBars result }
+{
+    if row.is_plain {
+        return front_by_keys(row, at);
+    }
+    match row.fronts {
+        Some(fronts) => fronts[at],
+        None => front_by_keys(row, at),
+    }
+}
+
+/// What the keys of a row say that stands in front of a cell, or behind the last.
+fn front_by_keys(row: &RowLent<'_>, at: usize) -> Front
     requires within { at < length (fronts_by row.now.bars row.now.width (lent_format row.now)
         (lent_columns row.now) (lent_entries row.now)) }
     requires lies { LiesInColumns row.now }
@@ -119,6 +139,7 @@ impl Front {
             Front::Nothing => false,
             Front::Bars(_, _) => true,
             Front::Crossed(_, _, _, _) => true,
+            Front::Ruled(from, _, _, _, end) => from < end,
         }
     }
 }

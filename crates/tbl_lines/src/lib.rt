@@ -4,6 +4,7 @@
 
 pub mod fronts;
 pub mod laws;
+pub mod plain_tables;
 pub mod row_columns;
 pub mod row_lent;
 pub mod worked_bars;
@@ -11,3 +12,4 @@ pub mod worked_boxes;
 pub mod worked_rule_keys;
 pub mod worked_rules;
 pub mod worked_spans;
+pub mod worked_tall;

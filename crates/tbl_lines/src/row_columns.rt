@@ -140,7 +140,7 @@ fn rule_end_before(bars: u8, is_joined: bool, column: Column, next: Column) -> u
 }
 
 /// Where a rule over a cell ends that goes on with the next one, with so many bars between them.
-fn joint(bars: u8, column: Column, next: Column) -> usize
+pub fn joint(bars: u8, column: Column, next: Column) -> usize
     requires { IsNarrow column }
     ensures { result ≡ joint bars column next }
 {
@@ -241,6 +241,7 @@ impl RowColumn {
                 )
             }
             EntryKind::Repeated(byte) => has_repeated_glyph(line, byte, self.column.width),
+            EntryKind::Above => false,
         }
     }
 }

@@ -7,6 +7,7 @@ ghost use Rattle.tbl_lines.specs.PictureLines.{bars_among, bars_at_edge, bars_be
 ghost use Rattle.tbl_lines.specs.RowsWalked.{IsNarrow};
 ghost use Rattle.tbl_lines.specs.RowsLent.{LiesInColumns, lent_columns, lent_format};
 
+use crate::fronts::Front;
 use tbl_format::cells::{cell_count, end_of, start_of};
 use tbl_format::format::FormatKey;
 use tbl_layout::bars::{Bars, edge_bars, inner_bars};
@@ -32,8 +33,10 @@ pub struct RowLent<'a> {
     pub entries: &'a [Entry],
     /// How many lines it has.
     pub height: u32,
-    /// Whether each of its cells has one column.
+    /// Whether each of its cells has one column, and its keys say what stands in front of them.
     pub is_plain: bool,
+    /// What stands in front of each cell, and behind the last, if its keys don't say that.
+    pub fronts: Option<&'a [Front]>,
 }
 
 /// How many bars stand in front of the key of a cell of a row, or behind the last, of which there

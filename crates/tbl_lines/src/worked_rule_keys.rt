@@ -1,10 +1,11 @@
 //! Worked rows of rule keys: what the definitions give for them.
 
-ghost use Rattle.std.specs.Prelude.{◌≡◌, [], ◌∷◌, ◌++◌, codes};
+ghost use Rattle.std.specs.Prelude.{◌≡◌, [], ◌∷◌, ◌++◌, None, Some, codes};
 ghost use Rattle.tbl_format.specs.Format.{plain_key};
 ghost use Rattle.tbl_format.specs.declared.format.Key.TheVariants.{DoubleRule, Left, Rule};
+ghost use Rattle.tbl_layout.specs.declared.data_lines.RuleSign.TheVariants.{Double, Single};
 ghost use Rattle.tbl_lines.specs.WorkedPictures.{around, each_field, keys_alone, lines_ruled};
-ghost use Rattle.tbl_lines.specs.WorkedPictures.{lines_ruled_alone, not_boxed};
+ghost use Rattle.tbl_lines.specs.WorkedPictures.{lines_ruled_alone, not_boxed, places_drawn};
 
 /// Rows of rule keys (`_ _ _` and `_ _`) in front of a row, without bars, and where their signs
 /// differ.
@@ -64,4 +65,14 @@ pub fn boxed()
         (codes "a:b" ∷ codes "c:d" ∷ codes "e:f" ∷ [])
         ≡ codes "\\&+---+---+\n\\&| a | b |\n\\&| --+-- |\n\\&| --+   |\n"
         ++ codes "\\&| c | d |\n\\&+---+---+\n\\&| e | f |\n\\&+---+---+\n" }
+{}
+
+/// At the two places of bars in the middle of four places between columns: where the first column is
+/// ruled, where the next one alone is, and where none is.
+pub fn places()
+    ensures first { places_drawn 2 (Some Single) (Some Double) 1 ≡ codes "   -+-" }
+    ensures next { places_drawn 2 None (Some Double) 1 ≡ codes "    +=" }
+    ensures next_crossed { places_drawn 2 None (Some Double) 2 ≡ codes "    ++" }
+    ensures next_alone { places_drawn 2 None (Some Double) 0 ≡ codes "    ==" }
+    ensures none { places_drawn 2 None None 1 ≡ codes "    |" }
 {}

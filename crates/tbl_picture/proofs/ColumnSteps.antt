@@ -7,13 +7,13 @@ use Rattle.tbl_layout.specs.declared.entry.Entry.{Entry}
 use Rattle.tbl_layout.specs.declared.entry.EntryKind.TheVariants.{Text}
 use Rattle.tbl_lines.specs.PictureLines.{Cell, with_fronts}
 use Rattle.tbl_pieces.specs.PieceQueue.{Adds, KeptPieces}
-use Rattle.tbl_lines.specs.RowsLeft.{behind_first, block_text, cell_left, fronts_by, given, one_less, row_columns, then_fronts}
+use Rattle.tbl_lines.specs.RowsLeft.{behind_first, block_text, cell_left, given, one_less, row_columns, then_fronts}
 use Rattle.tbl_lines.specs.RowsWalked.{LastHasGlyph, PlacesLie, StandsInFirst, StandsNext, front_count, most_steps, steps_of_cells, steps_of_columns}
-use Rattle.tbl_picture.specs.Walks.{AtColumn, InLine, IsOn, IsUnderWay, KeptWalk, OnLine, RowSteps, WalkedRow, at_word, cells_in_front, cells_left, columns_left, columns_walked, fields_left, fields_now, fronts_of, further_lines, next_column, passed, row_left, row_steps, steps_of_rest}
+use Rattle.tbl_picture.specs.Walks.{AtColumn, InLine, IsOn, IsUnderWay, KeptWalk, OnLine, RowSteps, WalkedRow, row_fronts_of, at_word, cells_in_front, cells_left, columns_left, columns_walked, fields_left, fields_now, fronts_of, further_lines, next_column, passed, row_left, row_steps, steps_of_rest}
 use Rattle.tbl_lines.specs.declared.row_columns.RowColumn.{RowColumn}
 use Rattle.tbl_picture.specs.Nexts.{AtCell, AtFront, AtWord, Next}
 use Rattle.tbl_pieces.proofs.Adding.{adds-fitting}
-use Rattle.tbl_lines.proofs.FrontCells.{many-fronts, no-fronts}
+use Rattle.tbl_lines.proofs.FrontCells.{count-fronts, no-fronts}
 use Rattle.tbl_lines.proofs.RowColumns.{column-lies, length-places, places-push, row-column, row_columns-push, take-next}
 use Rattle.tbl_lines.proofs.RunsGiven.{last-behind}
 use Rattle.tbl_text.specs.BlockPlaces.{IsWithin}
@@ -140,7 +140,7 @@ module _ (row : WalkedRow) (w : KeptWalk) (r : RowColumn) (at : AtColumn row w r
   on-passed p reached within moved =
       let b = at.line.on.before in
       record {
-        before = record { line = b.line; short = b.short; room = b.room; narrow = b.narrow; lie = b.lie; places = b.places };
+        before = record { line = b.line; short = b.short; room = b.room; narrow = b.narrow; lie = b.lie; fronts = b.fronts; places = b.places };
         column = omega (arith, few-behind, length-push w.behind p);
         places = subst (λ (n : ℕ). PlacesLie row.bytes (take n row.entries) (w.behind ++ p ∷ [])) (sym (length-push w.behind p))
             (places-push row.bytes row.entries w.behind p r.entry (drop (suc (length w.behind)) row.entries) at.entries within at.line.on.places);
@@ -175,7 +175,7 @@ module _ (row : WalkedRow) (w : KeptWalk) (r : RowColumn) (at : AtColumn row w r
     few : row_steps next row (passed row.bars.has_any p reached w) ≤ steps_behind
 
   boxed-passed : (p : BlockPlace) (reached : ℕ) → OnLine row (passed row.bars.has_any p reached w)
-      → suc (length w.behind) < length (fronts_by row.bars row.width row.format row.columns row.entries)
+      → suc (length w.behind) < length (row_fronts_of row)
       → Passed p reached (AtFront (length (w.behind ++ p ∷ [])))
   boxed-passed p reached on many = record {
     can = record {
@@ -206,7 +206,7 @@ module _ (row : WalkedRow) (w : KeptWalk) (r : RowColumn) (at : AtColumn row w r
       }
   next-passed true p reached is on =
       boxed-passed p reached on
-      (many-fronts row.bars row.width row.format row.columns row.entries is (length w.behind) few-behind at.line.on.before.short)
+      (omega (arith, few-behind, at.line.on.before.short, count-fronts row at.line.on.before.fronts is))
 
   -- a step that passes it
   pub steps-passed : (frame : List ℕ) (before after : KeptPieces) (p : BlockPlace) (reached : ℕ) (added : List ℕ)
@@ -270,7 +270,7 @@ module _ (row : WalkedRow) (w : KeptWalk) (r : RowColumn) (at : AtColumn row w r
         can = record {
           line = record {
             on = record {
-              before = record { line = b.line; short = b.short; room = b.room; narrow = b.narrow; lie = b.lie; places = b.places };
+              before = record { line = b.line; short = b.short; room = b.room; narrow = b.narrow; lie = b.lie; fronts = b.fronts; places = b.places };
               column = l.column;
               places = l.places;
               moved = l.moved;

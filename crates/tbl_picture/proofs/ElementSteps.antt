@@ -19,13 +19,13 @@ use Rattle.tbl_picture.specs.declared.walk.beside.Beside.TheVariants.{Nothing as
 use Rattle.tbl_picture.specs.declared.walk.rules.RuleLine.{RuleLine as LineBegun}
 use Rattle.tbl_picture.specs.declared.walk.rules.RuleLine.TheVariants.{OfKeys as KeysBegun}
 use Rattle.tbl_pieces.proofs.Adding.{adds-fewer, adds-fitting, adds-none}
-use Rattle.tbl_lines.proofs.AllLaid.{all-laid}
+use Rattle.tbl_kept.proofs.AllLaid.{all-laid}
 use Rattle.tbl_lines.proofs.CellsLent.{narrow-cells}
 use Rattle.tbl_picture.proofs.BoxedElements.{boxed-keys}
 use Rattle.tbl_lines.proofs.RowLines.{lines-begun, row-high}
 use Rattle.tbl_lines.proofs.RowsBegun.{entries-lie, first-places}
 use Rattle.tbl_picture.proofs.RowsOn.{some-on}
-use Rattle.tbl_picture.proofs.RowSteps.{row-laid, stand-few, stand-short}
+use Rattle.tbl_picture.proofs.RowSteps.{row-laid, row-plain, stand-few, stand-short}
 use Rattle.tbl_picture.proofs.RulePlaces.{unbarred-same}
 use Rattle.tbl_picture.proofs.RulesBegun.{rows-first, unbarred}
 use Rattle.tbl_picture.proofs.StepsGiven.{gives}
@@ -84,6 +84,7 @@ module _ (bytes frame : List ℕ) (formats : List FormatRow) (rows : KeptRows) (
         (adds-fitting bytes frame before after (rule_front (Whole sign) rule.left) b.adds) text some-lines
         (record {
           laid = can.laid;
+          plain = can.plain;
           narrow = can.narrow;
           places = can.places;
           room = can.room;
@@ -109,6 +110,7 @@ module _ (bytes frame : List ℕ) (formats : List FormatRow) (rows : KeptRows) (
         some-lines
         (record {
           laid = can.laid;
+          plain = can.plain;
           narrow = can.narrow;
           places = can.places;
           room = can.room;
@@ -125,8 +127,8 @@ module _ (bytes frame : List ℕ) (formats : List FormatRow) (rows : KeptRows) (
         subst (λ (k : KeptWalk). Steps bytes frame formats rows w k before after) (sym walk) (rule-given none adds)
 
   -- a row comes next
-  module _ (keys rules height : ℕ) (entries : List Entry) (elements : List KeptElement)
-      (at : drop w.element rows.elements ≡ Row keys rules height entries ∷ elements) where
+  module _ (keys rules height : ℕ) (is_tall : Bool) (entries : List Entry) (elements : List KeptElement)
+      (at : drop w.element rows.elements ≡ Row keys rules height is_tall entries ∷ elements) where
     abbrev pub stand : List Entry
     stand = all_entries (row_at formats keys) entries
 
@@ -140,23 +142,25 @@ module _ (bytes frame : List ℕ) (formats : List FormatRow) (rows : KeptRows) (
     pub row-starts : (place : ℕ) (text : List ℕ) (above : Neighbour) → AddsFitting bytes frame before after text
         → still_to_come bytes formats rows w
         ≡ text ++ lines_behind (sheet_of rows w) above (OneRow [] (row_at formats keys) fields ∷ boxed_from w.bars.boxing true behind)
-        → steps_before_row bytes formats rows (Row keys rules height entries ∷ elements) < steps_left bytes formats rows w
+        → steps_before_row bytes formats rows (Row keys rules height is_tall entries ∷ elements) < steps_left bytes formats rows w
         → Steps bytes frame formats rows w (row_begun stand (record w { place = place })) before after
     row-starts place text above adds lines fewer =
         let new = row_begun stand (record w { place = place }) in
         let row = walked bytes formats w.bars w.picture_width rows.columns keys height entries in
         let cells = row_cells (sheet_of rows w) (row_at formats keys) fields in
-        let laid = row-laid bytes frame formats rows w can before after within keys rules height entries elements at in
+        let laid = row-laid bytes frame formats rows w can before after within keys rules height is_tall entries elements at in
+        let plain = row-plain bytes frame formats rows w can before after within keys rules height is_tall entries elements at in
         let high : row_height cells ≡ height =
-        row-high bytes formats w.bars w.picture_width rows.columns keys rules height entries laid in
+        row-high bytes formats w.bars w.picture_width rows.columns keys rules height entries laid plain in
         let front = lines_from 0 (row_height cells) cells in
         let left = row_left AtLine row new in
-        let lines_row : front ≡ left = lines-begun bytes formats w.bars w.picture_width rows.columns keys rules height entries laid in
+        let lines_row : front ≡ left = lines-begun bytes formats w.bars w.picture_width rows.columns keys rules height entries laid plain in
         let rest : Bool → List ℕ = λ is_first. lines_on (sheet_of rows w) true (OfRow is_first (row_at formats keys) fields) behind in
         let before_line : BeforeLine row new = record {
-          line = omega (arith, laid.high);
-          short = stand-short bytes formats rows.columns keys rules height entries laid;
-          room = omega (arith, stand-few bytes formats (length rows.columns) keys rules height entries laid, can.room);
+          line = omega (arith, plain);
+          short = stand-short bytes formats rows.columns keys rules entries laid;
+          room = omega (arith, stand-few bytes formats (length rows.columns) keys rules entries laid, can.room);
+          fronts = tt;
           narrow = narrow-cells (row_at formats keys).keys rows.columns can.narrow;
           lie = entries-lie bytes (row_at formats keys) 0 stand (all-laid bytes (row_at formats keys) entries laid.laid);
           places = first-places bytes stand;
@@ -177,6 +181,7 @@ module _ (bytes frame : List ℕ) (formats : List FormatRow) (rows : KeptRows) (
         ))
         (record {
           laid = can.laid;
+          plain = can.plain;
           narrow = can.narrow;
           places = can.places;
           room = can.room;
@@ -193,12 +198,12 @@ module _ (bytes frame : List ℕ) (formats : List FormatRow) (rows : KeptRows) (
     rules-come new next some c =
         let first = keys - rules in
         let left = rules - 1 in
-        let all = Row keys rules height entries ∷ elements in
+        let all = Row keys rules height is_tall entries ∷ elements in
         let s = sheet_of rows w in
         let above = line_beside bytes formats false rows.elements w.above in
         let rule = c.rule in
         let come : KeptWalk = record w { next = AtRuleRow rule } in
-        let laid = row-laid bytes frame formats rows w can before after within keys rules height entries elements at in
+        let laid = row-laid bytes frame formats rows w can before after within keys rules height is_tall entries elements at in
         let within_rows : first < length formats = omega (arith, laid.serves, laid.in_front, some) in
         let rules_is : rules ≡ suc left = omega (arith, some) in
         let none : first - first ≡ 0 = omega arith in
@@ -231,16 +236,17 @@ module _ (bytes frame : List ℕ) (formats : List FormatRow) (rows : KeptRows) (
         subst (λ (k : KeptWalk). Steps bytes frame formats rows w k before before) (sym c.walk)
         (gives bytes frame formats rows w before before within come []
         (adds-fitting bytes frame before before [] (adds-fewer bytes frame 0 4 before before [] (omega arith) (adds-none bytes frame before)))
-        (old_lines ∙ from-keys bytes formats s keys rules height entries elements above first left within_rows ∙ sym new_lines)
+        (old_lines ∙ from-keys bytes formats s keys rules height is_tall entries elements above first left within_rows ∙ sym new_lines)
         (omega (
           arith,
-          ap length (old_lines ∙ from-keys bytes formats s keys rules height entries elements above first left within_rows),
+          ap length (old_lines ∙ from-keys bytes formats s keys rules height is_tall entries elements above first left within_rows),
           length-append (rule_line s (OfKeys (row_at formats first)) above
               (behind_rules (rows_at formats (suc first) left) (line_of_first bytes formats true all)))
               (lines_with_rules bytes formats s (OfRules (row_at formats first) above) (rows_at formats (suc first) left) all),
         ))
         (record {
           laid = can.laid;
+          plain = can.plain;
           narrow = can.narrow;
           places = can.places;
           room = can.room;

@@ -5,21 +5,22 @@ use Rattle.std.proofs.lemmas.Bool.{ltb-true, ltb-false}
 use Rattle.std.proofs.lemmas.List.{append-nil, drop_all, length-map}
 use Rattle.roff_source.specs.Bytes.{blank}
 use Rattle.tbl_layout.specs.DataLines.{sign_byte}
-use Rattle.tbl_layout.specs.Entries.{Run, blanks, columns_of}
+use Rattle.tbl_layout.specs.Entries.{Run, before_glyphs, blanks, columns_of, up_to_last_glyph}
 use Rattle.tbl_layout.specs.declared.data_lines.RuleSign.{RuleSign}
 use Rattle.tbl_layout.specs.declared.data_lines.RuleSign.TheVariants.{Double, Single}
 use Rattle.tbl_lines.specs.PictureLines.{Cell, at_column, bar, bars_at, crossed_at, crossing, end_of, nothing_there, repeated, with_fronts}
 use Rattle.tbl_pieces.specs.PieceQueue.{Adds, KeptPieces}
-use Rattle.tbl_lines.specs.RowsLeft.{cell_left, first_of, from_line, fronts_by, given, given_of, if_given, one_less, then_fronts}
+use Rattle.tbl_lines.specs.RowsLeft.{cell_left, cell_of_front, first_of, from_line, given, given_of, if_given, one_less, then_fronts}
+use Rattle.tbl_lines.specs.declared.fronts.Front.TheVariants.{Ruled as RuledFront}
 use Rattle.tbl_lines.specs.RowsWalked.{HasGlyph, LastHasGlyph, front_count, most_steps, steps_of_cells, steps_of_columns}
-use Rattle.tbl_picture.specs.Walks.{FrontStands, InFront, IsOn, IsUnderWay, KeptWalk, OnLine, RowSteps, WalkedRow, cells_in_front, cells_left, columns_left, columns_walked, fields_left, fronts_of, front_passed, further_lines, next_behind, row_left, row_steps, steps_of_rest}
+use Rattle.tbl_picture.specs.Walks.{FrontStands, InFront, IsOn, IsUnderWay, KeptWalk, OnLine, RowSteps, WalkedRow, cells_in_front, cells_left, columns_left, columns_walked, fields_left, fronts_of, row_fronts_of, front_passed, further_lines, next_behind, row_left, row_steps, steps_of_rest}
 use Rattle.tbl_picture.specs.Nexts.{AtCell, AtFront, Next}
 use Rattle.tbl_pieces.proofs.Adding.{adds-fewer, adds-fitting, adds-none}
 use Rattle.tbl_lines.proofs.CellsGiven.{none-given, repeated-last, run-given}
 use Rattle.tbl_picture.proofs.ColumnSteps.{steps-cells}
-use Rattle.tbl_lines.proofs.FrontCells.{any-some, front-count}
+use Rattle.tbl_lines.proofs.FrontCells.{any-front, count-fronts}
 use Rattle.tbl_lines.proofs.RowColumns.{drop-none, length-places, length-row_columns, map-at}
-use Rattle.tbl_lines.proofs.RunsGiven.{given-before, given-last, glyph-before, last-behind}
+use Rattle.tbl_lines.proofs.RunsGiven.{given-before, given-last, glyph-before, glyph-first, last-behind}
 
 -- cells behind what stands in front of the first of them
 abbrev pub behind_front : List Cell → List Cell → List Cell
@@ -40,11 +41,11 @@ none-long (x ∷ xs) is = absurd (omega (arith, is))
 
 -- what stands in front of a column
 pub front-stands : (row : WalkedRow) (w : KeptWalk) (at : ℕ) (f : Cell) → InFront row at w
-    → drop at (fronts_by row.bars row.width row.format row.columns row.entries) ≡ f ∷ drop (suc at) (fronts_by row.bars row.width row.format row.columns row.entries)
+    → drop at (row_fronts_of row) ≡ f ∷ drop (suc at) (row_fronts_of row)
     → FrontStands row at f w
 front-stands row w at f front is = record {
   front = front;
-  first = map-at (from_line w.line) at (fronts_by row.bars row.width row.format row.columns row.entries) f is;
+  first = map-at (from_line w.line) at (row_fronts_of row) f is;
 }
 
 module _ (row : WalkedRow) (w : KeptWalk) (at : ℕ) (f : Cell) (stands : FrontStands row at f w) (reached : ℕ) where
@@ -65,10 +66,9 @@ module _ (row : WalkedRow) (w : KeptWalk) (at : ℕ) (f : Cell) (stands : FrontS
   last-front : LastHasGlyph (one_less w.count) behind_now
   last-front = last-behind w.count front_now behind_now (subst (LastHasGlyph w.count) front-first stands.front.last)
 
-  all-fronts : length (fronts_by row.bars row.width row.format row.columns row.entries) ≡ front_count row.columns
+  all-fronts : length (row_fronts_of row) ≡ front_count row.columns
   all-fronts =
-      front-count row.bars row.width row.format row.columns row.entries
-      (any-some row.bars row.width row.format row.columns row.entries at stands.front.within)
+      count-fronts row stands.front.on.before.fronts (any-front row at stands.front.within)
 
   many-left : length (fields_left row w) ≡ length row.entries - length w.behind
   many-left =
@@ -85,7 +85,7 @@ module _ (row : WalkedRow) (w : KeptWalk) (at : ℕ) (f : Cell) (stands : FrontS
       let o = stands.front.on in
       let b = o.before in
       record {
-        before = record { line = b.line; short = b.short; room = b.room; narrow = b.narrow; lie = b.lie; places = b.places };
+        before = record { line = b.line; short = b.short; room = b.room; narrow = b.narrow; lie = b.lie; fronts = b.fronts; places = b.places };
         column = o.column;
         places = o.places;
         moved = o.moved;
@@ -158,7 +158,7 @@ module _ (row : WalkedRow) (w : KeptWalk) (at : ℕ) (f : Cell) (stands : FrontS
   next-by false false is_field is =
       let past : length row.entries ≤ length w.behind = omega (arith, many-places, ltb-false (length w.behind) (length w.places) is_field) in
       let edge = ltb-false at (max 1 (length row.columns)) is in
-      let all = fronts_by row.bars row.width row.format row.columns row.entries in
+      let all = row_fronts_of row in
       let none : fields_left row w ≡ [] = none-long (fields_left row w) (omega (arith, many-left, past)) in
       let no_entry : drop (length w.behind) row.entries ≡ [] = drop_all (length w.behind) row.entries (omega (arith, past)) in
       let no_front : drop (suc at) (fronts_of row w.line) ≡ [] =
@@ -242,6 +242,41 @@ crossing-given count gap n k sign =
     given-before count (blanks gap) (crossed ∷ rest ∷ []) (λ _. glyph-before (crossed ∷ []) (rest ∷ []) (omega arith))
     ∙ ap (λ (more : List ℕ). if_given count (replicate gap blank) ++ more) (crossing-two count n k sign)
 
+-- what is given of a run of glyphs, and of a rule that bars cross
+glyphs-before : (run : Run) (bytes : List ℕ) → run.to_glyph ≡ run.bytes → before_glyphs run bytes ≡ run.bytes ++ bytes
+glyphs-before run [] same = same ∙ sym (append-nil run.bytes)
+glyphs-before run (b ∷ bytes) same = refl
+
+glyphs-given : (count : ℕ) (run : Run) (runs : List Run) → run.to_glyph ≡ run.bytes
+    → given_of count (run ∷ runs) ≡ if_given count run.bytes ++ given_of count runs
+glyphs-given zero run runs same = refl
+glyphs-given (suc zero) run runs same = glyphs-before run (up_to_last_glyph runs) same
+glyphs-given (suc (suc n)) run runs same = given-before (suc (suc n)) run runs (λ is. absurd (omega (arith, is)))
+
+no-runs : (count : ℕ) → given_of count [] ≡ []
+no-runs zero = refl
+no-runs (suc zero) = refl
+no-runs (suc (suc n)) = refl
+
+rule-glyphs : (sign : RuleSign) (k : ℕ) → (repeated (sign_byte sign) k).to_glyph ≡ replicate k (sign_byte sign)
+rule-glyphs Single k = refl
+rule-glyphs Double k = refl
+
+ruled-three : (count j n k : ℕ) (sign : RuleSign)
+    → given_of count (repeated (sign_byte sign) j ∷ repeated crossing n ∷ repeated (sign_byte sign) k ∷ [])
+    ≡ if_given count (replicate j (sign_byte sign)) ++ (if_given count (replicate n crossing) ++ if_given count (replicate k (sign_byte sign)))
+ruled-three count j n k sign =
+    let before = repeated (sign_byte sign) j in
+    let crossed = repeated crossing n in
+    let rest = repeated (sign_byte sign) k in
+    glyphs-given count before (crossed ∷ rest ∷ []) (rule-glyphs sign j)
+    ∙ ap (λ (more : List ℕ). if_given count before.bytes ++ more)
+    (glyphs-given count crossed (rest ∷ []) refl
+    ∙ ap (λ (more : List ℕ). if_given count crossed.bytes ++ more)
+    (glyphs-given count rest [] (rule-glyphs sign k)
+    ∙ ap (λ (more : List ℕ). if_given count rest.bytes ++ more) (no-runs count)
+    ∙ append-nil (if_given count rest.bytes)))
+
 module _ (row : WalkedRow) (w : KeptWalk) (at : ℕ) (next : w.next ≡ AtFront at) (frame : List ℕ) where
   -- some bars
   pub bars-steps : (n : ℕ) (before after : KeptPieces) (place gap reached : ℕ) → 0 < n → FrontStands row at (bars_at place n) w
@@ -292,3 +327,35 @@ module _ (row : WalkedRow) (w : KeptWalk) (at : ℕ) (next : w.next ≡ AtFront 
       ∙ ap (λ (n : ℕ). given_of w.count (blanks n ∷ runs rest) ++ given (one_less w.count) (place + columns_of (runs rest)) behind) (sym gap_is)
       ∙ ap (λ (front : List ℕ). front ++ given (one_less w.count) (place + columns_of (runs rest)) behind) (crossing-given w.count gap m rest sign)
       ∙ ap (λ (n : ℕ). (if_given w.count (replicate gap blank) ++ more) ++ given (one_less w.count) n behind) wide)
+
+  -- a rule that bars cross
+  pub ruled-steps : (n : ℕ) (before after : KeptPieces) (from place end gap front rest reached : ℕ) (sign : RuleSign)
+      → FrontStands row at (cell_of_front (RuledFront from sign place n end)) w
+      → gap ≡ from - w.place → front ≡ place - from → rest ≡ end - (place + n) → reached ≡ from + (front + n + rest)
+      → Adds row.bytes frame 4 before after
+      (if_given w.count (replicate gap blank) ++ (if_given w.count (replicate front (sign_byte sign))
+      ++ (if_given w.count (replicate n crossing) ++ if_given w.count (replicate rest (sign_byte sign)))))
+      → RowSteps frame row w (front_passed row at reached w) before after
+  ruled-steps n before after from place end gap front rest reached sign stands gap_is front_is rest_is reached_is adds =
+      let f = cell_of_front (RuledFront from sign place n end) in
+      let now = from_line w.line f in
+      let behind = behind_now row w at f stands reached in
+      let runs : ℕ → ℕ → List Run = λ j k. repeated (sign_byte sign) j ∷ repeated crossing n ∷ repeated (sign_byte sign) k ∷ [] in
+      let all = runs front rest in
+      let first : first_of now ≡ all =
+      ap (λ (lines : List (List Run)). get_or lines 0 (runs (place - from) (end - (place + n)))) (drop-none w.line)
+      ∙ ap (λ (j : ℕ). runs j (end - (place + n))) (sym front_is)
+      ∙ ap (runs front) (sym rest_is) in
+      let has : w.count ≡ 1 → HasGlyph all = λ one.
+      subst HasGlyph first (glyph-first w.count now behind (subst (LastHasGlyph w.count) (front-first row w at f stands reached) stands.front.last) one) in
+      let text : List ℕ = if_given w.count (replicate front (sign_byte sign))
+      ++ (if_given w.count (replicate n crossing) ++ if_given w.count (replicate rest (sign_byte sign))) in
+      let g : List Run → List ℕ = λ text. given_of w.count (at_column from w.place text) ++ given (one_less w.count) (end_of from w.place text) behind in
+      let last : ℕ → List ℕ = λ reached. given (one_less w.count) reached behind in
+      let wide : from + columns_of all ≡ reached = omega (arith, reached_is) in
+      front-passed row w at f stands reached frame before after (if_given w.count (replicate gap blank) ++ text) next adds
+      (ap g first
+      ∙ ap (λ (k : ℕ). given_of w.count (blanks k ∷ all) ++ last (from + columns_of all)) (sym gap_is)
+      ∙ ap (λ (front : List ℕ). front ++ last (from + columns_of all))
+      (given-before w.count (blanks gap) all has ∙ ap (λ (more : List ℕ). if_given w.count (replicate gap blank) ++ more) (ruled-three w.count front n rest sign))
+      ∙ ap (λ (k : ℕ). (if_given w.count (replicate gap blank) ++ text) ++ last k) wide)

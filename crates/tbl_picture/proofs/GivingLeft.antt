@@ -1,5 +1,5 @@
 -- What is still to give of a table, behind the pieces that follow.
-use Rattle.std.proofs.Common.{◌≡◌, ℕ, ◌+◌, ◌-◌, ◌<◌, ◌≤◌, Bool, true, false, List, [], ◌∷◌, ◌++◌, length, take, drop, refl, sym, ap, subst, ◌∙◌, arith, append_assoc, ◌==◌, if◌then◌else◌, ne_eqb}
+use Rattle.std.proofs.Common.{◌≡◌, ℕ, ◌+◌, ◌-◌, ◌^◌, ◌<◌, ◌≤◌, Bool, true, false, List, [], ◌∷◌, ◌++◌, length, take, drop, refl, sym, ap, subst, ◌∙◌, arith, append_assoc, ◌==◌, if◌then◌else◌, ne_eqb}
 use Rattle.std.specs.List.{slice_range}
 use Rattle.std.proofs.lemmas.List.{append-nil, drop_all, length-take, take-append-le}
 use Rattle.roff_source.specs.Bytes.{backslash, newline}
@@ -11,8 +11,8 @@ use Rattle.tbl_kept.specs.Rows.{KeptRows}
 use Rattle.tbl_kept.specs.TableText.{KeptText, block_of}
 use Rattle.tbl_kept.specs.declared.table_text.Joint.{Joint as JointAt}
 use Rattle.tbl_layout.specs.declared.bars.Bars.{Bars}
-use Rattle.tbl_picture.specs.Giving.{CanGive, IsLast, KeptGiving, coming, following, last_piece, lines_laid, lines_left, with_newline}
-use Rattle.tbl_pieces.specs.PieceQueue.{bytes_left}
+use Rattle.tbl_picture.specs.Giving.{CanFollowBy, CanGive, IsLast, KeptGiving, LinesStart, coming, following, following_by, last_piece, lines_laid, lines_left_by, with_newline}
+use Rattle.tbl_pieces.specs.PieceQueue.{KeptPieces, bytes_left}
 use Rattle.tbl_picture.specs.Frame.{before_lines, behind_lines, picture}
 use Rattle.tbl_pieces.specs.Pieces.{AreWithin, bytes_of, bytes_of_all, piece_len, some_piece}
 use Rattle.tbl_picture.specs.declared.giving.Rest.{Rest}
@@ -169,24 +169,24 @@ module _ (t : KeptText) (r : KeptRows) (k : KeptFormat) (g : KeptGiving) where
 
   -- the picture
   module _ (indent : ℕ) (bars : Bars) (width : ℕ) (front : take g.frame_end g.frame ≡ before_lines indent) (behind : drop g.frame_end g.frame ≡ behind_lines indent) where
-    picture-bytes : lines_left t r k g.walk ≡ lines_laid bars width t r k
-        → bytes_of_all (block_of t) g.frame (some_piece (Frame 0 g.frame_end)) ++ (lines_left t r k g.walk ++ (drop g.frame_end g.frame ++ t.line))
+    picture-bytes : lines_left_by g.is_tall t r k g.walk g.lines ≡ lines_laid bars width t r k
+        → bytes_of_all (block_of t) g.frame (some_piece (Frame 0 g.frame_end)) ++ (lines_left_by g.is_tall t r k g.walk g.lines ++ (drop g.frame_end g.frame ++ t.line))
         ≡ picture indent (lines_laid bars width t r k) ++ t.line
     picture-bytes walk =
         let lines = lines_laid bars width t r k in
         let whole : g.frame_end - 0 ≡ g.frame_end = omega arith in
-        ap (λ (bytes : List ℕ). bytes ++ (lines_left t r k g.walk ++ (drop g.frame_end g.frame ++ t.line)))
+        ap (λ (bytes : List ℕ). bytes ++ (lines_left_by g.is_tall t r k g.walk g.lines ++ (drop g.frame_end g.frame ++ t.line)))
         (frame-alone (block_of t) g.frame 0 g.frame_end ∙ ap (λ (n : ℕ). take n g.frame) whole ∙ front)
         ∙ ap (λ (bytes : List ℕ). before_lines indent ++ (bytes ++ (drop g.frame_end g.frame ++ t.line))) walk
         ∙ ap (λ (bytes : List ℕ). before_lines indent ++ (lines ++ (bytes ++ t.line))) behind
         ∙ ap (λ (bytes : List ℕ). before_lines indent ++ bytes) (sym (append_assoc lines (behind_lines indent) t.line))
         ∙ sym (append_assoc (before_lines indent) (lines ++ behind_lines indent) t.line)
 
-    pub coming-picture : lines_left t r k g.walk ≡ lines_laid bars width t r k
+    pub coming-picture : lines_left_by g.is_tall t r k g.walk g.lines ≡ lines_laid bars width t r k
         → coming t r k (giving_of (some_piece (Frame 0 g.frame_end)) g Lines)
         ≡ with_newline g.has_newline (picture indent (lines_laid bars width t r k) ++ t.line)
     coming-picture walk =
-        newline-append g.has_newline (bytes_of_all (block_of t) g.frame (some_piece (Frame 0 g.frame_end))) (lines_left t r k g.walk ++ (drop g.frame_end g.frame ++ t.line))
+        newline-append g.has_newline (bytes_of_all (block_of t) g.frame (some_piece (Frame 0 g.frame_end))) (lines_left_by g.is_tall t r k g.walk g.lines ++ (drop g.frame_end g.frame ++ t.line))
         ∙ ap (with_newline g.has_newline) (picture-bytes walk)
 
 -- what stands behind the lines of the picture: the requests behind it, and the line begun
@@ -206,7 +206,7 @@ front-more front xs ys is =
 
 -- where lines follow
 pub following-lines : (t : KeptText) (r : KeptRows) (k : KeptFormat) (g : KeptGiving) → g.rest ≡ Lines
-    → following t r k g ≡ with_newline g.has_newline (lines_left t r k g.walk ++ (drop g.frame_end g.frame ++ t.line))
+    → following t r k g ≡ with_newline g.has_newline (lines_left_by g.is_tall t r k g.walk g.lines ++ (drop g.frame_end g.frame ++ t.line))
 following-lines t r k g is = ap (λ (rest : Rest). following t r k (record g { rest = rest })) is
 
 -- a piece that has a byte is one
@@ -216,3 +216,29 @@ long-by false piece is = omega arith
 
 pub some-long : (piece : Piece) → 0 < piece_len piece → 0 < length (some_piece piece)
 some-long piece some = long-by (piece_len piece == 0) piece (ne_eqb (piece_len piece) 0 (λ is. omega (arith, some, is)))
+
+-- the picture begins, with the requests in front of it
+module _ (t : KeptText) (r : KeptRows) (k : KeptFormat) (bars : Bars) (width : ℕ) (old new : KeptGiving) (starts : LinesStart bars width t r k old new)
+    (pieces : KeptPieces) (pieces_are : old.pieces ≡ pieces) (rest : old.rest ≡ Lines) where
+  pub started-coming : coming t r k new ≡ bytes_left (block_of t) old.frame pieces
+      ++ with_newline old.has_newline (lines_left_by new.is_tall t r k new.walk new.lines ++ (drop old.frame_end old.frame ++ t.line))
+  started-coming =
+      let block = block_of t in
+      let lines = lines_left_by new.is_tall t r k new.walk new.lines in
+      ap (λ (q : KeptPieces). bytes_left block new.frame q ++ following t r k new) (starts.pieces ∙ pieces_are)
+      ∙ ap (λ (frame : List ℕ). bytes_left block frame pieces ++ following_by new.rest new.has_newline t r k lines (drop new.frame_end frame)) starts.frame
+      ∙ ap (λ (end : ℕ). bytes_left block old.frame pieces ++ following_by new.rest new.has_newline t r k lines (drop end old.frame)) starts.frame_end
+      ∙ ap (λ (is : Bool). bytes_left block old.frame pieces ++ following_by new.rest is t r k lines (drop old.frame_end old.frame)) starts.newline
+      ∙ ap (λ (what : Rest). bytes_left block old.frame pieces ++ following_by what old.has_newline t r k lines (drop old.frame_end old.frame)) (starts.rest ∙ rest)
+
+  pub started-can : length (block_of t) < 2 ^ 33 → AreWithin (block_of t) old.frame pieces.pieces → 0 < length pieces.pieces → CanGive t r k new
+  started-can small within some =
+      let block = block_of t in
+      let all : new.pieces ≡ pieces = starts.pieces ∙ pieces_are in
+      record {
+        within = subst (λ (q : KeptPieces). AreWithin block new.frame q.pieces) (sym all)
+            (subst (λ (frame : List ℕ). AreWithin block frame pieces.pieces) (sym starts.frame) within);
+        rest = subst (λ (what : Rest). CanFollowBy what new.is_tall t r k new.walk new.lines) (sym (starts.rest ∙ rest))
+            (record { can = starts.can; small = small });
+        last = subst (λ (q : KeptPieces). IsLast q.pieces new.rest) (sym all) (IsLast-long pieces.pieces new.rest some);
+      }

@@ -8,14 +8,14 @@ use Rattle.tbl_layout.specs.Entries.{up_to_last_glyph}
 use Rattle.tbl_layout.specs.declared.entry.Entry.{Entry}
 use Rattle.tbl_lines.specs.PictureLines.{Cell, lines_from, with_fronts, written}
 use Rattle.tbl_pieces.specs.PieceQueue.{Adds, KeptPieces}
-use Rattle.tbl_lines.specs.RowsLeft.{behind_first, cell_left, fronts_by, given, row_columns, then_fronts}
+use Rattle.tbl_lines.specs.RowsLeft.{behind_first, cell_left, given, row_columns, then_fronts}
 use Rattle.tbl_lines.specs.RowsWalked.{AreGlyphless, LastHasGlyph, PlacesLie, front_count, most_steps, steps_of_cells, steps_of_columns}
-use Rattle.tbl_picture.specs.Walks.{BeforeLine, InLine, IsOn, IsUnderWay, KeptWalk, OnLine, RowEndsOrGoesOn, RowSteps, WalkedRow, cells_left, cells_now, columns_left, columns_walked, fields_now, fronts_of, further_lines, line_cells, next_column, row_left, row_steps, steps_of_rest}
+use Rattle.tbl_picture.specs.Walks.{BeforeLine, InLine, IsOn, IsUnderWay, KeptWalk, OnLine, RowEndsOrGoesOn, RowSteps, WalkedRow, row_fronts_of, cells_left, cells_now, columns_left, columns_walked, fields_now, fronts_of, further_lines, line_cells, next_column, row_left, row_steps, steps_of_rest}
 use Rattle.tbl_lines.specs.declared.row_columns.RowColumn.{RowColumn}
 use Rattle.tbl_picture.specs.Nexts.{AtCell, AtFront, AtLine, Next}
 use Rattle.tbl_pieces.proofs.Adding.{adds-fitting}
 use Rattle.tbl_picture.proofs.ColumnSteps.{steps-cells, then-none}
-use Rattle.tbl_lines.proofs.FrontCells.{front-count, fronts-next, map-fronts, no-fronts}
+use Rattle.tbl_lines.proofs.FrontCells.{count-fronts, fronts-next, map-fronts, no-fronts}
 use Rattle.tbl_lines.proofs.RowColumns.{length-row_columns, none-left}
 use Rattle.tbl_lines.proofs.RunsGiven.{line-given, lines-behind}
 
@@ -26,7 +26,7 @@ line_begun has_bars count w = record w { count = count; place = 0; next = next_c
 module _ (row : WalkedRow) (w : KeptWalk) (count : ℕ) (b : BeforeLine row w) (last : LastHasGlyph count (cells_now row w)) where
   on-begun : OnLine row (line_begun row.bars.has_any count w)
   on-begun = record {
-    before = record { line = b.line; short = b.short; room = b.room; narrow = b.narrow; lie = b.lie; places = b.places };
+    before = record { line = b.line; short = b.short; room = b.room; narrow = b.narrow; lie = b.lie; fronts = b.fronts; places = b.places };
     column = omega arith;
     places = tt;
     moved = ap (map (cell_left row.bytes (suc w.line))) (none-left row.bars.boxing row.format 0 row.columns row.entries);
@@ -52,7 +52,7 @@ module _ (row : WalkedRow) (w : KeptWalk) (count : ℕ) (b : BeforeLine row w) (
   boxed-begun is = record {
     can = record {
       on = on-begun;
-      within = omega (arith, front-count row.bars row.width row.format row.columns row.entries is);
+      within = omega (arith, count-fronts row b.fronts is);
       first = λ _. refl;
       last = last;
     };
@@ -129,7 +129,7 @@ module _ (row : WalkedRow) (w : KeptWalk) (frame : List ℕ) (before after : Kep
     moved-all =
         map-fronts behind_first (fronts_of row w.line) (fields_now row w)
         ∙ ap (λ (fronts : List Cell). with_fronts fronts (map behind_first (fields_now row w)))
-        (fronts-next w.line (fronts_by row.bars row.width row.format row.columns row.entries))
+        (fronts-next w.line (row_fronts_of row))
         ∙ ap (with_fronts (fronts_of row (suc w.line))) (sym fields-all)
 
     next-is : w.line + 1 ≡ suc w.line
@@ -169,6 +169,7 @@ module _ (row : WalkedRow) (w : KeptWalk) (frame : List ℕ) (before after : Kep
             room = b.room;
             narrow = b.narrow;
             lie = b.lie;
+            fronts = b.fronts;
             places = subst (λ (entries : List Entry). PlacesLie row.bytes entries w.behind) entries-all l.on.places;
           };
           less = omega (arith, old_steps, ap (λ (k : ℕ). steps_of_rest row (row.height - k)) next-is);

@@ -10,7 +10,7 @@ use Rattle.tbl_layout.specs.declared.columns.Column.{Column}
 use Rattle.tbl_layout.specs.declared.entry.Entry.{Entry}
 use Rattle.tbl_picture.specs.ElementsWalked.{IsKeysLine, StandsAt, behind_line_by, boxed_from, from_line_by, keys_front, lines_behind_rule, lines_with_rules, steps_behind_rule, steps_by, to_come_by}
 use Rattle.tbl_lines.specs.PictureLines.{Neighbour, OfKeys, OfRules, Sheet, bar, behind_rules, lines_behind, rule_from, rule_line}
-use Rattle.tbl_picture.specs.RulePlaces.{HavePlaces}
+use Rattle.tbl_lines.specs.RulePlaces.{HavePlaces}
 use Rattle.tbl_picture.specs.RulesWalked.{RuleLies, RuleStands, above_by, below_by, come_behind, line_of_first, line_walked, next_behind_rule, rows_at, rule_behind, rule_front, ruled_left, sheet_of}
 use Rattle.tbl_picture.specs.Walks.{KeptWalk}
 use Rattle.tbl_picture.specs.Nexts.{AtRule, Next}
@@ -107,12 +107,12 @@ pub front-some : (n : ℕ) → 0 < length (keys_front n)
 front-some n = omega (arith, length-append (codes "\\&") (replicate n bar))
 
 -- what is to come from rows of rule keys on in front of a row
-module _ (bytes : List ℕ) (formats : List FormatRow) (s : Sheet) (keys rules height : ℕ) (entries : List Entry) (elements : List KeptElement) where
+module _ (bytes : List ℕ) (formats : List FormatRow) (s : Sheet) (keys rules height : ℕ) (is_tall : Bool) (entries : List Entry) (elements : List KeptElement) where
   pub from-keys : (above : Neighbour) (row left : ℕ) → row < length formats
-      → lines_with_rules bytes formats s above (rows_at formats row (suc left)) (Row keys rules height entries ∷ elements)
+      → lines_with_rules bytes formats s above (rows_at formats row (suc left)) (Row keys rules height is_tall entries ∷ elements)
       ≡ rule_line s (OfKeys (row_at formats row)) above
-      (behind_rules (rows_at formats (suc row) left) (line_of_first bytes formats true (Row keys rules height entries ∷ elements)))
-      ++ lines_with_rules bytes formats s (OfRules (row_at formats row) above) (rows_at formats (suc row) left) (Row keys rules height entries ∷ elements)
+      (behind_rules (rows_at formats (suc row) left) (line_of_first bytes formats true (Row keys rules height is_tall entries ∷ elements)))
+      ++ lines_with_rules bytes formats s (OfRules (row_at formats row) above) (rows_at formats (suc row) left) (Row keys rules height is_tall entries ∷ elements)
   from-keys above row left within =
       let format = row_at formats keys in
       let fields = fields_of bytes format entries in

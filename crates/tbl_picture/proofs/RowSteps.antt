@@ -5,7 +5,7 @@ use Rattle.std.specs.List.{AllByRecursion}
 use Rattle.tbl_format.specs.Format.{FormatRow}
 use Rattle.tbl_format.specs.RowsServed.{row_at}
 use Rattle.tbl_layout.specs.declared.bars.Bars.{Bars}
-use Rattle.tbl_kept.specs.Rows.{Command, ElementLaid, KeptElement, KeptRows, Row, RowLaid, Rule, elements_of, fields_of}
+use Rattle.tbl_kept.specs.Rows.{Command, ElementLaid, IsPlain, KeptElement, KeptRows, Row, RowLaid, RowsLaid, Rule, elements_of, fields_of, height_of}
 use Rattle.tbl_layout.specs.declared.columns.Column.{Column}
 use Rattle.tbl_layout.specs.Entries.{Content}
 use Rattle.tbl_layout.specs.declared.entry.Entry.{Entry}
@@ -13,7 +13,7 @@ use Rattle.tbl_picture.specs.ElementsWalked.{CanWalk, FirstFits, IsInRow, Stands
 use Rattle.tbl_lines.specs.PictureLines.{OfRow}
 use Rattle.tbl_pieces.specs.PieceQueue.{KeptPieces}
 use Rattle.tbl_pieces.specs.Pieces.{AreWithin}
-use Rattle.tbl_picture.specs.RulePlaces.{HavePlaces}
+use Rattle.tbl_lines.specs.RulePlaces.{HavePlaces}
 use Rattle.tbl_picture.specs.RulesWalked.{AreServed, IsRowFirst, IsRowThere, line_of_first, sheet_of}
 use Rattle.tbl_picture.specs.Walks.{IsOn, IsUnderWay, KeptWalk, RowEnds, RowEndsOrGoesOn, RowSteps, Stays, WalkedRow, row_left, row_steps, walked}
 use Rattle.tbl_picture.specs.Nexts.{AtCell, AtElement, AtEnd, AtFront, AtLine, AtRule, AtRuleRow, AtTop, AtWord, Next}
@@ -40,7 +40,7 @@ within-drop n xs x rest is = omega (arith, length-drop n xs, ap length is)
 pub rows-served : (bytes : List ℕ) (formats : List FormatRow) (columns : ℕ) (elements : List KeptElement)
     → AllByRecursion (ElementLaid bytes formats columns) elements → AreServed formats elements
 rows-served bytes formats columns [] all = tt
-rows-served bytes formats columns (Row keys rules height entries ∷ elements) all =
+rows-served bytes formats columns (Row keys rules height is_tall entries ∷ elements) all =
     (record { serves = all.0.serves; in_front = all.0.in_front }, rows-served bytes formats columns elements all.1)
 rows-served bytes formats columns (Rule sign ∷ elements) all = (tt, rows-served bytes formats columns elements all.1)
 rows-served bytes formats columns (Command from to ∷ elements) all = (tt, rows-served bytes formats columns elements all.1)
@@ -52,9 +52,9 @@ all-drop P zero (x ∷ xs) all = all
 all-drop P (suc n) (x ∷ xs) all = all-drop P n xs all.1
 
 -- all that stands in a row has a cell, and no more cells than columns
-pub stand-few : (bytes : List ℕ) (formats : List FormatRow) (columns keys rules height : ℕ) (entries : List Entry)
-    → RowLaid bytes formats columns keys rules height entries → length (all_entries (row_at formats keys) entries) ≤ columns
-stand-few bytes formats columns keys rules height entries laid =
+pub stand-few : (bytes : List ℕ) (formats : List FormatRow) (columns keys rules : ℕ) (entries : List Entry)
+    → RowLaid bytes formats columns keys rules entries → length (all_entries (row_at formats keys) entries) ≤ columns
+stand-few bytes formats columns keys rules entries laid =
     omega (
       arith,
       all-short (row_at formats keys) entries,
@@ -63,10 +63,10 @@ stand-few bytes formats columns keys rules height entries laid =
       cells-few (row_at formats keys).keys laid.cells.cells,
     )
 
-pub stand-short : (bytes : List ℕ) (formats : List FormatRow) (columns : List Column) (keys rules height : ℕ) (entries : List Entry)
-    → RowLaid bytes formats (length columns) keys rules height entries
+pub stand-short : (bytes : List ℕ) (formats : List FormatRow) (columns : List Column) (keys rules : ℕ) (entries : List Entry)
+    → RowLaid bytes formats (length columns) keys rules entries
     → length (all_entries (row_at formats keys) entries) ≤ length (cells_of (row_at formats keys).keys columns)
-stand-short bytes formats columns keys rules height entries laid =
+stand-short bytes formats columns keys rules entries laid =
     omega (
       arith,
       all-short (row_at formats keys) entries,
@@ -77,8 +77,8 @@ stand-short bytes formats columns keys rules height entries laid =
 fits-first : (bytes : List ℕ) (formats : List FormatRow) (columns room : ℕ) (elements : List KeptElement)
     → AllByRecursion (ElementLaid bytes formats columns) elements → columns ≤ room → FirstFits room formats elements
 fits-first bytes formats columns room [] all fits = tt
-fits-first bytes formats columns room (Row keys rules height entries ∷ elements) all fits =
-    omega (arith, stand-few bytes formats columns keys rules height entries all.0, fits)
+fits-first bytes formats columns room (Row keys rules height is_tall entries ∷ elements) all fits =
+    omega (arith, stand-few bytes formats columns keys rules entries all.0, fits)
 fits-first bytes formats columns room (Rule sign ∷ elements) all fits = tt
 fits-first bytes formats columns room (Command from to ∷ elements) all fits = tt
 
@@ -86,7 +86,7 @@ pub first-fits : (bytes : List ℕ) (formats : List FormatRow) (rows : KeptRows)
     → FirstFits w.room formats (drop w.element rows.elements)
 first-fits bytes formats rows w can =
     fits-first bytes formats (length rows.columns) w.room (drop w.element rows.elements)
-    (all-drop (ElementLaid bytes formats (length rows.columns)) w.element rows.elements can.laid) can.room
+    (all-drop (ElementLaid bytes formats (length rows.columns)) w.element rows.elements can.laid.elements) can.room
 
 -- in a row, what is to come of it, and its steps
 module _ (bytes : List ℕ) (formats : List FormatRow) (rows : KeptRows) (w : KeptWalk) (elements : List KeptElement) where
@@ -144,7 +144,7 @@ under-on (AtWord word width place) row w under = tt
 module _ (bytes frame : List ℕ) (formats : List FormatRow) (rows : KeptRows) (w : KeptWalk) (can : CanWalk bytes formats rows w)
     (before after : KeptPieces) (within : AreWithin bytes frame before.pieces) where
   -- a row that is walked
-  module _ (keys rules height : ℕ) (entries : List Entry) (elements : List KeptElement) (at : drop w.element rows.elements ≡ Row keys rules height entries ∷ elements) where
+  module _ (keys rules height : ℕ) (is_tall : Bool) (entries : List Entry) (elements : List KeptElement) (at : drop w.element rows.elements ≡ Row keys rules height is_tall entries ∷ elements) where
     abbrev pub row : WalkedRow
     row = walked bytes formats w.bars w.picture_width rows.columns keys height entries
 
@@ -183,7 +183,7 @@ module _ (bytes frame : List ℕ) (formats : List FormatRow) (rows : KeptRows) (
     stands-within k same bars width on under =
         let left : Bars → ℕ → Type 0 = λ b n. IsUnderWay k.next (walked bytes formats b n rows.columns keys height entries) k in
         let there : left k.bars k.picture_width = subst (λ (b : Bars). left b k.picture_width) (sym bars) (subst (λ (n : ℕ). left w.bars n) (sym width) under) in
-        let first : drop k.element rows.elements ≡ Row keys rules height entries ∷ elements = ap (λ (n : ℕ). drop n rows.elements) same ∙ at in
+        let first : drop k.element rows.elements ≡ Row keys rules height is_tall entries ∷ elements = ap (λ (n : ℕ). drop n rows.elements) same ∙ at in
         stands-on bytes formats rows k (drop k.element rows.elements) k.next on (subst (IsInRow bytes formats rows k) (sym first) there)
 
     places-within : (k : KeptWalk) → k.bars ≡ w.bars → k.picture_width ≡ w.picture_width → HavePlaces formats (sheet_of rows k)
@@ -201,8 +201,11 @@ module _ (bytes frame : List ℕ) (formats : List FormatRow) (rows : KeptRows) (
         )
 
     -- what is known of an element
-    pub row-laid : RowLaid bytes formats (length rows.columns) keys rules height entries
-    row-laid = all-at (ElementLaid bytes formats (length rows.columns)) w.element rows.elements (Row keys rules height entries) elements can.laid at
+    pub row-laid : RowLaid bytes formats (length rows.columns) keys rules entries
+    row-laid = all-at (ElementLaid bytes formats (length rows.columns)) w.element rows.elements (Row keys rules height is_tall entries) elements can.laid.elements at
+
+    pub row-plain : height ≡ height_of entries
+    row-plain = all-at IsPlain w.element rows.elements (Row keys rules height is_tall entries) elements can.plain at
 
     -- a step within the row
     row-goes-on : (new : KeptWalk) → IsUnderWay w.next row w → RowSteps frame row w new before after → Steps bytes frame formats rows w new before after
@@ -215,7 +218,8 @@ module _ (bytes frame : List ℕ) (formats : List FormatRow) (rows : KeptRows) (
         ∙ ap (λ (xs : List ℕ). s.added ++ xs) (sym (to-come-on new s.stays.element s.stays.bars s.stays.width s.on)))
         (some-now on under)
         (record {
-          laid = can.laid;
+          laid = subst (λ (b : Bars). RowsLaid bytes formats b.boxing.is_inside rows) (sym s.stays.bars) can.laid;
+          plain = can.plain;
           narrow = can.narrow;
           places = places-within new s.stays.bars s.stays.width;
           room = omega (arith, can.room, s.stays.room);
@@ -232,10 +236,10 @@ module _ (bytes frame : List ℕ) (formats : List FormatRow) (rows : KeptRows) (
     row-ends mid under s =
         let on = under-on w.next row w under in
         let new = gone_on true mid in
-        let first : drop mid.element rows.elements ≡ Row keys rules height entries ∷ elements = ap (λ (n : ℕ). drop n rows.elements) s.stays.element ∙ at in
+        let first : drop mid.element rows.elements ≡ Row keys rules height is_tall entries ∷ elements = ap (λ (n : ℕ). drop n rows.elements) s.stays.element ∙ at in
         let next_is : mid.element + 1 ≡ suc mid.element = omega arith in
         let there : drop (mid.element + 1) rows.elements ≡ elements =
-        ap (λ (n : ℕ). drop n rows.elements) next_is ∙ drop-next mid.element rows.elements (Row keys rules height entries) elements first in
+        ap (λ (n : ℕ). drop n rows.elements) next_is ∙ drop-next mid.element rows.elements (Row keys rules height is_tall entries) elements first in
         let left : Bars → ℕ → List ℕ = λ b n.
         lines_on (record { bars = b; width = n; columns = rows.columns }) true (OfRow (height == 1) (row_at formats keys) fields) (elements_of bytes formats elements) in
         let new_lines : still_to_come bytes formats rows new ≡ behind-row =
@@ -249,11 +253,12 @@ module _ (bytes frame : List ℕ) (formats : List FormatRow) (rows : KeptRows) (
         ∙ ap (λ (xs : List ℕ). s.added ++ xs) (sym new_lines))
         (some-now on under)
         (record {
-          laid = can.laid;
+          laid = subst (λ (b : Bars). RowsLaid bytes formats b.boxing.is_inside rows) (sym s.stays.bars) can.laid;
+          plain = can.plain;
           narrow = can.narrow;
           places = places-within mid s.stays.bars s.stays.width;
           room = omega (arith, can.room, s.stays.room);
-          element = omega (arith, within-drop mid.element rows.elements (Row keys rules height entries) elements first);
+          element = omega (arith, within-drop mid.element rows.elements (Row keys rules height is_tall entries) elements first);
           above = subst IsRowFirst (sym first) tt;
           next = tt;
         })

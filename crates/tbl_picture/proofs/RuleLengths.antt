@@ -31,7 +31,7 @@ served-at formats elements rest e at all is = served-first formats (drop at elem
 -- the rows of rule keys in front of a row are those of its place
 rows-first : (formats : List FormatRow) (elements : List KeptElement) → rows_of formats (rules_first elements) ≡ rules_of_first formats elements
 rows-first formats [] = refl
-rows-first formats (Row keys rules height entries ∷ elements) = refl
+rows-first formats (Row keys rules height is_tall entries ∷ elements) = refl
 rows-first formats (Rule sign ∷ elements) = refl
 rows-first formats (Command from to ∷ elements) = refl
 
@@ -100,7 +100,7 @@ pub rows-suc : (formats : List FormatRow) (first count : ℕ) → first < length
 rows-suc formats first count within = ap (take (suc count)) (drop_more formats first no_keys within)
 
 -- some rows are there, and the nearest is the first
-some-rows : (formats : List FormatRow) (first count : ℕ) → 0 < count → first + count ≤ length formats → 0 < length (rows_at formats first count)
+pub some-rows : (formats : List FormatRow) (first count : ℕ) → 0 < count → first + count ≤ length formats → 0 < length (rows_at formats first count)
 some-rows formats first count some within = omega (arith, some, within, length-take count (drop first formats), length-drop first formats)
 
 nearest-first : (formats : List FormatRow) (first count : ℕ) → 0 < count → first < length formats

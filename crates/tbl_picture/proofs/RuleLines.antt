@@ -14,7 +14,7 @@ use Rattle.tbl_layout.specs.Widths.{inner_bars}
 use Rattle.tbl_layout.specs.declared.data_lines.RuleSign.{RuleSign}
 use Rattle.tbl_layout.specs.declared.entry.Entry.{Entry}
 use Rattle.tbl_layout.specs.declared.entry.EntryKind.{EntryKind}
-use Rattle.tbl_layout.specs.declared.entry.EntryKind.TheVariants.{Block as BlockKind, Repeated as RepeatedKind, Ruled as RuledKind, Short as ShortKind, Split as SplitKind, Text as TextKind}
+use Rattle.tbl_layout.specs.declared.entry.EntryKind.TheVariants.{Above as AboveKind, Block as BlockKind, Repeated as RepeatedKind, Ruled as RuledKind, Short as ShortKind, Split as SplitKind, Text as TextKind}
 use Rattle.tbl_lines.specs.PictureLines.{bars_among, bars_between, is_ruled, joined_sign, shown_behind, shown_in_front}
 use Rattle.tbl_lines.specs.RowsLeft.{is_ruled_by, joined_first, joined_kinds}
 use Rattle.tbl_picture.specs.RulesWalked.{line_beside, line_of_first}
@@ -29,6 +29,7 @@ same-rule bytes from to sign (BlockKind b) = refl
 same-rule bytes from to sign (RuledKind other) = refl
 same-rule bytes from to sign ShortKind = refl
 same-rule bytes from to sign (RepeatedKind b) = refl
+same-rule bytes from to sign AboveKind = refl
 
 module _ (bytes : List ℕ) where
   joined-two : (k : EntryKind) (from to : ℕ) (f : Entry) → joined_sign (content_by k bytes from to) (content_of bytes f) ≡ joined_kinds k f.kind
@@ -38,6 +39,7 @@ module _ (bytes : List ℕ) where
   joined-two (RuledKind sign) from to f = ap (λ (t : Bool). if t then Some sign else None) (same-rule bytes f.from f.to sign f.kind)
   joined-two ShortKind from to f = refl
   joined-two (RepeatedKind b) from to f = refl
+  joined-two AboveKind from to f = refl
 
   joined-last : (k : EntryKind) (from to : ℕ) → joined_sign (content_by k bytes from to) (Text []) ≡ None
   joined-last (TextKind glyphs width) from to = refl
@@ -46,6 +48,7 @@ module _ (bytes : List ℕ) where
   joined-last (RuledKind sign) from to = refl
   joined-last ShortKind from to = refl
   joined-last (RepeatedKind b) from to = refl
+  joined-last AboveKind from to = refl
 
   pub joined-at : (entries : List Entry) (column : ℕ)
       → joined_sign (field_at (map (content_of bytes) entries) column) (field_at (map (content_of bytes) entries) (suc column))
@@ -69,7 +72,7 @@ module _ (boxing : Boxing) (is_first : Bool) (format : FormatRow) (fields : List
 
 -- how many bars a line of a row that stands there shows behind a column, in front of a cell that isn't the first
 module _ (boxing : Boxing) (bytes : List ℕ) (formats : List FormatRow) (is_below : Bool) (elements : List KeptElement) (at keys rules height : ℕ)
-    (entries : List Entry) (rest : List KeptElement) (column : ℕ) (is : drop at elements ≡ Row keys rules height entries ∷ rest) where
+    (is_tall : Bool) (entries : List Entry) (rest : List KeptElement) (column : ℕ) (is : drop at elements ≡ Row keys rules height is_tall entries ∷ rest) where
   abbrev format : FormatRow
   format = row_at formats keys
 

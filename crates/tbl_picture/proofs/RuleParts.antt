@@ -1,5 +1,5 @@
 -- What stands on a line of rules, part by part, is what is drawn of its marks as they are walked.
-use Rattle.std.proofs.Common.{◌≡◌, ℕ, suc, ◌+◌, ◌-◌, ◌≤◌, max, Bool, true, false, ◌&&◌, List, [], ◌∷◌, ◌++◌, length, replicate, Option, Some, None, refl, sym, ap, ◌∙◌, arith, append_assoc, append-nil, length-append, if◌then◌else◌, ◌==◌, ne_eqb}
+use Rattle.std.proofs.Common.{◌≡◌, ℕ, suc, ◌+◌, ◌-◌, ◌≤◌, Bool, true, false, ◌&&◌, List, [], ◌∷◌, ◌++◌, length, replicate, Option, Some, None, refl, sym, ap, ◌∙◌, arith, append_assoc, append-nil, length-append, if◌then◌else◌, ◌==◌, ne_eqb}
 use Rattle.std.proofs.lemmas.Bool.Decides.{nat_tests}
 use Rattle.std.proofs.lemmas.List.{length-replicate, replicate-append-replicate}
 use Rattle.roff_source.specs.Bytes.{blank}
@@ -9,9 +9,11 @@ use Rattle.tbl_layout.specs.declared.bars.Bars.{Bars}
 use Rattle.tbl_layout.specs.declared.columns.Column.{Column}
 use Rattle.tbl_layout.specs.declared.data_lines.RuleSign.{RuleSign}
 use Rattle.tbl_layout.specs.declared.data_lines.RuleSign.TheVariants.{Double, Single}
-use Rattle.tbl_lines.specs.PictureLines.{Mark, Neighbour, OfKeys, RuleLine, Whole, bar, crossing, drawn, last_mark, met_behind, parts_from, places_mark, sign_in_front, sign_over}
+use Rattle.tbl_lines.specs.PictureLines.{Mark, Neighbour, RuleLine, bar, crossing, drawn, last_mark, met_behind, parts_from, places_mark, sign_in_front, sign_over}
+use Rattle.tbl_lines.proofs.RulesOrdered.{bars-within}
+use Rattle.tbl_lines.proofs.RulesShown.{unruled-next}
 use Rattle.tbl_picture.specs.RuleMarks.{goes_on, is_same_rule, mark_behind, marks_from}
-use Rattle.tbl_picture.specs.RulePlaces.{AreMet}
+use Rattle.tbl_lines.specs.RulePlaces.{AreMet}
 use Rattle.tbl_picture.specs.RulesWalked.{mark_given, place_behind}
 use Rattle.tbl_picture.proofs.RuleMarks.{mark-drawn}
 
@@ -111,11 +113,6 @@ crossed-split b from at count to marks place begins =
     ∙ sym (joined from crossed rest marks place)
     ∙ ap (λ (n : ℕ). drawn place (record { at = from; bytes = crossed } ∷ record { at = n; bytes = rest } ∷ marks)) far
 
--- bars that have their places end where these end, at the latest, which is in front of the next column
-pub bars-within : (n : ℕ) (c d : Column) → c.start + c.width + n ≤ d.start → n ≤ max 1 c.bars
-    → (bar_place n c d + n ≤ bars_end c d) × (bars_end c d ≤ d.start) × (c.start + c.width ≤ bar_place n c d)
-bars-within n c d apart few = (omega (arith, apart, few), omega (arith, apart), omega arith)
-
 -- two rules that are drawn alike
 same-sign : (s t : RuleSign) → is_same_sign s t ≡ true → s ≡ t
 same-sign Single Single is = refl
@@ -130,11 +127,6 @@ same-next s (Some t) is = ap (λ (r : RuleSign). Some r) (sym (same-sign s t is)
 none-next : (next : Option RuleSign) → is_same_rule None next ≡ true → next ≡ None
 none-next None is = refl
 none-next (Some t) is = absurd (cc)
-
--- no rule comes from the next column to the places of bars behind one that isn't ruled
-unruled-next : (line : RuleLine) (column : ℕ) → sign_over line column ≡ None → sign_in_front line (suc column) ≡ None
-unruled-next (Whole sign) column none = absurd (cc)
-unruled-next (OfKeys format) column none = refl
 
 module _ (bars : Bars) (line : RuleLine) (above below : Neighbour) (to : ℕ) (tail : List Mark) where
   abbrev pub met : ℕ → ℕ

@@ -1,24 +1,18 @@
 -- How many bars meet a line of rules: no more than there are places for. So what stands on it part by part is what is walked.
-use Rattle.std.proofs.Common.{◌≡◌, ℕ, zero, suc, ◌+◌, ◌-◌, ◌≤◌, max, Bool, true, false, ◌&&◌, List, [], ◌∷◌, ◌++◌, length, drop, take, codes, Option, Some, None, refl, ap, arith, if◌then◌else◌}
+use Rattle.std.proofs.Common.{◌≡◌, ℕ, zero, suc, ◌+◌, ◌-◌, ◌≤◌, max, Bool, true, false, List, [], ◌∷◌, ◌++◌, length, drop, take, codes, refl, ap, arith, if◌then◌else◌}
 use Rattle.std.specs.List.{AllByRecursion}
-use Rattle.std.specs.Prelude.{nat_lt, is_some}
-use Rattle.std.proofs.lemmas.Bool.{ltb-false}
 use Rattle.roff_source.specs.Bytes.{newline}
-use Rattle.tbl_format.specs.Cells.{cell_behind}
 use Rattle.tbl_format.specs.Format.{FormatRow}
 use Rattle.tbl_format.specs.RowsServed.{no_keys, row_at}
-use Rattle.tbl_format.specs.declared.format.FormatKey.{FormatKey}
-use Rattle.tbl_options.specs.declared.options.Boxing.{Boxing}
 use Rattle.tbl_kept.specs.Rows.{Command, KeptElement, KeptRows, Row, Rule}
-use Rattle.tbl_layout.specs.Entries.{Content, field_at}
-use Rattle.tbl_layout.specs.LayoutLaws.{AreBehind, StandInOrder, first_start, last_behind, last_end}
+use Rattle.tbl_layout.specs.LayoutLaws.{StandInOrder, first_start, last_behind, last_end}
 use Rattle.tbl_layout.specs.Widths.{edge_bars, inner_bars}
-use Rattle.tbl_layout.specs.declared.bars.Bars.{Bars}
 use Rattle.tbl_layout.specs.declared.columns.Column.{Column}
 use Rattle.tbl_layout.specs.declared.data_lines.RuleSign.{RuleSign}
-use Rattle.tbl_lines.specs.PictureLines.{Mark, Neighbour, NoRow, OfKeys, OfRow, OfRules, RuleLine, Sheet, Whole, bars_among, bars_between, bars_of, behind_rules, drawn, edge_mark, edge_of_cell, joined_sign, met_at_edge, met_behind, own_at_edge, own_behind, parts_from, rule_from, rule_line, rule_to, rules_behind, shown_at_edge, shown_behind, shown_in_front}
+use Rattle.tbl_lines.specs.PictureLines.{Mark, Neighbour, OfKeys, RuleLine, Sheet, Whole, bars_among, behind_rules, drawn, edge_mark, met_at_edge, met_behind, parts_from, rule_from, rule_line, rule_to, shown_at_edge, shown_behind}
+use Rattle.tbl_lines.proofs.RulesMet.{are-met, few-behind, few-left, few-right}
 use Rattle.tbl_picture.specs.RuleMarks.{marks_from, rule_line_walked}
-use Rattle.tbl_picture.specs.RulePlaces.{AreMet, HasPlaces, HavePlaces, IsLinePlaced, IsPlaced, bars_behind}
+use Rattle.tbl_lines.specs.RulePlaces.{AreMet, HasPlaces, HavePlaces, IsLinePlaced, IsPlaced, bars_behind}
 use Rattle.tbl_picture.specs.RulesWalked.{above_by, above_rules, below_by, line_beside, line_of_first, line_walked, rows_at, rules_beside, rules_of_first, rules_passed, sheet_of}
 use Rattle.tbl_picture.specs.Walks.{KeptWalk}
 use Rattle.tbl_picture.specs.declared.walk.beside.Beside.{Beside}
@@ -26,135 +20,6 @@ use Rattle.tbl_picture.specs.declared.walk.beside.Beside.TheVariants.{Nothing as
 use Rattle.tbl_picture.specs.declared.walk.rules.RuleLine.{RuleLine as LineBegun}
 use Rattle.tbl_picture.specs.declared.walk.rules.RuleLine.TheVariants.{OfKeys as KeysBegun, Whole as WholeBegun}
 use Rattle.tbl_picture.proofs.RuleParts.{behind-mark, parts-drawn}
-use Rattle.tbl_picture.proofs.RulesShown.{one-shown, own-bars}
-
--- of more bars no fewer stand between columns, and of several no more than there are, or one
-inner-by : (t : Bool) (n most : ℕ) → n ≤ most → (if t then max 1 n else n) ≤ (if t then max 1 most else most)
-inner-by true n most few = omega (arith, few)
-inner-by false n most few = few
-
-inner-grows : (boxing : Boxing) (n most : ℕ) → n ≤ most → inner_bars boxing n ≤ inner_bars boxing most
-inner-grows boxing n most few = inner-by boxing.is_inside n most few
-
-most-by : (t : Bool) (n : ℕ) → (if t then max 1 n else n) ≤ max 1 n
-most-by true n = omega arith
-most-by false n = omega arith
-
-inner-most : (boxing : Boxing) (n : ℕ) → inner_bars boxing n ≤ max 1 n
-inner-most boxing n = most-by boxing.is_inside n
-
--- some or none are few
-none-if : (t : Bool) (n most : ℕ) → n ≤ most → (if t then 0 else n) ≤ most
-none-if true n most few = omega arith
-none-if false n most few = few
-
-some-if : (t : Bool) (n most : ℕ) → n ≤ most → (if t then n else 0) ≤ most
-some-if true n most few = few
-some-if false n most few = omega arith
-
--- the cell that begins in front of all columns
-cell-first : (keys : List FormatKey) → cell_behind keys 0 ≡ Some 0
-cell-first [] = refl
-cell-first (k ∷ keys) = refl
-
--- a line of rules, beside which rows stand whose bars have their places
-module _ (bars : Bars) (columns : List Column) where
-  abbrev pub most-at : ℕ → ℕ
-  most-at column = inner_bars bars.boxing (bars_behind columns column)
-
-  shown-in-front : (is_first : Bool) (format : FormatRow) (fields : List Content) (column : ℕ) (found : Option ℕ)
-      → HasPlaces bars.front columns format → cell_behind format.keys (suc column) ≡ found
-      → shown_in_front bars.boxing is_first format fields found ≤ most-at column
-  shown-in-front is_first format fields column None placed is = omega arith
-  shown-in-front is_first format fields column (Some zero) placed is = omega arith
-  shown-in-front is_first format fields column (Some (suc cell)) placed is =
-      none-if (is_first && is_some (joined_sign (field_at fields cell) (field_at fields (suc cell)))) (bars_between bars.boxing format (suc cell)) (most-at column)
-      (inner-grows bars.boxing (bars_of format (suc cell)) (bars_behind columns column) (placed.behind column (suc cell) is))
-
-  shown-most : (n : Neighbour) (column : ℕ) → IsPlaced bars.front columns n → shown_behind bars.boxing n column ≤ most-at column
-  shown-most NoRow column placed = omega arith
-  shown-most (OfRow is_first format fields) column placed =
-      shown-in-front is_first format fields column (cell_behind format.keys (suc column)) placed refl
-  shown-most (OfRules format behind) column placed =
-      let b = bars.boxing in
-      let both = max (inner_bars b 0) (shown_behind b behind column) in
-      let few : both ≤ most-at column = omega (arith, shown-most behind column placed.1, inner-grows b 0 (bars_behind columns column) (omega arith)) in
-      omega (arith, one-shown b column format behind, none-if (nat_lt column (length format.keys)) both (most-at column) few)
-
-  own-by : (t : Bool) (format : FormatRow) (column : ℕ) → nat_lt column (length format.keys) ≡ t
-      → (if rules_behind format column then 0 else bars_between bars.boxing format (suc column)) ≤ most-at column
-  own-by true format column is =
-      let none = ap (λ (t : Bool). if t then 0 else bars_between bars.boxing format (suc column)) is in omega (arith, none)
-  own-by false format column is =
-      let none = ap (λ (t : Bool). if t then 0 else bars_between bars.boxing format (suc column)) is in
-      omega (
-        arith,
-        none,
-        own-bars bars.boxing column format (ltb-false column (length format.keys) is),
-        inner-grows bars.boxing 0 (bars_behind columns column) (omega arith),
-      )
-
-  own-most : (line : RuleLine) (column : ℕ) → own_behind bars.boxing line column ≤ most-at column
-  own-most (Whole sign) column = omega arith
-  own-most (OfKeys format) column = own-by (nat_lt column (length format.keys)) format column refl
-
-  -- at the left edge, and at the right one
-  abbrev pub most-left : ℕ
-  most-left = edge_bars bars.boxing bars.front
-
-  shown-left : (n : Neighbour) → IsPlaced bars.front columns n → shown_at_edge bars.boxing n 0 ≤ most-left
-  shown-left NoRow placed = omega arith
-  shown-left (OfRow is_first format fields) placed =
-      omega (arith, placed.left, ap (edge_of_cell bars.boxing format) (cell-first format.keys))
-  shown-left (OfRules format behind) placed = omega (arith, placed.0.left, shown-left behind placed.1)
-
-  own-left : (line : RuleLine) → IsLinePlaced bars.front columns line → own_at_edge bars.boxing line 0 ≤ most-left
-  own-left (Whole sign) placed = omega arith
-  own-left (OfKeys format) placed = omega (arith, placed.left)
-
-  module _ (before : ℕ) (all : length columns ≡ suc before) where
-    abbrev pub most-right : ℕ
-    most-right = edge_bars bars.boxing (bars_behind columns before)
-
-    cell-right : (format : FormatRow) (found : Option ℕ) → HasPlaces bars.front columns format → cell_behind format.keys (suc before) ≡ found
-        → edge_of_cell bars.boxing format found ≤ most-right
-    cell-right format None placed is = omega arith
-    cell-right format (Some cell) placed is = omega (arith, placed.behind before cell is)
-
-    shown-right : (n : Neighbour) → IsPlaced bars.front columns n → shown_at_edge bars.boxing n (suc before) ≤ most-right
-    shown-right NoRow placed = omega arith
-    shown-right (OfRow is_first format fields) placed = cell-right format (cell_behind format.keys (suc before)) placed refl
-    shown-right (OfRules format behind) placed = omega (arith, placed.0.right before all, shown-right behind placed.1)
-
-    own-right : (line : RuleLine) → IsLinePlaced bars.front columns line → own_at_edge bars.boxing line (suc before) ≤ most-right
-    own-right (Whole sign) placed = omega arith
-    own-right (OfKeys format) placed = omega (arith, placed.right before all)
-
--- the last column of some
-last-is : (columns : List Column) (before : ℕ) → length columns ≡ suc before → bars_behind columns before ≡ last_behind columns
-last-is [] before all = absurd (omega (arith, all))
-last-is (c ∷ []) zero all = refl
-last-is (c ∷ []) (suc before) all = absurd (omega (arith, all))
-last-is (c ∷ d ∷ columns) zero all = absurd (omega (arith, all))
-last-is (c ∷ d ∷ columns) (suc before) all = last-is (d ∷ columns) before (omega (arith, all))
-
--- columns with places for what meets behind them
-are-met : (met : ℕ → ℕ) (to place : ℕ) (boxing : Boxing) (column : ℕ) (columns : List Column) → AreBehind boxing columns
-    → ((i : ℕ) → met (column + i) ≤ inner_bars boxing (bars_behind columns i)) → last_end place columns ≤ to → AreMet met to column columns
-are-met met to place boxing column [] behind few ends = tt
-are-met met to place boxing column (c ∷ []) behind few ends = omega (arith, ends)
-are-met met to place boxing column (c ∷ d ∷ columns) behind few ends =
-    let first : met (column + 0) ≤ inner_bars boxing c.bars = few 0 in
-    let same : column + 0 ≡ column = omega arith in
-    let here : met column ≤ inner_bars boxing c.bars = omega (arith, first, ap met same) in
-    let further : (i : ℕ) → met (suc column + i) ≤ inner_bars boxing (bars_behind (d ∷ columns) i) = λ i.
-    let next : met (column + suc i) ≤ inner_bars boxing (bars_behind (d ∷ columns) i) = few (suc i) in
-    let moved : column + suc i ≡ suc column + i = omega arith in
-    omega (arith, next, ap met moved) in (
-      omega (arith, behind.0, here),
-      omega (arith, here, inner-most boxing c.bars),
-      are-met met to (c.start + c.width) boxing (suc column) (d ∷ columns) behind.1 further ends,
-    )
 
 -- a line of rules on which no more bars meet anywhere
 module _ (s : Sheet) (line : RuleLine) (above below : Neighbour) (order : StandInOrder s.bars s.width s.columns)
@@ -220,30 +85,8 @@ pub placed-same : (s : Sheet) (line : RuleLine) (above below : Neighbour) → St
     → IsLinePlaced s.bars.front s.columns line → IsPlaced s.bars.front s.columns above → IsPlaced s.bars.front s.columns below
     → rule_line s line above below ≡ rule_line_walked s line above below
 placed-same s line above below order own up down =
-    let b = s.bars.boxing in
-    let most = most-at s.bars s.columns in
-    line-same s line above below order
-    (λ column.
-    some-if s.bars.has_any (max (own_behind b line column) (max (shown_behind b above column) (shown_behind b below column))) (most column)
-    (omega (arith, own-most s.bars s.columns line column, shown-most s.bars s.columns above column up, shown-most s.bars s.columns below column down)))
-    (some-if s.bars.has_any (max (own_at_edge b line 0) (max (shown_at_edge b above 0) (shown_at_edge b below 0))) (edge_bars b s.bars.front)
-    (omega (arith, own-left s.bars s.columns line own, shown-left s.bars s.columns above up, shown-left s.bars s.columns below down)))
-    (λ before all.
-    let there = ap (λ (n : ℕ). met_at_edge s.bars line above below n) all in
-    let last = ap (edge_bars b) (last-is s.columns before all) in
-    omega (
-      arith,
-      there,
-      last,
-      some-if s.bars.has_any (max (own_at_edge b line (suc before)) (max (shown_at_edge b above (suc before)) (shown_at_edge b below (suc before))))
-          (edge_bars b (bars_behind s.columns before))
-          (omega (
-            arith,
-            own-right s.bars s.columns before all line own,
-            shown-right s.bars s.columns before all above up,
-            shown-right s.bars s.columns before all below down,
-          )),
-    ))
+    line-same s line above below order (few-behind s.bars s.columns line above below own up down) (few-left s.bars s.columns line above below own up down)
+    (few-right s.bars s.columns line above below own up down)
 
 -- in a picture without bars none meet
 pub unbarred-same : (s : Sheet) (sign : RuleSign) (above below : Neighbour) → StandInOrder s.bars s.width s.columns → s.bars.has_any ≡ false
@@ -270,7 +113,7 @@ module _ (front : ℕ) (columns : List Column) where
     right = λ column is. omega (arith, none-among (suc column));
   }
 
-  row-placed : (formats : List FormatRow) (at : ℕ) → AllByRecursion (HasPlaces front columns) formats → HasPlaces front columns (row_at formats at)
+  pub row-placed : (formats : List FormatRow) (at : ℕ) → AllByRecursion (HasPlaces front columns) formats → HasPlaces front columns (row_at formats at)
   row-placed [] zero all = none-placed
   row-placed [] (suc at) all = none-placed
   row-placed (format ∷ formats) zero all = all.0
@@ -300,7 +143,7 @@ module _ (front : ℕ) (columns : List Column) where
 
     first-placed : (is_below : Bool) (elements : List KeptElement) → IsPlaced front columns (line_of_first bytes formats is_below elements)
     first-placed is_below [] = tt
-    first-placed is_below (Row keys rules height entries ∷ elements) = row-placed formats keys all
+    first-placed is_below (Row keys rules height is_tall entries ∷ elements) = row-placed formats keys all
     first-placed is_below (Rule sign ∷ elements) = tt
     first-placed is_below (Command from to ∷ elements) = tt
 
@@ -311,7 +154,7 @@ module _ (front : ℕ) (columns : List Column) where
 
     rules-placed : (elements : List KeptElement) → AllByRecursion (HasPlaces front columns) (rules_of_first formats elements)
     rules-placed [] = tt
-    rules-placed (Row keys rules height entries ∷ elements) = take-placed rules (drop (keys - rules) formats) (drop-placed (keys - rules) formats all)
+    rules-placed (Row keys rules height is_tall entries ∷ elements) = take-placed rules (drop (keys - rules) formats) (drop-placed (keys - rules) formats all)
     rules-placed (Rule sign ∷ elements) = tt
     rules-placed (Command from to ∷ elements) = tt
 

@@ -1,21 +1,14 @@
 -- How many bars are seen through rows of rule keys, by how many keys these have.
-use Rattle.std.proofs.Common.{◌≡◌, ℕ, zero, suc, ◌≤◌, ◌<◌, max, Bool, true, false, List, [], ◌∷◌, length, Option, Some, None, refl, sym, ap, ◌∙◌, arith, if◌then◌else◌}
+use Rattle.std.proofs.Common.{◌≡◌, ℕ, suc, ◌≤◌, max, Bool, true, false, List, [], ◌∷◌, length, Option, Some, None, refl, sym, ap, ◌∙◌, arith, if◌then◌else◌}
 use Rattle.std.specs.Prelude.{nat_lt}
 use Rattle.std.proofs.lemmas.Bool.{le-ltb, lt-ltb, ltb-false, ltb-true}
 use Rattle.tbl_format.specs.Format.{FormatRow}
-use Rattle.tbl_format.specs.declared.format.FormatKey.{FormatKey}
 use Rattle.tbl_options.specs.declared.options.Boxing.{Boxing}
 use Rattle.tbl_layout.specs.Widths.{inner_bars}
-use Rattle.tbl_lines.specs.PictureLines.{Neighbour, OfRules, bars_among, bars_between, behind_rules, rules_behind, shown_behind}
+use Rattle.tbl_lines.specs.PictureLines.{Neighbour, OfRules, bars_between, behind_rules, rules_behind, shown_behind}
+use Rattle.tbl_lines.proofs.RulesMet.{few-bars}
 use Rattle.tbl_picture.specs.RulesWalked.{AreLengths, LengthsAre, ShownThrough, longest, shown_through}
 use Rattle.tbl_picture.specs.declared.walk.beside.Lengths.{Lengths}
-
--- a row of the formats has no bar behind the end of its last key
-pub few-bars : (keys : List FormatKey) (last column : ℕ) → length keys < column → bars_among keys last column ≡ 0
-few-bars [] last zero few = absurd (omega (arith, few))
-few-bars [] last (suc column) few = refl
-few-bars (k ∷ keys) last zero few = absurd (omega (arith, few))
-few-bars (k ∷ keys) last (suc column) few = few-bars keys last column (omega (arith, few))
 
 -- a column is in front of the longer of two
 less-by : (t : Bool) (a b column : ℕ) → nat_lt column b ≡ t → a ≤ column → nat_lt column (max a b) ≡ t

@@ -2,7 +2,8 @@ pub mod Frame
 pub mod Nexts
 pub mod Walks
 pub mod RuleMarks
-pub mod RulePlaces
 pub mod RulesWalked
 pub mod ElementsWalked
+pub mod PartsToCome
+pub mod LinesWalked
 pub mod Giving

@@ -7,8 +7,8 @@ use Rattle.tbl_layout.specs.declared.entry.Entry.{Entry}
 use Rattle.tbl_layout.specs.KeptEntries.{Lies}
 use Rattle.tbl_lines.specs.PictureLines.{Cell, lines_from, with_fronts}
 use Rattle.tbl_pieces.specs.PieceQueue.{AddsFitting, KeptPieces}
-use Rattle.tbl_lines.specs.RowsLeft.{behind_first, block_text, cell_left, from_line, fronts_by, given, one_less, row_columns, then_fronts, word_given}
-pub use Rattle.tbl_lines.specs.RowsLent.{CellsLie, LiesInColumns, WalkedRow, first_place, fronts_of, lent_entries, lent_format, lent_row, line_cells, walked}
+use Rattle.tbl_lines.specs.RowsLeft.{behind_first, block_text, cell_left, from_line, given, one_less, row_columns, then_fronts, word_given}
+pub use Rattle.tbl_lines.specs.RowsLent.{CellsLie, HasFronts, LiesInColumns, WalkedRow, first_place, fronts_of, lent_entries, lent_format, lent_row, line_cells, row_fronts_of, walked}
 use Rattle.tbl_lines.specs.RowsWalked.{AreNarrow, IsNarrow, LastHasGlyph, PlacesLie, StandsInFirst, front_count, most_steps, steps_of_cells, steps_of_columns, steps_of_lines, steps_of_word}
 use Rattle.tbl_lines.specs.declared.row_columns.RowColumn.{RowColumn}
 use Rattle.tbl_picture.specs.Nexts.{AtCell, AtElement, AtEnd, AtFront, AtLine, AtRule, AtRuleRow, AtTop, AtWord, Next, next_by}
@@ -103,6 +103,7 @@ pub record BeforeLine (row : WalkedRow) (w : KeptWalk) : Type 0 where
   pub room : length row.entries ≤ w.room
   pub narrow : AreNarrow row.columns
   pub lie : AllByRecursion (Lies row.bytes) row.entries
+  pub fronts : HasFronts row
   pub places : PlacesLie row.bytes row.entries w.places
 
 -- a row is within one of its lines: the blocks of the columns that are behind the walk go on behind this line
@@ -116,7 +117,7 @@ pub record OnLine (row : WalkedRow) (w : KeptWalk) : Type 0 where
 -- what stands in front of a column comes next: of the next one of the row, if it has one
 pub record InFront (row : WalkedRow) (at : ℕ) (w : KeptWalk) : Type 0 where
   pub on : OnLine row w
-  pub within : at < length (fronts_by row.bars row.width row.format row.columns row.entries)
+  pub within : at < length (row_fronts_of row)
   pub first : length w.behind < length row.entries → at ≡ length w.behind
   pub last : LastHasGlyph w.count (cells_in_front at row w)
 

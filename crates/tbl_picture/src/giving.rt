@@ -13,7 +13,10 @@ ghost use Rattle.tbl_picture.specs.declared.giving.Rest.TheVariants.{Lines};
 ghost use Rattle.tbl_kept.specs.Rows.{KeptRows};
 ghost use Rattle.tbl_kept.specs.TableText.{KeptText, block_of};
 
+mod refilling;
+
 use crate::frame::{FRAME, write_frame};
+use crate::walk::line_by_line::LineByLine;
 use crate::walk::{STEP_PIECES, Walk};
 use roff_escape::OpenEscapes;
 use std::alloc::{AllocError, Global};
@@ -44,6 +47,10 @@ pub struct Giving {
     /// Whether a newline is to give behind all that.
     has_newline: bool,
     walk: Walk,
+    /// The same walk over a table with cells of several rows.
+    line_by_line: LineByLine,
+    /// Whether the table has such cells.
+    is_tall: bool,
     /// The requests around the picture, and where those behind it begin.
     frame: Vec<u8>,
     frame_end: usize,
@@ -61,7 +68,8 @@ impl Model for Giving {
 
 impl Giving {
     ghost use Rattle.tbl_picture.specs.Giving.{CanFollow, CanGive, coming, following};
-    ghost use Rattle.tbl_picture.specs.Giving.{GivesNothing, IsLaidOut, last_piece, lines_laid};
+    ghost use Rattle.tbl_picture.specs.Giving.{GivesNothing, IsLaidOut, LinesStart};
+    ghost use Rattle.tbl_picture.specs.Giving.{last_piece, lines_laid};
     ghost use Rattle.tbl_picture.specs.Giving.{with_newline};
 
     /// Nothing to give, with room for a table of so many columns.
@@ -74,6 +82,8 @@ impl Giving {
             rest: Rest::Nothing,
             has_newline: false,
             walk: Walk::new(alloc, columns)?,
+            line_by_line: LineByLine::new(alloc, columns)?,
+            is_tall: false,
             frame: Vec::with_capacity(alloc, FRAME)?,
             frame_end: 0,
         })
@@ -104,19 +114,47 @@ impl Giving {
 
     /// The picture is to give, indented by so many columns, with these bars and so wide, and the
     /// line begun, and a newline behind it or none.
-    pub fn give_picture(&mut self, indent: u32, bars: Bars, width: usize, has_newline: bool)
-        ensures coming { (t : KeptText) (r : KeptRows) (k : KeptFormat)
-            → IsLaidOut bars width t r k self.old.columns → coming t r k self.new
-            ≡ with_newline has_newline (picture indent (lines_laid bars width t r k) ++ t.line) }
-        ensures can { (t : KeptText) (r : KeptRows) (k : KeptFormat)
-            → IsLaidOut bars width t r k self.old.columns → CanGive t r k self.new }
+    pub fn give_picture(
+        &mut self,
+        _text: &TableText,
+        rows: &TableRows,
+        format: &FormatRows,
+        indent: u32,
+        bars: Bars,
+        width: usize,
+        has_newline: bool,
+    )
+        requires { IsLaidOut bars width _text.now rows.now format.now self.old.columns }
+        ensures coming { coming _text.now rows.now format.now self.new ≡ with_newline has_newline
+            (picture indent (lines_laid bars width _text.now rows.now format.now)
+            ++ _text.now.line) }
+        ensures can { CanGive _text.now rows.now format.now self.new }
         ensures room { self.new.columns ≡ self.old.columns }
     {
         self.frame_end = write_frame(&mut self.frame, indent);
         self.pieces.set_one(Piece::Frame(0, self.frame_end));
-        self.walk.start(bars, width);
         self.rest = Rest::Lines;
         self.has_newline = has_newline;
+        self.start_lines(_text, rows, format, bars, width);
+    }
+
+    /// No line of the picture is given.
+    fn start_lines(
+        &mut self,
+        _text: &TableText,
+        rows: &TableRows,
+        format: &FormatRows,
+        bars: Bars,
+        width: usize,
+    )
+        requires { IsLaidOut bars width _text.now rows.now format.now self.old.columns }
+        ensures starts { LinesStart bars width _text.now rows.now format.now self.old self.new }
+    {
+        self.is_tall = rows.may_go_on(format);
+        if self.is_tall {
+            return self.line_by_line.start(rows, format, bars, width);
+        }
+        self.walk.start(bars, width);
     }
 
     /// Whether no byte is left to give.
@@ -273,33 +311,6 @@ impl Giving {
                 self.pieces
                     .set_two(Piece::Block(from, text.block().len()), last);
                 self.rest = Rest::Nothing;
-            }
-        }
-    }
-
-    /// The next pieces of the picture, as many as there is room for, and behind its lines what
-    /// stands there.
-    fn refill_lines(
-        &mut self,
-        escapes: &mut OpenEscapes,
-        text: &TableText,
-        rows: &TableRows,
-        format: &FormatRows,
-    )
-        requires lines { self.old.rest ≡ Lines }
-        requires can { CanFollow text.now rows.now format.now self.old }
-        ensures coming { coming text.now rows.now format.now self.new
-            ≡ following text.now rows.now format.now self.old }
-        ensures can { CanGive text.now rows.now format.now self.new }
-        ensures room { self.new.columns ≡ self.old.columns }
-    {
-        self.pieces.clear();
-        while self.pieces.has_room(STEP_PIECES) {
-            let is_some = self
-                .walk
-                .step(&mut self.pieces, escapes, text.block(), rows, format);
-            if !is_some {
-                return self.add_end(text);
             }
         }
     }

@@ -1,7 +1,7 @@
 //! A walk over the lines of a table's picture, one step of pieces behind the other (Lesk, "Tbl":
 //! Formatting).
 
-ghost use Rattle.std.specs.Prelude.{◌≡◌, ℕ, ◌+◌, ◌<◌, ◌≤◌, ◌^◌, List, IfOk, length};
+ghost use Rattle.std.specs.Prelude.{◌≡◌, ℕ, ◌+◌, ◌<◌, ◌≤◌, ◌^◌, List, IfOk, false, length};
 ghost use Rattle.tbl_format.specs.Format.{FormatRow};
 ghost use Rattle.tbl_format.specs.RowsServed.{all_rows};
 ghost use Rattle.tbl_kept.specs.Rows.{KeptRows, RowsLaid, elements_of};
@@ -35,6 +35,7 @@ pub mod beside;
 mod cells;
 mod elements;
 mod fronts;
+pub mod line_by_line;
 mod lines;
 mod rule_marks;
 mod rule_rows;
@@ -106,8 +107,9 @@ impl Model for Walk {
 
 impl Walk {
     ghost use Rattle.tbl_picture.specs.ElementsWalked.{CanWalk, StepsIf, started, still_to_come};
+    ghost use Rattle.tbl_kept.specs.Rows.{IsPlainTable};
     ghost use Rattle.tbl_lines.specs.RowsWalked.{AreNarrow};
-    ghost use Rattle.tbl_picture.specs.RulePlaces.{HavePlaces};
+    ghost use Rattle.tbl_lines.specs.RulePlaces.{HavePlaces};
     ghost use Rattle.tbl_picture.specs.Walks.{IsUnderWay, LiesInColumns, RowEndsOrGoesOn};
     ghost use Rattle.tbl_picture.specs.Walks.{lent_entries, lent_row, row_begun};
 
@@ -140,7 +142,8 @@ impl Walk {
             ≡ picture_lines (record { bars = bars; width = width; columns = rows.columns })
             (elements_of bytes formats rows.elements) }
         ensures can { (bytes : List ℕ) (formats : List FormatRow) (rows : KeptRows)
-            → RowsLaid bytes formats rows → AreNarrow rows.columns → HavePlaces formats
+            → RowsLaid bytes formats bars.boxing.is_inside rows → IsPlainTable rows
+            → AreNarrow rows.columns → HavePlaces formats
             (record { bars = bars; width = width; columns = rows.columns })
             → length rows.columns ≤ self.old.room → CanWalk bytes formats rows self.new }
     {
@@ -204,6 +207,7 @@ impl Walk {
         requires room { pieces.old.taken + 4 ≤ pieces.old.room }
         ensures steps { (frame : List ℕ) → RowEndsOrGoesOn result frame (lent_row row.now)
             self.old self.new pieces.old pieces.new }
+        ensures full { result ≡ false → pieces.new.room < pieces.new.taken + 4 }
         ensures escapes { escapes.new.room ≡ escapes.old.room }
     {
         let mut has_ended = false;

@@ -1,5 +1,5 @@
 -- A text block that is open ends where no line goes on: the parts hold together, and give the table that is closed.
-use Rattle.std.proofs.Common.{◌≡◌, ℕ, ◌-◌, ◌<◌, Bool, true, false, List, length, map, Option, Some, None, refl, sym, ap, subst, ◌∙◌, arith, length-append}
+use Rattle.std.proofs.Common.{◌≡◌, ℕ, ◌<◌, Bool, true, false, List, length, map, Option, Some, None, refl, sym, ap, subst, ◌∙◌, arith, length-append}
 use Rattle.tbl_data.specs.DataRead.{closed_block}
 use Rattle.tbl_data.specs.TableData.{table_by}
 use Rattle.tbl_data.specs.TableRead.{RowBegun, TableRead}

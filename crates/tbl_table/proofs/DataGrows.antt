@@ -20,7 +20,7 @@ use Rattle.tbl_layout.specs.Entries.{Content, Element, is_number, key_at}
 use Rattle.tbl_layout.specs.KeptEntries.{IsKeptBy, IsText, content_of, text_entry}
 use Rattle.tbl_layout.specs.declared.entry.Entry.{Entry}
 use Rattle.tbl_layout.specs.declared.entry.EntryKind.{EntryKind}
-use Rattle.tbl_layout.specs.declared.entry.EntryKind.TheVariants.{Block as BlockKind, Repeated as RepeatedKind, Ruled as RuledKind, Short as ShortKind, Split as SplitKind, Text as TextKind}
+use Rattle.tbl_layout.specs.declared.entry.EntryKind.TheVariants.{Above as AboveKind, Block as BlockKind, Repeated as RepeatedKind, Ruled as RuledKind, Short as ShortKind, Split as SplitKind, Text as TextKind}
 use Rattle.tbl_kept.proofs.KeptFields.{contents-more, part-more}
 use Rattle.tbl_kept.proofs.RowsKeeping.{RowBegunKept-more}
 use Rattle.tbl_table.proofs.DataLies.{body-more, lies-kept}
@@ -137,6 +137,7 @@ module _ (bytes more : List ℕ) (d : TableData) (ends : EndsBy (length bytes) d
   kept-less (RuledKind sign) key e within kept = record { order = kept.order; within = within }
   kept-less ShortKind key e within kept = record { order = kept.order; within = within }
   kept-less (RepeatedKind b) key e within kept = record { order = kept.order; within = within }
+  kept-less AboveKind key e within kept = record { order = kept.order; within = within }
 
   fields-less : (format : FormatRow) (column : ℕ) (entries : List Entry) → AllByRecursion (EntryEnds (length bytes)) entries
       → AreKept (bytes ++ more) format column entries → AreKept bytes format column entries
@@ -146,8 +147,8 @@ module _ (bytes more : List ℕ) (d : TableData) (ends : EndsBy (length bytes) d
 
   element-less : (formats : List FormatRow) (columns : ℕ) (e : KeptElement) → ElementEnds (length bytes) e → ElementKept (bytes ++ more) formats columns e
       → ElementKept bytes formats columns e
-  element-less formats columns (Row keys rules height entries) within kept =
-      record { serves = kept.serves; in_front = kept.in_front; cells = kept.cells; short = kept.short; kept = fields-less (row_at formats keys) 0 entries within kept.kept; low = kept.low }
+  element-less formats columns (Row keys rules height is_tall entries) within kept =
+      record { serves = kept.serves; in_front = kept.in_front; ruled = kept.ruled; cells = kept.cells; short = kept.short; kept = fields-less (row_at formats keys) 0 entries within kept.kept; low = kept.low; alone = kept.alone }
   element-less formats columns (Rule sign) within kept = tt
   element-less formats columns (Command from to) within kept = record { order = kept.order; within = within }
 

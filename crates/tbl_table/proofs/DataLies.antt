@@ -1,5 +1,5 @@
 -- What is kept of a table lies within its bytes.
-use Rattle.std.proofs.Common.{◌≡◌, ℕ, suc, ◌+◌, ◌≤◌, List, [], ◌∷◌, ◌++◌, length, map, refl, ap, ◌∙◌, arith, if◌then◌else◌, ◌==◌}
+use Rattle.std.proofs.Common.{Bool, ◌≡◌, ℕ, suc, ◌+◌, ◌≤◌, List, [], ◌∷◌, ◌++◌, length, map, refl, ap, ◌∙◌, arith, if◌then◌else◌, ◌==◌}
 use Rattle.std.specs.List.{AllByRecursion}
 use Rattle.tbl_data.specs.TableData.{ElementEnds, EntryEnds}
 use Rattle.tbl_format.specs.Format.{FormatRow}
@@ -9,7 +9,7 @@ use Rattle.tbl_layout.specs.Entries.{Block, Command as OneCommand, Content, Elem
 use Rattle.tbl_layout.specs.KeptEntries.{IsKeptBy, IsLaidBy, content_by, content_of}
 use Rattle.tbl_layout.specs.declared.entry.Entry.{Entry}
 use Rattle.tbl_layout.specs.declared.entry.EntryKind.{EntryKind}
-use Rattle.tbl_layout.specs.declared.entry.EntryKind.TheVariants.{Block as BlockKind, Repeated as RepeatedKind, Ruled as RuledKind, Short as ShortKind, Split as SplitKind, Text as TextKind}
+use Rattle.tbl_layout.specs.declared.entry.EntryKind.TheVariants.{Above as AboveKind, Block as BlockKind, Repeated as RepeatedKind, Ruled as RuledKind, Short as ShortKind, Split as SplitKind, Text as TextKind}
 use Rattle.tbl_format.specs.declared.format.Key.{Key}
 use Rattle.tbl_text.specs.BlockWords.{lines_in}
 use Rattle.tbl_kept.proofs.KeptFields.{part-more}
@@ -22,6 +22,7 @@ kept-lies (BlockKind b) bytes key e kept = kept.lies.within
 kept-lies (RuledKind sign) bytes key e kept = kept.within
 kept-lies ShortKind bytes key e kept = kept.within
 kept-lies (RepeatedKind b) bytes key e kept = kept.within
+kept-lies AboveKind bytes key e kept = kept.within
 
 laid-lies : (kind : EntryKind) (bytes : List ℕ) (key : Key) (e : Entry) → IsLaidBy kind bytes key e → EntryEnds (length bytes) e
 laid-lies (TextKind glyphs width) bytes key e laid = laid.within
@@ -30,6 +31,7 @@ laid-lies (BlockKind b) bytes key e laid = laid.lies.within
 laid-lies (RuledKind sign) bytes key e laid = laid.within
 laid-lies ShortKind bytes key e laid = laid.within
 laid-lies (RepeatedKind b) bytes key e laid = laid.within
+laid-lies AboveKind bytes key e laid = laid.within
 
 pub fields-kept : (bytes : List ℕ) (format : FormatRow) (column : ℕ) (entries : List Entry) → AreKept bytes format column entries → AllByRecursion (EntryEnds (length bytes)) entries
 fields-kept bytes format column [] kept = tt
@@ -43,12 +45,12 @@ fields-laid bytes format cell (e ∷ entries) laid =
     (laid-lies e.kind bytes (key_at format cell) e laid.0, fields-laid bytes format (suc cell) entries laid.1)
 
 element-kept : (bytes : List ℕ) (formats : List FormatRow) (columns : ℕ) (e : KeptElement) → ElementKept bytes formats columns e → ElementEnds (length bytes) e
-element-kept bytes formats columns (Row keys rules height entries) kept = fields-kept bytes (row_at formats keys) 0 entries kept.kept
+element-kept bytes formats columns (Row keys rules height is_tall entries) kept = fields-kept bytes (row_at formats keys) 0 entries kept.kept
 element-kept bytes formats columns (Rule sign) kept = tt
 element-kept bytes formats columns (Command from to) kept = kept.within
 
 element-laid : (bytes : List ℕ) (formats : List FormatRow) (columns : ℕ) (e : KeptElement) → ElementLaid bytes formats columns e → ElementEnds (length bytes) e
-element-laid bytes formats columns (Row keys rules height entries) laid = fields-laid bytes (row_at formats keys) 0 entries laid.laid
+element-laid bytes formats columns (Row keys rules height is_tall entries) laid = fields-laid bytes (row_at formats keys) 0 entries laid.laid
 element-laid bytes formats columns (Rule sign) laid = tt
 element-laid bytes formats columns (Command from to) laid = laid.within
 
@@ -66,8 +68,8 @@ elements-laid bytes formats columns (e ∷ es) laid = (element-laid bytes format
 pub lies-kept : (bytes : List ℕ) (formats : List FormatRow) (k : KeptRows) → RowsKept bytes formats k → AllByRecursion (ElementEnds (length bytes)) k.elements
 lies-kept bytes formats k kept = elements-kept bytes formats (length k.columns) k.elements kept.elements
 
-pub lies-laid : (bytes : List ℕ) (formats : List FormatRow) (k : KeptRows) → RowsLaid bytes formats k → AllByRecursion (ElementEnds (length bytes)) k.elements
-lies-laid bytes formats k laid = elements-laid bytes formats (length k.columns) k.elements laid
+pub lies-laid : (bytes : List ℕ) (formats : List FormatRow) (is_inside : Bool) (k : KeptRows) → RowsLaid bytes formats is_inside k → AllByRecursion (ElementEnds (length bytes)) k.elements
+lies-laid bytes formats is_inside k laid = elements-laid bytes formats (length k.columns) k.elements laid.elements
 
 -- what ends by a place ends by a later one
 fields-longer : (a b : ℕ) (entries : List Entry) → a ≤ b → AllByRecursion (EntryEnds a) entries → AllByRecursion (EntryEnds b) entries
@@ -75,7 +77,7 @@ fields-longer a b [] less lies = tt
 fields-longer a b (e ∷ entries) less lies = (omega (arith, less, lies.0), fields-longer a b entries less lies.1)
 
 element-longer : (a b : ℕ) (e : KeptElement) → a ≤ b → ElementEnds a e → ElementEnds b e
-element-longer a b (Row keys rules height entries) less lies = fields-longer a b entries less lies
+element-longer a b (Row keys rules height is_tall entries) less lies = fields-longer a b entries less lies
 element-longer a b (Rule sign) less lies = tt
 element-longer a b (Command from to) less lies = omega (arith, less, lies)
 
@@ -93,6 +95,7 @@ module _ (bytes more : List ℕ) where
   content-by (RuledKind sign) from to within = refl
   content-by ShortKind from to within = refl
   content-by (RepeatedKind b) from to within = refl
+  content-by AboveKind from to within = refl
 
   contents-same : (entries : List Entry) → AllByRecursion (EntryEnds (length bytes)) entries → map (content_of (bytes ++ more)) entries ≡ map (content_of bytes) entries
   contents-same [] lies = refl
@@ -101,7 +104,7 @@ module _ (bytes more : List ℕ) where
       ∙ ap (λ (cs : List Content). content_of bytes e ∷ cs) (contents-same entries lies.1)
 
   element-same : (formats : List FormatRow) (e : KeptElement) → ElementEnds (length bytes) e → element_of (bytes ++ more) formats e ≡ element_of bytes formats e
-  element-same formats (Row keys rules height entries) lies =
+  element-same formats (Row keys rules height is_tall entries) lies =
       ap (λ (fields : List Content). OneRow (rows_in_front formats keys rules) (row_at formats keys) (completed (row_at formats keys) fields)) (contents-same entries lies)
   element-same formats (Rule sign) lies = refl
   element-same formats (Command from to) lies = ap OneCommand (part-more bytes more from to lies)

@@ -1,10 +1,9 @@
 -- How many messages the fields of a line have.
-use Rattle.std.proofs.Common.{◌≡◌, ℕ, zero, suc, ◌+◌, ◌-◌, ◌≤◌, ◌<◌, Bool, true, false, not, ◌&&◌, ◌||◌, List, [], ◌∷◌, ◌++◌, length, map, take, drop, Option, Some, None, refl, sym, subst, ap, ◌∙◌, cond, arith, length-append, length-drop, nat_lt, if◌then◌else◌, ◌==◌}
-use Rattle.std.specs.Prelude.{take_while, is_some, option_map, option_to_list}
+use Rattle.std.proofs.Common.{◌≡◌, ℕ, zero, suc, ◌+◌, ◌-◌, ◌≤◌, ◌<◌, Bool, true, false, not, ◌&&◌, ◌||◌, List, [], ◌∷◌, ◌++◌, length, map, take, drop, Option, Some, None, refl, arith, length-append, length-drop, nat_lt, if◌then◌else◌, ◌==◌}
+use Rattle.std.specs.Prelude.{is_some, option_map, option_to_list}
 use Rattle.std.proofs.lemmas.Bool.Decides.{nat_tests}
-use Rattle.std.proofs.lemmas.List.Sums.{take_while-cons}
 use Rattle.tbl_options.specs.Notes.{told_at}
-use Rattle.tbl_options.specs.declared.message.Message.TheVariants.{BadFormat, NotMeasured, RequestInTextBlock}
+use Rattle.tbl_options.specs.declared.message.Message.TheVariants.{NotMeasured, RequestInTextBlock}
 use Rattle.tbl_options.specs.declared.message.Told.{Told}
 use Rattle.tbl_kept.specs.Joined.{line_at}
 use Rattle.tbl_layout.specs.Data.{fields, in_first}
@@ -17,12 +16,11 @@ use Rattle.tbl_layout.specs.declared.data_lines.FieldKind.TheVariants.{Above, Re
 use Rattle.tbl_layout.specs.declared.data_lines.LineKind.{LineKind}
 use Rattle.tbl_layout.specs.declared.data_lines.LineKind.TheVariants.{Command, Formats, Row, Rule}
 use Rattle.tbl_data.specs.DataRead.{behind_block, cells, field_notes, fields_with_block, item_notes, keyed, notes_by_kind, notes_of_field, serving, surplus_notes, whole_line, with_block_line, with_fields, with_line, with_open_row, with_whole}
-use Rattle.tbl_data.proofs.FieldSteps.{content-of, is-laid}
+use Rattle.tbl_data.proofs.FieldSteps.{content-of}
 use Rattle.tbl_format.specs.Cells.{cell_count}
 use Rattle.tbl_format.specs.Format.{FormatRow}
 use Rattle.tbl_format.specs.declared.format.FormatKey.{FormatKey}
-use Rattle.tbl_format.specs.declared.format.Key.{Key}
-use Rattle.tbl_data.specs.TableRead.{RowBegun, TableRead, bad, with_notes}
+use Rattle.tbl_data.specs.TableRead.{RowBegun, TableRead, with_notes}
 use Rattle.tbl_text.specs.Items.{Item, first_item, first_items, items, note}
 
 -- where there is a column a row has a cell
@@ -58,18 +56,15 @@ notes-by_kind Short ends n place field = omega arith
 notes-by_kind (Repeated b) ends n place field = omega arith
 notes-by_kind Above ends n place field = omega arith
 
--- fields with a separator behind each have that many bytes more
-abbrev pub texts_of : List (Key × List ℕ) → List (List ℕ)
-texts_of [] = []
-texts_of (field ∷ fs) = field.1 ∷ texts_of fs
-
-pub field_notes-most : (ends : List (ℕ × ℕ)) (n place : ℕ) (fs : List (Key × List ℕ))
-    → length (field_notes ends n place fs) + length (texts_of fs) ≤ len_of_fields (texts_of fs)
-field_notes-most ends n place [] = omega arith
-field_notes-most ends n place (field ∷ fs) =
-    let here = notes_of_field field.0 ends n place field.1 in
-    let further = field_notes ends n (place + length field.1 + 1) fs in
-    omega (arith, notes-by_kind (kind_under field.0 field.1) ends n place field.1, field_notes-most ends n (place + length field.1 + 1) fs, length-append here further)
+-- those of all fields: a line has a separator more behind each
+pub notes-keyed : (ends : List (ℕ × ℕ)) (n place : ℕ) (format : FormatRow) (cell : ℕ) (texts : List (List ℕ))
+    → length (field_notes ends n place (keyed format cell texts)) + length texts ≤ len_of_fields texts
+notes-keyed ends n place format cell [] = omega arith
+notes-keyed ends n place format cell (field ∷ texts) =
+    let key = key_at format cell in
+    let here = notes_of_field key ends n place field in
+    let further = field_notes ends n (place + length field + 1) (keyed format (suc cell) texts) in
+    omega (arith, notes-by_kind (kind_under key field) ends n place field, notes-keyed ends n (place + length field + 1) format (suc cell) texts, length-append here further)
 
 -- some of these fields are fewer, and shorter by one at least for each that is left out
 pub record IsPart (some all : List (List ℕ)) : Type 0 where
@@ -109,42 +104,6 @@ part-opening [] = part-same []
 part-opening (field ∷ []) = opening-by (opens_block field) field
 part-opening (field ∷ next ∷ all) = part-longer field (without_opening (next ∷ all)) (next ∷ all) (part-opening (next ∷ all))
 
--- and those in front of the first that isn't laid out under its key
-abbrev pub built_of : FormatRow → ℕ → List (List ℕ) → List (Key × List ℕ)
-built_of format column texts = take_while is-laid (keyed format column texts)
-
-while-by : (laid : Bool) (key : Key) (field : List ℕ) (some : List (Key × List ℕ)) (all : List (List ℕ)) → IsPart (texts_of some) all
-    → IsPart (texts_of (cond laid ((key, field) ∷ some) [])) (field ∷ all)
-while-by true key field some all part = part-longer field (texts_of some) all part
-while-by false key field some all part = part-none (field ∷ all)
-
-pub part-while : (format : FormatRow) (column : ℕ) (all : List (List ℕ)) → IsPart (texts_of (built_of format column all)) all
-part-while format column [] = part-same []
-part-while format column (field ∷ all) =
-    let key = key_at format column in
-    subst (λ (some : List (Key × List ℕ)). IsPart (texts_of some) (field ∷ all))
-    (sym (take_while-cons is-laid (key, field) (keyed format (suc column) all)))
-    (while-by (is-laid (key, field)) key field (built_of format (suc column) all) all (part-while format (suc column) all))
-
--- they are the first of the texts
-front-by : (laid : Bool) (key : Key) (field : List ℕ) (some : List (Key × List ℕ)) (all : List (List ℕ)) → texts_of some ≡ take (length some) all
-    → texts_of (cond laid ((key, field) ∷ some) []) ≡ take (length (cond laid ((key, field) ∷ some) [])) (field ∷ all)
-front-by true key field some all is = ap (λ (fs : List (List ℕ)). field ∷ fs) is
-front-by false key field some all is = refl
-
-pub built-front : (format : FormatRow) (column : ℕ) (all : List (List ℕ))
-    → texts_of (built_of format column all) ≡ take (length (built_of format column all)) all
-built-front format column [] = refl
-built-front format column (field ∷ all) =
-    let key = key_at format column in
-    subst (λ (some : List (Key × List ℕ)). texts_of some ≡ take (length some) (field ∷ all))
-    (sym (take_while-cons is-laid (key, field) (keyed format (suc column) all)))
-    (front-by (is-laid (key, field)) key field (built_of format (suc column) all) all (built-front format (suc column) all))
-
-pub texts-len : (fs : List (Key × List ℕ)) → length (texts_of fs) ≡ length fs
-texts-len [] = refl
-texts-len (field ∷ fs) = ap suc (texts-len fs)
-
 pub less : (a b : ℕ) → nat_lt a b ≡ true → a < b
 less a b is = grind (arith, nat_tests, is)
 
@@ -153,7 +112,7 @@ take-few zero all = omega arith
 take-few (suc n) [] = omega arith
 take-few (suc n) (field ∷ all) = omega (arith, take-few n all)
 
--- with what the fields are, a row or a fault, there is one more at most
+-- with the fields that are surplus there is one more at most
 pub surplus-few : (has had : Bool) (line most told : ℕ) → (has ≡ true → told + 1 ≤ most) → told ≤ most → told + length (surplus_notes (has && not had) line) ≤ most
 surplus-few true true line most told one none = omega (arith, none)
 surplus-few true false line most told one none = omega (arith, one refl)
@@ -164,12 +123,9 @@ pub open-few : (opens had : Bool) (contents : List Content) (t : TableRead) (mos
 open-few true had contents t most few = few
 open-few false had contents t most few = few
 
-pub told-few : (unbuilt opens : Bool) (line : ℕ) (had : Bool) (contents : List Content) (surplus : List Told) (t : TableRead) (most : ℕ)
-    → (unbuilt ≡ true → length t.notes + 1 ≤ most) → length t.notes + length surplus ≤ most
-    → length (if unbuilt then bad line t else with_open_row opens had contents (with_notes surplus t)).notes ≤ most
-told-few true opens line had contents surplus t most one few = omega (arith, one refl, length-append t.notes (told_at line BadFormat ∷ []))
-told-few false opens line had contents surplus t most one few =
-    open-few opens had contents (with_notes surplus t) most (omega (arith, few, length-append t.notes surplus))
+pub told-few : (opens had : Bool) (contents : List Content) (surplus : List Told) (t : TableRead) (most : ℕ) → length t.notes + length surplus ≤ most
+    → length (with_open_row opens had contents (with_notes surplus t)).notes ≤ most
+told-few opens had contents surplus t most few = open-few opens had contents (with_notes surplus t) most (omega (arith, few, length-append t.notes surplus))
 
 pub fields_most : (ends : List (ℕ × ℕ)) (n place : ℕ) (all : List (List ℕ)) (in_front : List Content) (had_surplus : Bool) (t : TableRead)
     → length (with_fields ends n place all in_front had_surplus t).notes ≤ length t.notes + len_of_fields all
@@ -178,47 +134,33 @@ fields_most ends n place all in_front had_surplus t =
     let column = length in_front in
     let room = cells t - column in
     let texts = take room (without_opening all) in
-    let built = built_of format column texts in
+    let line = line_at ends (place + len_of_fields texts - 1) n in
     let has_surplus = nat_lt room (length all) in
-    let told = field_notes ends n place built in
-    let unbuilt = nat_lt (length built) (length texts) in
-    let notes = field_notes-most ends n place built in
-    let count = texts-len built in
-    let laid = part-while format column texts in
+    let told = field_notes ends n place (keyed format column texts) in
+    let notes = notes-keyed ends n place format column texts in
     let kept = part-behind texts (without_opening all) all (part-take room (without_opening all)) (part-opening all) in
-    let part = part-behind (texts_of built) texts all laid kept in
     let few = length-append t.notes told in
-    let room_few : length texts ≤ room = take-few room (without_opening all) in
-    told-few unbuilt (ends_in_block all) (line_at ends (place + len_of_fields (take (length built) texts)) n)
-    (has_surplus || had_surplus) (in_front ++ map content-of (keyed format column texts))
-    (surplus_notes (has_surplus && not had_surplus) (line_at ends (place + len_of_fields texts - 1) n)) (with_notes told t) (length t.notes + len_of_fields all)
-    (λ is. omega (arith, few, notes, count, laid.shorter, kept.shorter, kept.fewer, less (length built) (length texts) is))
-    (surplus-few has_surplus had_surplus (line_at ends (place + len_of_fields texts - 1) n) (length t.notes + len_of_fields all) (length (t.notes ++ told))
-    (λ is. omega (arith, few, notes, part.shorter, laid.fewer, room_few, less room (length all) is))
-    (omega (arith, few, notes, part.shorter, part.fewer)))
+    told-few (ends_in_block all) (has_surplus || had_surplus) (in_front ++ map content-of (keyed format column texts))
+    (surplus_notes (has_surplus && not had_surplus) line) (with_notes told t) (length t.notes + len_of_fields all)
+    (surplus-few has_surplus had_surplus line (length t.notes + len_of_fields all) (length (t.notes ++ told))
+    (λ is. omega (arith, few, notes, kept.shorter, less room (length all) is))
+    (omega (arith, few, notes, kept.shorter)))
 
 -- a row that is whole, or of which a block opens, leaves no line that goes on
 open-pending : (opens had : Bool) (contents : List Content) (t : TableRead) → t.pending ≡ None → (with_open_row opens had contents t).pending ≡ None
 open-pending true had contents t none = none
 open-pending false had contents t none = none
 
-told-pending : (unbuilt opens : Bool) (line : ℕ) (had : Bool) (contents : List Content) (surplus : List Told) (t : TableRead) → t.pending ≡ None
-    → (if unbuilt then bad line t else with_open_row opens had contents (with_notes surplus t)).pending ≡ None
-told-pending true opens line had contents surplus t none = refl
-told-pending false opens line had contents surplus t none = open-pending opens had contents (with_notes surplus t) none
-
 pub fields_pending : (ends : List (ℕ × ℕ)) (n place : ℕ) (all : List (List ℕ)) (in_front : List Content) (had_surplus : Bool) (t : TableRead) → t.pending ≡ None
     → (with_fields ends n place all in_front had_surplus t).pending ≡ None
 fields_pending ends n place all in_front had_surplus t none =
-    let format = serving t in
     let column = length in_front in
     let room = cells t - column in
     let texts = take room (without_opening all) in
-    let built = built_of format column texts in
+    let fields = keyed (serving t) column texts in
     let has_surplus = nat_lt room (length all) in
-    told-pending (nat_lt (length built) (length texts)) (ends_in_block all) (line_at ends (place + len_of_fields (take (length built) texts)) n)
-    (has_surplus || had_surplus) (in_front ++ map content-of (keyed format column texts))
-    (surplus_notes (has_surplus && not had_surplus) (line_at ends (place + len_of_fields texts - 1) n)) (with_notes (field_notes ends n place built) t) none
+    open-pending (ends_in_block all) (has_surplus || had_surplus) (in_front ++ map content-of fields)
+    (with_notes (surplus_notes (has_surplus && not had_surplus) (line_at ends (place + len_of_fields texts - 1) n)) (with_notes (field_notes ends n place fields) t)) none
 
 -- the fields of a line are as long as it, with a separator behind each
 in_first-len : (b : ℕ) (fs : List (List ℕ)) (n : ℕ) → len_of_fields fs ≡ suc n → len_of_fields (in_first b fs) ≡ suc (suc n)

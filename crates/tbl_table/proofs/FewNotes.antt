@@ -13,7 +13,7 @@ use Rattle.tbl_kept.specs.Joined.{Joined, behind_joined, ends_joined, goes_on}
 use Rattle.tbl_data.specs.DataRead.{closed_block, whole_line, with_pending}
 use Rattle.tbl_table.specs.MayTell.{fault_may_come, line_may_tell, may_tell}
 use Rattle.tbl_table.specs.Table.{behind_format, closed, closed_line, ended, ended_in, format_line, head_line, left_out_notes, line_in, line_read, notes, told_at_cut, with_options}
-use Rattle.tbl_data.specs.TableRead.{RowBegun, TableRead, bad, no_lines, with_notes}
+use Rattle.tbl_data.specs.TableRead.{RowBegun, TableRead, no_lines, with_notes}
 use Rattle.tbl_data.specs.declared.phase.Phase.{Phase}
 use Rattle.tbl_data.specs.declared.phase.Phase.TheVariants.{AtHead, Bad, InData, InFormat}
 use Rattle.tbl_table.proofs.IgnoredOptions.{ignored-most}

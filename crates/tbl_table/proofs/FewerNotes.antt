@@ -1,5 +1,5 @@
 -- A whole line of the data has one message for each of its bytes at the most, where there is a column.
-use Rattle.std.proofs.Common.{◌≡◌, ℕ, suc, ◌+◌, ◌-◌, ◌≤◌, Bool, true, false, not, ◌&&◌, ◌||◌, List, [], ◌∷◌, ◌++◌, length, map, take, drop, Option, Some, None, refl, arith, length-append, length-drop, nat_lt, if◌then◌else◌}
+use Rattle.std.proofs.Common.{◌≡◌, ℕ, suc, ◌+◌, ◌-◌, ◌≤◌, Bool, false, not, ◌&&◌, ◌||◌, List, [], ◌∷◌, ◌++◌, length, map, take, drop, Option, Some, None, refl, arith, length-append, length-drop, nat_lt, if◌then◌else◌}
 use Rattle.std.specs.Prelude.{is_some}
 use Rattle.tbl_data.specs.DataRead.{behind_block, cells, field_notes, fields_with_block, item_notes, keyed, serving, surplus_notes, whole_line, with_block_line, with_fields, with_line, with_whole}
 use Rattle.tbl_data.proofs.FieldSteps.{content-of}
@@ -16,8 +16,8 @@ use Rattle.tbl_layout.specs.declared.data_lines.BlockLineKind.TheVariants.{End, 
 use Rattle.tbl_layout.specs.declared.data_lines.LineKind.{LineKind}
 use Rattle.tbl_layout.specs.declared.data_lines.LineKind.TheVariants.{Command, Formats, Row, Rule}
 use Rattle.tbl_text.specs.Items.{items}
-use Rattle.tbl_table.proofs.FewFields.{built_of, cells-some, field_notes-most, fields_most, kept-few, len-fields, less, part-behind, part-opening, part-take, part-while, surplus-few, take-few, texts-len, texts_of, told-few}
-use Rattle.tbl_table.proofs.LastPlaces.{request-some, unlaid-within}
+use Rattle.tbl_table.proofs.FewFields.{cells-some, fields_most, kept-few, len-fields, less, notes-keyed, part-behind, part-opening, part-take, surplus-few, told-few}
+use Rattle.tbl_table.proofs.LastPlaces.{request-some}
 
 fields-fewer : (ends : List (ℕ × ℕ)) (n place : ℕ) (all : List (List ℕ)) (in_front : List Content) (had : Bool) (t : TableRead) → 1 ≤ length all → 1 ≤ cells t - length in_front
     → 1 ≤ len_of_fields all → length (with_fields ends n place all in_front had t).notes + 1 ≤ length t.notes + len_of_fields all
@@ -26,25 +26,18 @@ fields-fewer ends n place all in_front had t one some least =
     let column = length in_front in
     let room = cells t - column in
     let texts = take room (without_opening all) in
-    let built = built_of format column texts in
+    let line = line_at ends (place + len_of_fields texts - 1) n in
     let has = nat_lt room (length all) in
-    let told = field_notes ends n place built in
-    let unbuilt = nat_lt (length built) (length texts) in
-    let notes = field_notes-most ends n place built in
-    let laid = part-while format column texts in
-    let count = texts-len built in
+    let told = field_notes ends n place (keyed format column texts) in
+    let notes = notes-keyed ends n place format column texts in
     let kept = part-behind texts (without_opening all) all (part-take room (without_opening all)) (part-opening all) in
-    let part = part-behind (texts_of built) texts all laid kept in
     let few = length-append t.notes told in
-    let room_few : length texts ≤ room = take-few room (without_opening all) in
     let most = length t.notes + (len_of_fields all - 1) in
-    let within = told-few unbuilt (ends_in_block all) (line_at ends (place + len_of_fields (take (length built) texts)) n)
-    (has || had) (in_front ++ map content-of (keyed format column texts))
-    (surplus_notes (has && not had) (line_at ends (place + len_of_fields texts - 1) n)) (with_notes told t) most
-    (λ is. omega (arith, few, notes, count, unlaid-within format column texts (less (length built) (length texts) is), kept.shorter, kept.fewer))
-    (surplus-few has had (line_at ends (place + len_of_fields texts - 1) n) most (length (t.notes ++ told))
-    (λ is. omega (arith, few, notes, part.shorter, laid.fewer, room_few, less room (length all) is, some))
-    (omega (arith, few, notes, part.shorter, part.fewer, one))) in
+    let within = told-few (ends_in_block all) (has || had) (in_front ++ map content-of (keyed format column texts))
+    (surplus_notes (has && not had) line) (with_notes told t) most
+    (surplus-few has had line most (length (t.notes ++ told))
+    (λ is. omega (arith, few, notes, kept.shorter, less room (length all) is, some))
+    (omega (arith, few, notes, kept.shorter, one))) in
     omega (arith, within, least)
 
 fields-some : (all : List (List ℕ)) (n : ℕ) → len_of_fields all ≡ suc n → 1 ≤ length all

@@ -10,6 +10,8 @@ use Rattle.tbl_data.specs.declared.table_data.OpenBlock.TheVariants.{Dropped, Ke
 use Rattle.tbl_data.specs.declared.table_data.TableData.{TableData}
 use Rattle.roff_escape.specs.EscapeTexts.{KeptEscapes}
 use Rattle.tbl_format.specs.RowsServed.{all_rows}
+use Rattle.tbl_format.specs.Format.{FormatRow}
+use Rattle.tbl_format.specs.FormatLaws.{RowHeld}
 use Rattle.tbl_format.specs.declared.format.Asked.{Asked}
 use Rattle.tbl_format.specs.declared.limits.TblLimits.{TblLimits}
 use Rattle.tbl_options.specs.declared.options.Options.{Options}
@@ -29,12 +31,13 @@ use Rattle.tbl_layout.proofs.PlacesBetween.{bars-laid, bars-placed_with, bars_of
 use Rattle.tbl_layout.proofs.Spreading.{length-all_fitted}
 use Rattle.tbl_layout.proofs.Shares.{share-grows, share-most}
 use Rattle.tbl_lines.specs.RowsWalked.{AreNarrow}
-use Rattle.tbl_lines.specs.PictureLines.{Sheet, picture_lines}
+use Rattle.tbl_lines.specs.PictureLeft.{table_lines}
+use Rattle.tbl_lines.specs.PictureLines.{Sheet}
 use Rattle.tbl_table.specs.Kept.{PartsFit, row_open, table_of}
 use Rattle.tbl_table.specs.Laying.{IsLaid, body_of, columns_by, lacking_by}
 use Rattle.tbl_table.specs.MayTell.{line_may_tell}
-use Rattle.tbl_picture.specs.Giving.{IsLaidOut, lines_laid}
-use Rattle.tbl_picture.specs.RulePlaces.{HavePlaces}
+use Rattle.tbl_picture.specs.Giving.{HasCells, IsLaidOut, lines_laid}
+use Rattle.tbl_lines.specs.RulePlaces.{HavePlaces}
 use Rattle.tbl_table.specs.Table.{body_filled, laid_out}
 use Rattle.tbl_table.specs.declared.begun.Begun.{Begun}
 use Rattle.tbl_table.specs.declared.begun.Begun.TheVariants.{Nothing}
@@ -118,6 +121,12 @@ placed-narrow bars most more asked columns short few =
     each-narrow most (left_edge bars) (spread more (total spaces) 0 spaces) columns
     (omega (arith, short, length-spread more (total spaces) 0 spaces, length-gaps bars 0 asked)) (omega (arith, few, spread-all more spaces))
 
+-- the keys of rows that are held have their cells
+cells-held : (front : ℕ) (asked : List Asked) (formats : List FormatRow) → AllByRecursion (RowHeld front asked) formats
+    → AllByRecursion HasCells formats
+cells-held front asked [] held = tt
+cells-held front asked (format ∷ formats) held = (held.0.cells, cells-held front asked formats held.1)
+
 -- a row that isn't begun leaves no block open
 pub none-open-by : (pending : Option Joined) (block : OpenBlock) → pending ≡ None → block ≡ NoBlock → row_open pending block ≡ 0
 none-open-by None NoBlock none closed = refl
@@ -132,6 +141,13 @@ module _ (l : TblLimits) (phase : Phase) (begun : Begun) (text : KeptText) (d : 
       let len : n ≡ length text.settled =
       n_is ∙ ap (λ (p : Option Joined). length (text.settled ++ behind_joined p [])) none ∙ ap (λ (xs : List ℕ). length xs) (append-nil text.settled) in
       take_at text.settled (behind_joined text.pending text.line) n (sym len)
+
+  -- its format has a row, and so a column
+  some-asked : 0 < length d.format.format.asked
+  some-asked =
+      let f = d.format.format in
+      let served : d.keys < length (all_rows f) = (data-reads l phase begun text d fits is).fits.served.serves in
+      fits.keys.rows.wide (omega (arith, served, length-append f.earlier f.rows))
 
   -- it passes as one behind a fault
   pub laid-fits : (rows : KeptRows) (escapes : KeptEscapes) → SameRoom d.rows rows → AllByRecursion (ElementEnds (length text.settled)) rows.elements
@@ -177,7 +193,7 @@ module _ (l : TblLimits) (phase : Phase) (begun : Begun) (text : KeptText) (d : 
     bars = table_bars options.boxing d.format.format
 
     pub laid-lies : AllByRecursion (ElementEnds (length text.settled)) new.rows.elements
-    laid-lies = lies-laid text.settled (all_rows d.format.format) new.rows laid.laid
+    laid-lies = lies-laid text.settled (all_rows d.format.format) bars.boxing.is_inside new.rows laid.laid
 
     count-laid : length new.rows.columns ≡ length d.format.format.asked
     count-laid =
@@ -186,6 +202,12 @@ module _ (l : TblLimits) (phase : Phase) (begun : Begun) (text : KeptText) (d : 
     -- the rows with their places
     abbrev pub places : ℕ → KeptRows
     places more = record new.rows { columns = placed_with bars more d.format.format.asked new.rows.columns }
+
+    count-placed : (more : ℕ) → length (places more).columns ≡ length d.format.format.asked
+    count-placed more =
+        length-placed (left_edge bars)
+        (spread more (total (gaps bars d.format.format.asked)) 0 (gaps bars d.format.format.asked)) new.rows.columns
+        ∙ count-laid
 
     -- its columns stand in order, with places for all bars
     places-are : (more width : ℕ) → more ≡ lacking_by bars options.expanded line_length text.settled d
@@ -211,34 +233,36 @@ module _ (l : TblLimits) (phase : Phase) (begun : Begun) (text : KeptText) (d : 
         → width_of_all bars new.rows.columns d.format.format.asked + more < 4294967296
         → more ≡ lacking_by bars options.expanded line_length text.settled d
         → width ≡ (laid_out line_length (table_of phase options text d)).width
-        → RowsLaid text.settled (all_rows d.format.format) (places more) → IsLaidOut bars width text (places more) d.format columns
-    laid-out columns more width columns_is narrow more_is width_is rows = record {
-      laid = RowsLaid-more text.settled (behind_joined text.pending text.line) (all_rows d.format.format) (places more) rows;
+        → width < 4294967296
+        → RowsLaid text.settled (all_rows d.format.format) bars.boxing.is_inside (places more) → IsLaidOut bars width text (places more) d.format columns
+    laid-out columns more width columns_is narrow more_is width_is wide rows = record {
+      laid = RowsLaid-more text.settled (behind_joined text.pending text.line) (all_rows d.format.format) bars.boxing.is_inside (places more) rows;
+      some = omega (arith, some-asked, count-placed more);
       few = omega (
         arith,
         columns_is,
-        length-placed (left_edge bars)
-            (spread more (total (gaps bars d.format.format.asked)) 0 (gaps bars d.format.format.asked)) new.rows.columns,
-        count-laid,
+        count-placed more,
         fits.keys.columns,
         fits.keys.asked,
         fits.bytes.few,
       );
       narrow = narrow-parts (places more).columns (placed-narrow bars 4294967296 more d.format.format.asked new.rows.columns (omega (arith, count-laid)) narrow);
       places = places-are more width more_is width_is;
+      cells = cells-held d.format.format.front d.format.format.asked (all_rows d.format.format) (read-held d.format.format fits.keys.made).rows;
+      wide = wide;
       small = omega (arith, fits.bytes.most, fits.bytes.block, fits.rooms.small, behind-len text.pending text.line, length-append text.settled (behind_joined text.pending text.line), length-append text.settled (behind_joined text.pending []));
     }
 
     pub lines-are : (width more : ℕ) → more ≡ lacking_by bars options.expanded line_length text.settled d
-        → RowsLaid text.settled (all_rows d.format.format) (places more)
+        → RowsLaid text.settled (all_rows d.format.format) bars.boxing.is_inside (places more)
         → lines_laid bars width text (places more) d.format
-        ≡ picture_lines (record { bars = bars; width = width; columns = (laid_out line_length (table_of phase options text d)).columns })
+        ≡ table_lines (record { bars = bars; width = width; columns = (laid_out line_length (table_of phase options text d)).columns })
         (body_filled line_length (table_of phase options text d))
     lines-are width more more_is rows =
         let asked = d.format.format.asked in
         let body = filled bars line_length asked (body_of text.settled d) in
         let sheet : List Column → Sheet = λ cs. record { bars = bars; width = width; columns = cs } in
-        ap (λ (es : List Element). picture_lines (sheet (placed_with bars more asked new.rows.columns)) es)
-        (elements_of-laid-more text.settled (behind_joined text.pending text.line) (all_rows d.format.format) (places more) rows ∙ laid.body)
-        ∙ ap (λ (cs : List Column). picture_lines (sheet (placed_with bars more asked cs)) body) laid.columns
-        ∙ ap (λ (n : ℕ). picture_lines (sheet (placed_with bars n asked (columns_by bars line_length text.settled d))) body) more_is
+        ap (λ (es : List Element). table_lines (sheet (placed_with bars more asked new.rows.columns)) es)
+        (elements_of-laid-more text.settled (behind_joined text.pending text.line) (all_rows d.format.format) bars.boxing.is_inside (places more) rows ∙ laid.body)
+        ∙ ap (λ (cs : List Column). table_lines (sheet (placed_with bars more asked cs)) body) laid.columns
+        ∙ ap (λ (n : ℕ). table_lines (sheet (placed_with bars n asked (columns_by bars line_length text.settled d))) body) more_is

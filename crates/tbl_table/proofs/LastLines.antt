@@ -1,10 +1,10 @@
 -- The parts of a table whose last line has no newline.
-use Rattle.std.proofs.Common.{◌≡◌, ◌==◌, ℕ, suc, ◌+◌, ◌<◌, ◌≤◌, Bool, true, false, List, [], ◌∷◌, ◌++◌, length, take, drop, Option, Some, None, refl, sym, ap, subst, ◌∙◌, arith, append-nil, length-append, if◌then◌else◌}
+use Rattle.std.proofs.Common.{◌≡◌, ◌==◌, ℕ, suc, ◌+◌, ◌<◌, ◌≤◌, false, List, [], ◌∷◌, ◌++◌, length, take, drop, Option, Some, None, refl, sym, ap, subst, ◌∙◌, arith, append-nil, length-append}
 use Rattle.std.proofs.lemmas.List.Elements.{All-nil}
 use Rattle.std.specs.Prelude.{IfSome, unwrap_or}
 use Rattle.roff_source.specs.Bytes.{newline}
-use Rattle.tbl_data.specs.TableData.{BadFits, FormatFits}
-use Rattle.tbl_data.specs.TableRead.{TableRead, bad, with_notes}
+use Rattle.tbl_data.specs.TableData.{FormatFits}
+use Rattle.tbl_data.specs.TableRead.{TableRead, with_notes}
 use Rattle.tbl_data.specs.declared.phase.Phase.{Phase}
 use Rattle.tbl_data.specs.declared.phase.Phase.TheVariants.{Bad, InFormat}
 use Rattle.tbl_data.specs.declared.table_data.TableData.{TableData}
@@ -23,7 +23,7 @@ use Rattle.tbl_kept.specs.Joined.{Joined, behind_joined}
 use Rattle.tbl_kept.specs.Rows.{entries_of}
 use Rattle.tbl_kept.specs.TableNotes.{KeptNotes}
 use Rattle.tbl_kept.specs.TableText.{KeptText, block_of, text_whole}
-use Rattle.tbl_table.specs.Begun.{FewKeys, begun_in}
+use Rattle.tbl_table.specs.Begun.{begun_in}
 use Rattle.tbl_table.specs.Kept.{FormatReads, HasRooms, PartsFit, PhaseFits, TextFits, block_open, data_read, kept_in, row_open}
 use Rattle.tbl_table.specs.MayTell.{fault_may_come}
 use Rattle.tbl_table.specs.Reading.{Reading, last_read}

@@ -1,30 +1,26 @@
 -- The messages of a joined line name the same lines, whether the end of its last one is known or its number alone.
-use Rattle.std.proofs.Common.{◌≡◌, ℕ, zero, suc, ◌+◌, ◌-◌, ◌≤◌, ◌<◌, Bool, true, false, not, ◌&&◌, ◌||◌, List, [], ◌∷◌, ◌++◌, length, map, take, drop, Option, Some, None, refl, sym, ap, subst, ◌∙◌, cond, arith, length-drop, nat_lt, if◌then◌else◌}
+use Rattle.std.proofs.Common.{◌≡◌, ℕ, zero, suc, ◌+◌, ◌-◌, ◌≤◌, ◌<◌, Bool, true, false, not, ◌&&◌, ◌||◌, List, [], ◌∷◌, ◌++◌, length, map, take, drop, Option, Some, None, refl, ap, ◌∙◌, arith, length-drop, nat_lt, if◌then◌else◌}
 use Rattle.std.specs.Prelude.{is_some, option_map, option_to_list}
 use Rattle.std.proofs.lemmas.Bool.Decides.{nat_tests}
-use Rattle.std.proofs.lemmas.List.Sums.{take_while-cons}
 use Rattle.tbl_data.specs.DataRead.{behind_block, cells, field_notes, fields_with_block, item_notes, keyed, notes_by_kind, notes_of_field, serving, surplus_notes, whole_line, with_block_line, with_fields, with_line, with_open_row, with_text, with_whole}
-use Rattle.tbl_data.proofs.FieldSteps.{content-of, is-laid}
+use Rattle.tbl_data.proofs.FieldSteps.{content-of}
 use Rattle.tbl_format.specs.Format.{FormatRow}
-use Rattle.tbl_format.specs.declared.format.Key.{Key}
-use Rattle.tbl_data.specs.TableRead.{RowBegun, TableRead, bad, columns, with_note, with_notes}
+use Rattle.tbl_data.specs.TableRead.{RowBegun, TableRead, columns, with_note, with_notes}
 use Rattle.tbl_options.specs.Notes.{told_at}
 use Rattle.tbl_options.specs.declared.message.Message.TheVariants.{NotMeasured, RequestInTextBlock}
 use Rattle.tbl_options.specs.declared.message.Told.{Told}
 use Rattle.tbl_kept.specs.Joined.{line_at}
 use Rattle.tbl_layout.specs.Data.{fields}
-use Rattle.tbl_layout.specs.DataLines.{block_line_kind, ends_in_block, is_laid_out, kind_if, kind_under, len_of_fields, line_kind, without_opening}
+use Rattle.tbl_layout.specs.DataLines.{block_line_kind, ends_in_block, kind_under, len_of_fields, line_kind, without_opening}
 use Rattle.tbl_layout.specs.Entries.{Content, key_at}
-use Rattle.tbl_layout.specs.RuleKeys.{rule_sign}
-use Rattle.tbl_layout.specs.declared.data_lines.RuleSign.{RuleSign}
 use Rattle.tbl_layout.specs.declared.data_lines.BlockLineKind.{BlockLineKind}
 use Rattle.tbl_layout.specs.declared.data_lines.BlockLineKind.TheVariants.{End, Request, Text}
 use Rattle.tbl_layout.specs.declared.data_lines.FieldKind.{FieldKind}
 use Rattle.tbl_layout.specs.declared.data_lines.FieldKind.TheVariants.{Above, Repeated, Ruled, Short, Text as TextField}
 use Rattle.tbl_layout.specs.declared.data_lines.LineKind.{LineKind}
 use Rattle.tbl_layout.specs.declared.data_lines.LineKind.TheVariants.{Command, Formats, Row, Rule}
-use Rattle.tbl_text.specs.Items.{first_item, first_items, items, note}
-use Rattle.tbl_table.proofs.FewFields.{built-front, built_of, cells-some, len-fields, part-behind, part-opening, part-take, part-while, take-few, texts_of, less}
+use Rattle.tbl_text.specs.Items.{first_item, first_items, note}
+use Rattle.tbl_table.proofs.FewFields.{cells-some, len-fields, less, part-behind, part-opening, part-take, take-few}
 
 -- a place in front of the last line's end isn't one of a further line
 pub line_at-last : (ends : List (ℕ × ℕ)) (len place n : ℕ) → place < len → line_at (ends ++ (len, n) ∷ []) place 0 ≡ line_at ends place n
@@ -33,34 +29,6 @@ line_at-last [] len place n before =
     ap (λ (t : Bool). if t then n else 0) test
 line_at-last (end ∷ ends) len place n before =
     ap (λ (line : ℕ). if nat_lt place end.0 then end.1 else line) (line_at-last ends len place n before)
-
--- a field that isn't laid out has a byte
-unlaid-sign : (sign : Option RuleSign) (field : List ℕ) → is_laid_out (kind_if sign field) ≡ false → 1 ≤ length field
-unlaid-sign (Some sign) field is = absurd (cc)
-unlaid-sign None [] is = absurd (cc)
-unlaid-sign None (b ∷ field) is = omega arith
-
-unlaid-some : (field : Key × List ℕ) → is-laid field ≡ false → 1 ≤ length field.1
-unlaid-some field is = unlaid-sign (rule_sign field.0) field.1 is
-
-unlaid-by : (laid : Bool) (key : Key) (field : List ℕ) (rest : List (Key × List ℕ)) (texts : List (List ℕ)) → is-laid (key, field) ≡ laid
-    → (length rest < length texts → len_of_fields (texts_of rest) + 2 ≤ len_of_fields texts)
-    → length (cond laid ((key, field) ∷ rest) []) < length (field ∷ texts)
-    → len_of_fields (texts_of (cond laid ((key, field) ∷ rest) [])) + 2 ≤ len_of_fields (field ∷ texts)
-unlaid-by true key field rest texts is further fewer = omega (arith, further (omega (arith, fewer)))
-unlaid-by false key field rest texts is further fewer = omega (arith, unlaid-some (key, field) is)
-
--- in front of the first that isn't there are two bytes less at least
-pub unlaid-within : (format : FormatRow) (column : ℕ) (texts : List (List ℕ)) → length (built_of format column texts) < length texts
-    → len_of_fields (texts_of (built_of format column texts)) + 2 ≤ len_of_fields texts
-unlaid-within format column [] fewer = absurd (omega (arith, fewer))
-unlaid-within format column (field ∷ texts) fewer =
-    let key = key_at format column in
-    let rest = built_of format (suc column) texts in
-    let front = take_while-cons is-laid (key, field) (keyed format (suc column) texts) in
-    subst (λ (some : List (Key × List ℕ)). len_of_fields (texts_of some) + 2 ≤ len_of_fields (field ∷ texts)) (sym front)
-    (unlaid-by (is-laid (key, field)) key field rest texts refl (unlaid-within format (suc column) texts)
-    (subst (λ (some : List (Key × List ℕ)). length some < length (field ∷ texts)) front fewer))
 
 -- where there is a surplus, some text stands in front of it
 kept-some : (room : ℕ) (all : List (List ℕ)) → room < length all → 1 ≤ room → 1 ≤ len_of_fields (take room (without_opening all))
@@ -73,14 +41,12 @@ front-some : (place room : ℕ) (all : List (List ℕ)) → room < length all �
 front-some place zero all fewer some = omega (arith, some)
 front-some place (suc room) all fewer some = omega (arith, kept-some (suc room) all fewer (omega arith))
 
--- a row, by its faults and its surplus
-outcome-same : (unbuilt first opens : Bool) (a b s u : ℕ) (dropped : Bool) (contents : List Content) (t : TableRead) → (unbuilt ≡ true → a ≡ b) → (first ≡ true → s ≡ u)
-    → (if unbuilt then bad a t else with_open_row opens dropped contents (with_notes (surplus_notes first s) t))
-    ≡ (if unbuilt then bad b t else with_open_row opens dropped contents (with_notes (surplus_notes first u) t))
-outcome-same true first opens a b s u dropped contents t fault surplus = ap (λ (k : ℕ). bad k t) (fault refl)
-outcome-same false true opens a b s u dropped contents t fault surplus =
+-- a row, by its surplus
+surplus-same : (first opens : Bool) (s u : ℕ) (dropped : Bool) (contents : List Content) (t : TableRead) → (first ≡ true → s ≡ u)
+    → with_open_row opens dropped contents (with_notes (surplus_notes first s) t) ≡ with_open_row opens dropped contents (with_notes (surplus_notes first u) t)
+surplus-same true opens s u dropped contents t surplus =
     ap (λ (k : ℕ). with_open_row opens dropped contents (with_notes (surplus_notes true k) t)) (surplus refl)
-outcome-same false false opens a b s u dropped contents t fault surplus = refl
+surplus-same false opens s u dropped contents t surplus = refl
 
 one-of : (has had : Bool) → (has && not had) ≡ true → has ≡ true
 one-of true had is = refl
@@ -115,12 +81,14 @@ module _ (others : List (ℕ × ℕ)) (m : ℕ) (ends : List (ℕ × ℕ)) (n le
   kind-same (Repeated b) place field within = refl
   kind-same Above place field within = refl
 
-  notes-same : (place : ℕ) (fs : List (Key × List ℕ)) → place + len_of_fields (texts_of fs) ≤ len + 1 → field_notes others m place fs ≡ field_notes ends n place fs
-  notes-same place [] within = refl
-  notes-same place (field ∷ fs) within =
-      ap (λ (ts : List Told). ts ++ field_notes others m (place + length field.1 + 1) fs)
-      (kind-same (kind_under field.0 field.1) place field.1 (λ some. omega (arith, within)))
-      ∙ ap (λ (ts : List Told). notes_of_field field.0 ends n place field.1 ++ ts) (notes-same (place + length field.1 + 1) fs (omega (arith, within)))
+  notes-same : (place : ℕ) (format : FormatRow) (cell : ℕ) (texts : List (List ℕ)) → place + len_of_fields texts ≤ len + 1
+      → field_notes others m place (keyed format cell texts) ≡ field_notes ends n place (keyed format cell texts)
+  notes-same place format cell [] within = refl
+  notes-same place format cell (field ∷ texts) within =
+      let key = key_at format cell in
+      ap (λ (ts : List Told). ts ++ field_notes others m (place + length field + 1) (keyed format (suc cell) texts))
+      (kind-same (kind_under key field) place field (λ some. omega (arith, within)))
+      ∙ ap (λ (ts : List Told). notes_of_field key ends n place field ++ ts) (notes-same (place + length field + 1) format (suc cell) texts (omega (arith, within)))
 
   fields-same : (place : ℕ) (all : List (List ℕ)) (in_front : List Content) (had : Bool) (t : TableRead) → place + len_of_fields all ≤ len + 1
       → 1 ≤ place + (cells t - length in_front) → with_fields others m place all in_front had t ≡ with_fields ends n place all in_front had t
@@ -129,23 +97,18 @@ module _ (others : List (ℕ × ℕ)) (m : ℕ) (ends : List (ℕ × ℕ)) (n le
       let column = length in_front in
       let room = cells t - column in
       let texts = take room (without_opening all) in
-      let built = built_of format column texts in
       let has = nat_lt room (length all) in
-      let unbuilt = nat_lt (length built) (length texts) in
       let contents = in_front ++ map content-of (keyed format column texts) in
-      let laid = part-while format column texts in
       let kept = part-behind texts (without_opening all) all (part-take room (without_opening all)) (part-opening all) in
       let few : length texts ≤ room = take-few room (without_opening all) in
-      let fault = place + len_of_fields (take (length built) texts) in
-      let front : len_of_fields (texts_of built) ≡ len_of_fields (take (length built) texts) = ap len_of_fields (built-front format column texts) in
-      let behind = λ (ts : List Told). if unbuilt then bad (line_at others fault m) (with_notes ts t) else with_open_row (ends_in_block all) (has || had) contents (with_notes (surplus_notes (has && not had) (line_at others (place + len_of_fields texts - 1) m)) (with_notes ts t)) in
-      ap behind (notes-same place built (omega (arith, within, laid.shorter, laid.fewer, kept.shorter, kept.fewer)))
-      ∙ outcome-same unbuilt (has && not had) (ends_in_block all) (line_at others fault m) (line_at ends fault n)
-      (line_at others (place + len_of_fields texts - 1) m) (line_at ends (place + len_of_fields texts - 1) n) (has || had) contents (with_notes (field_notes ends n place built) t)
-      (λ is. same fault (omega (arith, within, front, kept.shorter, kept.fewer, unlaid-within format column texts (less (length built) (length texts) is))))
+      let last = place + len_of_fields texts - 1 in
+      let behind = λ (ts : List Told). with_open_row (ends_in_block all) (has || had) contents (with_notes (surplus_notes (has && not had) (line_at others last m)) (with_notes ts t)) in
+      ap behind (notes-same place format column texts (omega (arith, within, kept.shorter, kept.fewer)))
+      ∙ surplus-same (has && not had) (ends_in_block all) (line_at others last m) (line_at ends last n) (has || had) contents
+      (with_notes (field_notes ends n place (keyed format column texts)) t)
       (λ is.
       let fewer = less room (length all) (one-of has had is) in
-      same (place + len_of_fields texts - 1) (omega (arith, within, kept.shorter, few, fewer, front-some place room all fewer some)))
+      same last (omega (arith, within, kept.shorter, few, fewer, front-some place room all fewer some)))
 
   line-same : (kind : LineKind) (line : List ℕ) (t : TableRead) → line_kind line ≡ kind → length line ≡ len → 1 ≤ columns t
       → with_line kind others m line t ≡ with_line kind ends n line t

@@ -1,8 +1,7 @@
 -- The last line of the data has no newline: what it tells is kept, and nothing that stands in the table.
-use Rattle.std.proofs.Common.{◌≡◌, ◌==◌, ℕ, ◌+◌, ◌-◌, ◌<◌, ◌≤◌, All, Bool, true, false, List, [], ◌∷◌, ◌++◌, length, take, drop, Option, Some, None, refl, sym, ap, subst, ◌∙◌, arith, length-append, if◌then◌else◌}
+use Rattle.std.proofs.Common.{◌≡◌, ◌==◌, ℕ, ◌+◌, ◌-◌, ◌<◌, ◌≤◌, All, Bool, true, false, List, [], ◌++◌, length, take, drop, Option, Some, None, refl, sym, ap, subst, ◌∙◌, arith, length-append, if◌then◌else◌}
 use Rattle.std.proofs.lemmas.List.{drop_at, length-map, length-replicate, length-take}
 use Rattle.std.proofs.lemmas.List.Elements.{All-take}
-use Rattle.std.specs.Prelude.{replicate}
 use Rattle.std.specs.List.{slice_range}
 use Rattle.roff_source.specs.Bytes.{newline}
 use Rattle.tbl_data.specs.DataRead.{closed_block, whole_line, with_pending}
@@ -14,11 +13,10 @@ use Rattle.tbl_data.specs.declared.table_data.TableData.{TableData}
 use Rattle.tbl_options.specs.Notes.{NotesWithin, told_of, told_of_all}
 use Rattle.tbl_format.specs.RowsServed.{all_rows}
 use Rattle.tbl_format.specs.declared.limits.TblLimits.{TblLimits}
-use Rattle.tbl_options.specs.declared.message.Told.{Told}
 use Rattle.tbl_options.specs.declared.notes.KeptNote.{KeptNote}
 use Rattle.tbl_options.specs.declared.options.Options.{Options}
 use Rattle.tbl_kept.specs.Joined.{Joined, behind_joined, ends_joined, goes_on}
-use Rattle.tbl_kept.specs.Rows.{RowBegunKept, RowsKept, cleared, no_column, with_columns}
+use Rattle.tbl_kept.specs.Rows.{RowBegunKept, RowsKept, cleared, no_column}
 use Rattle.tbl_kept.specs.TableText.{KeptText, block_of, text_whole}
 use Rattle.tbl_kept.proofs.RowsKeeping.{RowBegunKept-first, RowsKept-columns, RowsKept-none}
 use Rattle.tbl_table.specs.Begun.{begun_in}
@@ -32,7 +30,7 @@ use Rattle.tbl_table.proofs.FewerNotes.{whole-fewer}
 use Rattle.tbl_table.proofs.FormatLines.{IsCounted, KeysFit-start}
 use Rattle.tbl_table.proofs.LastLines.{done-line, is_bad-by, notes-by, whole-bytes, whole-longer, whole-read}
 use Rattle.tbl_table.proofs.LastPlaces.{whole-last}
-use Rattle.tbl_table.proofs.LineEnds.{Taken, all-kept, block-len, block-line, data-reads, fault-most, new-counted, new-rooms, one-fault, one-read, read-most, table-taken, whole-most}
+use Rattle.tbl_table.proofs.LineEnds.{Taken, block-len, block-line, data-reads, fault-most, new-counted, new-rooms, one-fault, one-read, read-most, table-taken, whole-most}
 use Rattle.tbl_table.proofs.NotesKept.{NotesWithin-more}
 use Rattle.tbl_table.proofs.OtherLines.{joined-cut}
 use Rattle.tbl_table.proofs.TableFits.{kept-most}

@@ -16,10 +16,9 @@ use Rattle.tbl_layout.specs.declared.data_lines.LineKind.{LineKind}
 use Rattle.tbl_layout.specs.declared.data_lines.LineKind.TheVariants.{Command, Formats, Row, Rule}
 use Rattle.tbl_data.specs.DataRead.{closed_block, behind_block, cells, field_notes, fields_with_block, keyed, serving, surplus_notes, whole_line, with_block_line, with_fields, with_line, with_open_row, with_pending, with_whole}
 use Rattle.tbl_data.proofs.FieldSteps.{content-of}
-use Rattle.tbl_table.proofs.FewFields.{built_of}
 use Rattle.tbl_table.specs.NotesStay.{Begins, NotesStay}
 use Rattle.tbl_table.specs.Table.{behind_format, closed, closed_line, ended, ended_in, format_line, head_line, left_out_notes, line_in, line_read, notes, told_at_cut, with_options}
-use Rattle.tbl_data.specs.TableRead.{RowBegun, TableRead, bad, with_notes}
+use Rattle.tbl_data.specs.TableRead.{RowBegun, TableRead, with_notes}
 use Rattle.tbl_data.specs.declared.phase.Phase.{Phase}
 use Rattle.tbl_data.specs.declared.phase.Phase.TheVariants.{AtHead, Bad, InData, InFormat}
 
@@ -65,26 +64,23 @@ open_stays : (opens had : Bool) (contents : List Content) (t : TableRead) → Be
 open_stays true had contents t = begins_same t.notes
 open_stays false had contents t = begins_same t.notes
 
--- fields, by whether one of them isn't laid out
-fields_by : (unbuilt opens : Bool) (line : ℕ) (had : Bool) (contents : List Content) (surplus : List Told) (t : TableRead)
-    → Begins t.notes (if unbuilt then bad line t else with_open_row opens had contents (with_notes surplus t)).notes
-fields_by true opens line had contents surplus t = begins_longer t.notes _
-fields_by false opens line had contents surplus t =
+-- fields
+fields_by : (opens had : Bool) (contents : List Content) (surplus : List Told) (t : TableRead)
+    → Begins t.notes (with_open_row opens had contents (with_notes surplus t)).notes
+fields_by opens had contents surplus t =
     begins_behind t.notes (t.notes ++ surplus) (with_open_row opens had contents (with_notes surplus t)).notes (begins_longer t.notes surplus) (open_stays opens had contents (with_notes surplus t))
 
 fields_stay : (ends : List (ℕ × ℕ)) (n place : ℕ) (all : List (List ℕ)) (in_front : List Content) (had_surplus : Bool) (t : TableRead)
     → Begins t.notes (with_fields ends n place all in_front had_surplus t).notes
 fields_stay ends n place all in_front had_surplus t =
-    let format = serving t in
     let column = length in_front in
     let room = cells t - column in
     let texts = take room (without_opening all) in
-    let built = built_of format column texts in
+    let fields = keyed (serving t) column texts in
     let has_surplus = nat_lt room (length all) in
-    let told = field_notes ends n place built in
+    let told = field_notes ends n place fields in
     begins_behind t.notes (t.notes ++ told) (with_fields ends n place all in_front had_surplus t).notes (begins_longer t.notes told)
-    (fields_by (nat_lt (length built) (length texts)) (ends_in_block all) (line_at ends (place + len_of_fields (take (length built) texts)) n)
-    (has_surplus || had_surplus) (in_front ++ map content-of (keyed format column texts))
+    (fields_by (ends_in_block all) (has_surplus || had_surplus) (in_front ++ map content-of fields)
     (surplus_notes (has_surplus && not had_surplus) (line_at ends (place + len_of_fields texts - 1) n)) (with_notes told t))
 
 -- a whole line of the data

@@ -1,15 +1,14 @@
 -- A line behind a fault has ended, or a line of the data that goes on.
-use Rattle.std.proofs.Common.{◌≡◌, ◌==◌, ℕ, ◌+◌, ◌-◌, ◌<◌, ◌≤◌, All, true, false, List, [], ◌∷◌, ◌++◌, length, take, Option, Some, None, refl, sym, ap, subst, ◌∙◌, arith, append-nil, length-append}
+use Rattle.std.proofs.Common.{◌≡◌, ◌==◌, ℕ, ◌+◌, ◌-◌, ◌<◌, ◌≤◌, All, false, List, [], ◌∷◌, ◌++◌, length, take, Option, Some, None, refl, sym, ap, subst, ◌∙◌, arith, append-nil, length-append}
 use Rattle.std.proofs.lemmas.List.{length-take}
 use Rattle.std.proofs.Math.Seq.{take-append-add}
 use Rattle.std.proofs.lemmas.List.Elements.{All-take}
 use Rattle.roff_source.specs.Bytes.{newline}
-use Rattle.tbl_data.specs.TableData.{begun_by, table_by}
+use Rattle.tbl_data.specs.TableData.{table_by}
 use Rattle.tbl_data.specs.TableRead.{TableRead}
 use Rattle.tbl_data.specs.declared.phase.Phase.{Phase}
 use Rattle.tbl_data.specs.declared.phase.Phase.TheVariants.{Bad, InData}
 use Rattle.tbl_data.specs.declared.table_data.TableData.{TableData}
-use Rattle.tbl_format.specs.Format.{Format}
 use Rattle.tbl_format.specs.declared.limits.TblLimits.{TblLimits}
 use Rattle.tbl_options.specs.declared.options.Options.{Options}
 use Rattle.tbl_kept.specs.Joined.{Joined, behind_joined}
@@ -17,14 +16,13 @@ use Rattle.tbl_kept.specs.TableText.{KeptText, text_ended, text_joined}
 use Rattle.tbl_table.specs.Begun.{FewKeys, begun_in}
 use Rattle.tbl_table.specs.Kept.{FaultRead, PartsFit, PhaseFits, reading_of, row_open, table_of}
 use Rattle.tbl_table.specs.MayTell.{line_may_tell}
-use Rattle.tbl_table.specs.Reading.{Reading}
 use Rattle.tbl_table.specs.Steps.{ended_with}
 use Rattle.tbl_table.specs.declared.begun.Begun.{Begun}
 use Rattle.tbl_table.specs.declared.begun.Begun.TheVariants.{Nothing}
 use Rattle.tbl_table.proofs.DataGrows.{BadFits-more, Lies-bad, table-more}
 use Rattle.tbl_table.proofs.DataLies.{lies-longer}
 use Rattle.tbl_table.proofs.FormatLines.{longer-settled, text-ends}
-use Rattle.tbl_table.proofs.LineEnds.{data-reads, row-open-most}
+use Rattle.tbl_table.proofs.LineEnds.{data-reads}
 use Rattle.tbl_table.proofs.NotesKept.{NotesWithin-more}
 use Rattle.tbl_table.proofs.TableFits.{behind-len, ended-read}
 

@@ -6,7 +6,6 @@ use Rattle.tbl_format.specs.Format.{format_read}
 use Rattle.tbl_options.specs.Options.{options_end}
 use Rattle.tbl_format.specs.declared.format.FormatPlace.{FormatPlace}
 use Rattle.tbl_format.specs.declared.format.FormatPlace.TheVariants.{AtEnd, AtFault, InRows}
-use Rattle.tbl_options.specs.declared.message.Told.{Told}
 use Rattle.tbl_kept.specs.Joined.{behind_joined, ends_joined, goes_on, line_at}
 use Rattle.tbl_layout.specs.Data.{fields}
 use Rattle.tbl_layout.specs.DataLines.{behind_first, block_kind_ends_row, block_line_kind, ends_in_block, ends_row, kind_ends_row, len_of_fields, line_kind, without_opening}
@@ -18,8 +17,7 @@ use Rattle.tbl_layout.specs.declared.data_lines.LineKind.TheVariants.{Command, F
 use Rattle.tbl_data.specs.DataRead.{behind_block, cells, field_notes, fields_with_block, keyed, rules_in_front, serving, surplus_notes, whole_line, with_block_line, with_fields, with_line, with_open_row, with_pending, with_row, with_whole}
 use Rattle.tbl_table.specs.Table.{behind_format, columns_at, columns_in, ends_in, format_line, head_line, left_out_notes, line_in, line_read, rows, rows_behind, with_options}
 use Rattle.tbl_data.proofs.FieldSteps.{content-of}
-use Rattle.tbl_table.proofs.FewFields.{built_of}
-use Rattle.tbl_data.specs.TableRead.{RowBegun, TableRead, bad, with_notes}
+use Rattle.tbl_data.specs.TableRead.{RowBegun, TableRead, with_notes}
 use Rattle.tbl_data.specs.declared.phase.Phase.{Phase}
 use Rattle.tbl_data.specs.declared.phase.Phase.TheVariants.{AtHead, Bad, InData, InFormat}
 
@@ -55,23 +53,20 @@ open-rows : (opens had : Bool) (contents : List Content) (t : TableRead) → len
 open-rows true had contents t = omega arith
 open-rows false had contents t = row-more contents t
 
-noted-rows : (unbuilt opens : Bool) (line : ℕ) (had : Bool) (contents : List Content) (surplus : List Told) (t : TableRead)
-    → length (if unbuilt then bad line t else with_open_row opens had contents (with_notes surplus t)).body ≤ length t.body + one-if (not opens)
-noted-rows true opens line had contents surplus t = omega arith
-noted-rows false opens line had contents surplus t = omega (arith, open-rows opens had contents (with_notes surplus t))
-
 fields-rows : (ends : List (ℕ × ℕ)) (n place : ℕ) (all : List (List ℕ)) (in_front : List Content) (had_surplus : Bool) (t : TableRead)
     → length (with_fields ends n place all in_front had_surplus t).body ≤ length t.body + one-if (not (ends_in_block all))
 fields-rows ends n place all in_front had_surplus t =
-    let format = serving t in
     let column = length in_front in
     let room = cells t - column in
     let texts = take room (without_opening all) in
-    let built = built_of format column texts in
+    let fields = keyed (serving t) column texts in
     let has_surplus = nat_lt room (length all) in
-    noted-rows (nat_lt (length built) (length texts)) (ends_in_block all) (line_at ends (place + len_of_fields (take (length built) texts)) n)
-    (has_surplus || had_surplus) (in_front ++ map content-of (keyed format column texts))
-    (surplus_notes (has_surplus && not had_surplus) (line_at ends (place + len_of_fields texts - 1) n)) (with_notes (field_notes ends n place built) t)
+    let surplus = surplus_notes (has_surplus && not had_surplus) (line_at ends (place + len_of_fields texts - 1) n) in
+    omega (
+      arith,
+      open-rows (ends_in_block all) (has_surplus || had_surplus) (in_front ++ map content-of fields)
+          (with_notes surplus (with_notes (field_notes ends n place fields) t)),
+    )
 
 kind-rows : (kind : LineKind) (ends : List (ℕ × ℕ)) (n : ℕ) (line : List ℕ) (t : TableRead)
     → length (with_line kind ends n line t).body ≤ length t.body + one-if (kind_ends_row kind t.options.separator line)

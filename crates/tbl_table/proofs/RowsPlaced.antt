@@ -1,21 +1,21 @@
 -- The rows of a table's formats have no more bars than its columns have places for.
-use Rattle.std.proofs.Common.{◌≡◌, ℕ, zero, suc, ◌+◌, ◌-◌, ◌<◌, ◌≤◌, nat_lt, ◌==◌, Bool, true, false, List, [], ◌∷◌, length, map, get_or, inl, inr, Option, None, Some, refl, sym, ap, subst, ◌∙◌, arith, if◌then◌else◌}
+use Rattle.std.proofs.Common.{◌≡◌, ℕ, zero, suc, ◌+◌, ◌-◌, ◌≤◌, nat_lt, ◌==◌, Bool, true, false, List, [], ◌∷◌, length, get_or, inl, inr, Option, None, Some, refl, sym, ap, subst, ◌∙◌, arith, if◌then◌else◌}
 use Rattle.std.specs.List.{AllByRecursion}
 use Rattle.std.specs.Option.{unwrap_or}
 use Rattle.std.proofs.lemmas.Bool.{cases_lt}
 use Rattle.std.proofs.lemmas.Bool.Decides.{nat_tests}
 use Rattle.std.proofs.lemmas.List.{length-map}
-use Rattle.tbl_format.specs.Cells.{AreCells, cell_behind, cell_from, start_of}
+use Rattle.tbl_format.specs.Cells.{cell_behind, cell_from, start_of}
 use Rattle.tbl_format.specs.Format.{FormatRow, columns_of}
-use Rattle.tbl_format.specs.FormatLaws.{IsHeld, RowHeld, bars_beside, most_beside}
+use Rattle.tbl_format.specs.FormatLaws.{RowHeld, bars_beside, most_beside}
 use Rattle.tbl_format.specs.declared.format.Asked.{Asked}
 use Rattle.tbl_format.specs.declared.format.FormatKey.{FormatKey}
 use Rattle.tbl_format.proofs.CellColumns.{cells-few, start_behind, start_behind-next, start_behind-none, start_of-behind, start_of-ones}
 use Rattle.tbl_layout.specs.declared.columns.Column.{Column}
 use Rattle.tbl_layout.proofs.PlacesBetween.{bars_of_asked, bars_of_columns}
 use Rattle.tbl_lines.specs.PictureLines.{bars_among}
-use Rattle.tbl_picture.specs.RulePlaces.{HasPlaces, bars_behind}
-use Rattle.tbl_picture.proofs.RulesShown.{few-bars}
+use Rattle.tbl_lines.specs.RulePlaces.{HasPlaces, bars_behind}
+use Rattle.tbl_lines.proofs.RulesMet.{few-bars}
 
 -- the cell that is found behind so many columns begins there
 pub record BeginsThere (number from : ℕ) (keys : List FormatKey) (column cell : ℕ) : Type 0 where

@@ -1,5 +1,5 @@
 -- What a whole line of the data makes of a table: a row at most, also if it is only begun, and a further format or the same.
-use Rattle.std.proofs.Common.{◌≡◌, ℕ, ◌+◌, ◌-◌, ◌≤◌, ◌⊎◌, inl, inr, Bool, true, false, not, ◌&&◌, ◌||◌, List, [], ◌∷◌, ◌++◌, length, map, take, drop, Option, Some, None, refl, ap, arith, length-append, nat_lt, if◌then◌else◌}
+use Rattle.std.proofs.Common.{◌≡◌, ℕ, ◌+◌, ◌-◌, ◌≤◌, ◌⊎◌, inl, inr, Bool, true, false, not, ◌&&◌, ◌||◌, List, [], ◌∷◌, ◌++◌, length, map, take, drop, Option, Some, None, refl, ap, arith, length-append, nat_lt}
 use Rattle.tbl_format.specs.Format.{further}
 use Rattle.tbl_options.specs.declared.message.Told.{Told}
 use Rattle.tbl_kept.specs.Joined.{line_at}
@@ -12,8 +12,7 @@ use Rattle.tbl_layout.specs.declared.data_lines.LineKind.{LineKind}
 use Rattle.tbl_layout.specs.declared.data_lines.LineKind.TheVariants.{Command, Formats, Row, Rule}
 use Rattle.tbl_data.specs.DataRead.{behind_block, cells, field_notes, fields_with_block, keyed, rules_in_front, serving, surplus_notes, whole_line, with_block_line, with_fields, with_line, with_open_row, with_row, with_whole}
 use Rattle.tbl_data.proofs.FieldSteps.{content-of}
-use Rattle.tbl_table.proofs.FewFields.{built_of}
-use Rattle.tbl_data.specs.TableRead.{RowBegun, TableRead, bad, with_notes}
+use Rattle.tbl_data.specs.TableRead.{RowBegun, TableRead, with_notes}
 
 -- a row that is begun
 abbrev pub one_begun : Option RowBegun → ℕ
@@ -38,25 +37,19 @@ makes-open false had contents t = makes-row contents t
 makes-noted : (t u : TableRead) (notes : List Told) → Makes (with_notes notes t) u → Makes t u
 makes-noted t u notes makes = record { few = makes.few; format = makes.format }
 
-makes-by : (unbuilt opens : Bool) (line : ℕ) (had : Bool) (contents : List Content) (surplus : List Told) (t : TableRead)
-    → Makes t (if unbuilt then bad line t else with_open_row opens had contents (with_notes surplus t))
-makes-by true opens line had contents surplus t = record { few = omega arith; format = inl refl }
-makes-by false opens line had contents surplus t =
-    makes-noted t (with_open_row opens had contents (with_notes surplus t)) surplus (makes-open opens had contents (with_notes surplus t))
-
 makes-fields : (ends : List (ℕ × ℕ)) (n place : ℕ) (all : List (List ℕ)) (in_front : List Content) (had_surplus : Bool) (t : TableRead)
     → Makes t (with_fields ends n place all in_front had_surplus t)
 makes-fields ends n place all in_front had_surplus t =
-    let format = serving t in
     let column = length in_front in
     let room = cells t - column in
     let texts = take room (without_opening all) in
-    let built = built_of format column texts in
+    let fields = keyed (serving t) column texts in
     let has_surplus = nat_lt room (length all) in
-    makes-noted t (with_fields ends n place all in_front had_surplus t) (field_notes ends n place built)
-    (makes-by (nat_lt (length built) (length texts)) (ends_in_block all) (line_at ends (place + len_of_fields (take (length built) texts)) n)
-    (has_surplus || had_surplus) (in_front ++ map content-of (keyed format column texts))
-    (surplus_notes (has_surplus && not had_surplus) (line_at ends (place + len_of_fields texts - 1) n)) (with_notes (field_notes ends n place built) t))
+    let surplus = surplus_notes (has_surplus && not had_surplus) (line_at ends (place + len_of_fields texts - 1) n) in
+    let u = with_notes (field_notes ends n place fields) t in
+    let made = with_fields ends n place all in_front had_surplus t in
+    makes-noted t made (field_notes ends n place fields) (makes-noted u made surplus
+    (makes-open (ends_in_block all) (has_surplus || had_surplus) (in_front ++ map content-of fields) (with_notes surplus u)))
 
 makes-line : (kind : LineKind) (ends : List (ℕ × ℕ)) (n : ℕ) (line : List ℕ) (t : TableRead) → one_begun t.begun ≡ 0 → Makes t (with_line kind ends n line t)
 makes-line (Rule sign) ends n line t none = record { few = omega (arith, none, length-append t.body (OneRule sign ∷ [])); format = inl refl }

@@ -29,7 +29,7 @@ laid_by bars is_expanded line_length bytes d =
 
 -- its blocks have their lines, and its columns their widths
 pub record IsLaid (bytes : List ℕ) (bars : Bars) (line_length : ℕ) (old new : TableData) : Type 0 where
-  pub laid : RowsLaid bytes (all_rows old.format.format) new.rows
+  pub laid : RowsLaid bytes (all_rows old.format.format) bars.boxing.is_inside new.rows
   pub body : elements_of bytes (all_rows old.format.format) new.rows.elements
       ≡ filled bars line_length old.format.format.asked (body_of bytes old)
   pub columns : new.rows.columns ≡ columns_by bars line_length bytes old

@@ -15,7 +15,8 @@ use Rattle.tbl_layout.specs.Entries.{Element}
 use Rattle.tbl_layout.specs.Spans.{filled, laid}
 use Rattle.tbl_layout.specs.Widths.{table_bars}
 use Rattle.tbl_picture.specs.Frame.{indent, picture}
-use Rattle.tbl_lines.specs.PictureLines.{Sheet, picture_lines}
+use Rattle.tbl_lines.specs.PictureLeft.{table_lines}
+use Rattle.tbl_lines.specs.PictureLines.{Sheet}
 use Rattle.tbl_data.specs.DataRead.{closed_block, data_line, whole_line}
 pub use Rattle.tbl_data.specs.TableRead.{TableRead, bad, columns, no_lines, with_notes}
 use Rattle.tbl_data.specs.declared.phase.Phase.{Phase}
@@ -174,7 +175,7 @@ body_filled line_length t = filled (table_bars t.options.boxing t.format) line_l
 abbrev pub picture_of : ℕ → TableRead → List ℕ
 picture_of line_length t =
     let sheet = sheet_of line_length t in
-    picture (indent t.options.centered line_length sheet.width) (picture_lines sheet (body_filled line_length t))
+    picture (indent t.options.centered line_length sheet.width) (table_lines sheet (body_filled line_length t))
 
 abbrev pub output_in : Phase → ℕ → TableRead → Option (List ℕ)
 output_in AtHead line_length t = None
@@ -200,7 +201,7 @@ picture_after line_length lines = output line_length (ended_after line_length li
 
 abbrev pub lines_after : ℕ → List (List ℕ) → List ℕ
 lines_after line_length lines =
-    let t = ended_after line_length lines in picture_lines (sheet_of line_length t) (body_filled line_length t)
+    let t = ended_after line_length lines in table_lines (sheet_of line_length t) (body_filled line_length t)
 
 abbrev pub notes_after : List (List ℕ) → List Told
 notes_after lines = notes (ended_after 65 lines)

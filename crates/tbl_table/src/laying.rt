@@ -1,6 +1,6 @@
 //! How a table is laid out that is whole.
 
-ghost use Rattle.std.specs.Prelude.{◌≡◌, ◌+◌, ◌-◌, ◌<◌, ◌^◌, min, length, List, ℕ};
+ghost use Rattle.std.specs.Prelude.{◌≡◌, ◌+◌, ◌-◌, ◌<◌, ◌^◌, min, length, Bool, List, ℕ};
 ghost use Rattle.tbl_data.specs.TableData.{DataFits};
 ghost use Rattle.tbl_data.specs.declared.table_data.OpenBlock.TheVariants.{Nothing};
 ghost use Rattle.tbl_format.specs.Format.{FormatRow};
@@ -59,9 +59,9 @@ pub fn set_places(kept: &mut TableData, bars: Bars, more: usize)
     requires { width_of_all bars kept.old.rows.columns kept.old.format.format.asked + more
         < 2 ^ 32 }
     ensures value { kept.new ≡ with_places bars more kept.old }
-    ensures laid { (bytes : List ℕ) (formats : List FormatRow)
-        → RowsLaid bytes formats kept.old.rows
-        → RowsLaid bytes formats kept.new.rows }
+    ensures laid { (bytes : List ℕ) (formats : List FormatRow) (is_inside : Bool)
+        → RowsLaid bytes formats is_inside kept.old.rows
+        → RowsLaid bytes formats is_inside kept.new.rows }
 {
     kept.rows.set_starts(bars, kept.format.asked(), more);
 }

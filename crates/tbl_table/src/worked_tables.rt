@@ -72,8 +72,8 @@ pub fn reports()
     ensures dropped_block { notes_after (codes "tab(:);" ∷ codes "l." ∷ codes "a:T{" ∷ codes "\\c"
         ∷ codes ".x" ∷ codes "T}:b" ∷ [])
         ≡ told_at 3 TooManyFields ∷ told_at 5 RequestInTextBlock ∷ [] }
-    ensures unbuilt { notes_after (codes "l l." ∷ codes "\\c\t\\^" ∷ codes "x\ty\tz" ∷ [])
-        ≡ told_at 2 (NotMeasured 99) ∷ told_at 2 BadFormat ∷ [] }
+    ensures from_above { notes_after (codes "l l." ∷ codes "\\c\t\\^" ∷ codes "x\t\\^\tz" ∷ [])
+        ≡ told_at 2 (NotMeasured 99) ∷ told_at 3 TooManyFields ∷ [] }
     ensures rules { notes_after (codes "l l." ∷ codes "_" ∷ codes "\\_\t\\Rx" ∷ codes "=\t\\c" ∷ [])
         ≡ told_at 4 (NotMeasured 99) ∷ [] }
     ensures surplus_rule { notes_after (codes "l." ∷ codes "a\t_" ∷ [])
@@ -91,8 +91,8 @@ pub fn reports()
         ∷ codes "T}\tc" ∷ []) ≡ told_at 3 TooManyFields ∷ [] }
     ensures joined_surplus { notes_after (codes "l." ∷ codes "a\\" ∷ codes "\tb" ∷ [])
         ≡ told_at 3 TooManyFields ∷ [] }
-    ensures joined_unbuilt { notes_after (codes "l l." ∷ codes "_\t\\" ∷ codes "\\^" ∷ [])
-        ≡ told_at 3 BadFormat ∷ [] }
+    ensures joined_from_above { notes_after (codes "l l." ∷ codes "_\t\\" ∷ codes "\\^" ∷ [])
+        ≡ [] }
     ensures no_dot { notes_after (codes "l" ∷ []) ≡ told_at 2 BadFormat ∷ [] }
     ensures not_ended { notes_after (codes "l." ∷ codes "a" ∷ codes ".T&" ∷ codes "l" ∷ [])
         ≡ told_at 5 BadFormat ∷ [] }
@@ -105,5 +105,5 @@ pub fn counts()
         ∷ codes ".T&" ∷ codes "l." ∷ codes "b" ∷ []) ≡ 3 }
     ensures at_end { rows_after (codes "l l." ∷ codes "a\tT{" ∷ codes "b\\" ∷ []) ≡ 1 }
     ensures rule { rows_after (codes "l." ∷ codes "a" ∷ codes "_\\" ∷ []) ≡ 2 }
-    ensures unbuilt { rows_after (codes "l." ∷ codes "a" ∷ codes "\\^" ∷ []) ≡ 1 }
+    ensures from_above { rows_after (codes "l." ∷ codes "a" ∷ codes "\\^" ∷ []) ≡ 2 }
 {}

@@ -1,22 +1,26 @@
 //! The rows of a table, as they are laid out: their blocks are filled, and their columns get widths
 //! and places (Lesk, "Tbl": Format, Text Blocks).
 
-ghost use Rattle.std.specs.Prelude.{◌≡◌, ◌+◌, ◌<◌, ◌^◌, List, [], ℕ, length};
-ghost use Rattle.std.specs.List.{AllByRecursion};
+ghost use Rattle.std.specs.Prelude.{◌≡◌, ◌+◌, ◌<◌, ◌^◌, Bool, false, List, [], ℕ, length};
+ghost use Rattle.std.specs.List.{AllByRecursion, list_any};
 ghost use Rattle.tbl_format.specs.Format.{FormatRow};
 ghost use Rattle.tbl_format.specs.RowsServed.{all_rows};
-ghost use Rattle.tbl_kept.specs.Rows.{ElementKept, RowsKept, RowsLaid, SameRoom, elements_of};
+ghost use Rattle.tbl_kept.specs.KeptHeights.{raised};
+ghost use Rattle.tbl_kept.specs.Rows.{ElementKept, ElementLaid, RowsKept, RowsLaid, SameRoom, elements_of};
 ghost use Rattle.tbl_kept.specs.RowsLaying.{all_laid, element_at, fitted_rows, laid_at};
-ghost use Rattle.tbl_kept.specs.RowsLaying.{ElementWithin, RowsWithin, wide_in};
+ghost use Rattle.tbl_kept.specs.RowsLaying.{ElementWithin, IsAlone, NoFormatsGoOn, is_above_key};
+ghost use Rattle.tbl_kept.specs.RowsLaying.{RowsWithin, wide_in};
 ghost use Rattle.tbl_layout.specs.Columns.{equalled, placed_with, width_of_all, with_bars};
 ghost use Rattle.tbl_layout.specs.Columns.{with_widths};
+ghost use Rattle.tbl_layout.specs.Heights.{NoneAbove};
 ghost use Rattle.tbl_layout.specs.Spans.{all_fitted, columns_laid, filled};
 
+use super::heights::set_heights;
 use super::{Element, KeptRow, TableRows};
 use crate::held_columns::{fill_fields, fit_fields};
 use roff_escape::OpenEscapes;
 use tbl_format::cells::columns_of;
-use tbl_format::format::Asked;
+use tbl_format::format::{Asked, FormatKey, Key};
 use tbl_format::format_rows::FormatRows;
 use tbl_layout::bars::Bars;
 use tbl_layout::columns::{make_equal, set_bars, set_needed, set_starts};
@@ -36,7 +40,7 @@ impl TableRows {
         requires kept { RowsKept bytes.now (all_rows format.now.format) self.old }
         requires columns { length self.old.columns ≡ length format.now.format.asked }
         requires none { self.old.row ≡ [] }
-        ensures laid { RowsLaid bytes.now (all_rows format.now.format) self.new }
+        ensures laid { RowsLaid bytes.now (all_rows format.now.format) bars.boxing.is_inside self.new }
         ensures elements { elements_of bytes.now (all_rows format.now.format) self.new.elements
             ≡ filled bars line_length format.now.format.asked
             (elements_of bytes.now (all_rows format.now.format) self.old.elements) }
@@ -58,6 +62,39 @@ impl TableRows {
         self.set_needed(asked);
         self.fit_rows(format, bars);
         self.make_equal(asked);
+        self.set_heights(format, bars.boxing.is_inside);
+    }
+
+    /// Whether a cell may go on with the one above it, under these formats.
+    pub fn may_go_on(&self, format: &FormatRows) -> bool
+        ensures { result ≡ false → (bytes : List ℕ) → AllByRecursion NoneAbove
+            (elements_of bytes (all_rows format.now.format) self.now.elements) }
+    {
+        goes_on(self.has_above, has_above(format))
+    }
+
+    /// Each row is as high as what is left of the cells that end with it, where one may go on.
+    fn set_heights(&mut self, format: &FormatRows, is_inside: bool)
+        requires within { RowsWithin (all_rows format.now.format) self.old }
+        requires few { length format.now.format.asked < 2 ^ 32 }
+        requires columns { length self.old.columns ≡ length format.now.format.asked }
+        ensures { (bytes : List ℕ) → AllByRecursion (ElementLaid bytes (all_rows format.now.format)
+            (length self.old.columns)) self.old.elements → AllByRecursion IsAlone self.old.elements
+            → self.new ≡ record self.old {
+              elements = raised bytes (all_rows format.now.format)
+                  is_inside (length self.old.columns) self.old.elements;
+            } }
+    {
+        if goes_on(self.has_above, has_above(format)) {
+            set_heights(
+                self.elements.as_mut_slice(),
+                self.entries.as_slice(),
+                format,
+                is_inside,
+                &mut self.left,
+                &mut self.left_above,
+            );
+        }
     }
 
     /// Each column has its place: so many columns of the page more are spread over the gaps.
@@ -65,8 +102,8 @@ impl TableRows {
         requires { width_of_all bars self.old.columns asked.now + more < 2 ^ 32 }
         ensures value { self.new ≡ record self.old
             { columns = placed_with bars more asked.now self.old.columns } }
-        ensures laid { (bytes : List ℕ) (formats : List FormatRow) → RowsLaid bytes formats self.old
-            → RowsLaid bytes formats self.new }
+        ensures laid { (bytes : List ℕ) (formats : List FormatRow) (is_inside : Bool)
+            → RowsLaid bytes formats is_inside self.old → RowsLaid bytes formats is_inside self.new }
     {
         self.place(bars, asked, more);
     }
@@ -216,9 +253,49 @@ impl TableRows {
                 keys: row.keys,
                 rules: row.rules,
                 height,
+                is_tall: false,
                 from: row.from,
                 to: row.to,
             });
         }
     }
+}
+
+/// Whether a cell may go on: a field does, or a key.
+fn goes_on(field: bool, key: bool) -> bool
+    ensures fields { result ≡ false → field ≡ false }
+    ensures keys { result ≡ false → key ≡ false }
+{
+    field || key
+}
+
+/// Whether a row of the formats has a key `^`.
+fn has_above(format: &FormatRows) -> bool
+    ensures { result ≡ false → NoFormatsGoOn (all_rows format.now.format) }
+{
+    for row in 0..format.all_rows() {
+        if has_above_key(format.row_of_all(row)) {
+            return true;
+        }
+    }
+    false
+}
+
+/// Whether one of these keys is `^`.
+fn has_above_key(keys: &[FormatKey]) -> bool
+    ensures { result ≡ list_any (λ k. is_above_key k.key) keys.now }
+{
+    for key in keys {
+        if is_above_key(key.key) {
+            return true;
+        }
+    }
+    false
+}
+
+/// Whether a key is `^`.
+fn is_above_key(key: Key) -> bool
+    ensures { result ≡ is_above_key key }
+{
+    matches!(key, Key::Above)
 }

@@ -168,6 +168,7 @@ impl Walk {
                 let held = self.column(row);
                 self.give_repeated(pieces, row, held, byte, held.column.width);
             }
+            EntryKind::Above => self.pass_empty(row),
         }
     }
 

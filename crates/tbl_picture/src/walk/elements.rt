@@ -72,7 +72,7 @@ impl Walk {
                 self.step_at_rule(pieces, rows, format, sign, false);
                 true
             }
-            Lent::Row(keys, rules, _, entries) => {
+            Lent::Row(keys, rules, _, entries, _) => {
                 let row = RowNext {
                     keys,
                     rules,
@@ -170,13 +170,13 @@ impl Walk {
     }
 
     /// The next pieces of a row that is under way.
-    pub(super) fn step_in_element(
+    pub(super) fn step_in_element<'a>(
         &mut self,
         pieces: &mut PieceQueue,
         escapes: &mut OpenEscapes,
-        bytes: &[u8],
-        rows: &TableRows,
-        format: &FormatRows,
+        bytes: &'a [u8],
+        rows: &'a TableRows,
+        format: &'a FormatRows,
     ) -> bool
         requires can { CanWalk bytes.now (all_rows format.now.format) rows.now self.old }
         requires row { IsInRow bytes.now (all_rows format.now.format) rows.now self.old
@@ -189,7 +189,7 @@ impl Walk {
     {
         let _ = rows.count();
         match rows.element(self.element) {
-            Lent::Row(keys, _, height, entries) => {
+            Lent::Row(keys, _, height, entries, _) => {
                 let row_keys = format.row_of_all(keys);
                 let row = RowLent {
                     bars: self.bars,
@@ -201,6 +201,7 @@ impl Walk {
                     entries,
                     height,
                     is_plain: columns_of(row_keys) == row_keys.len(),
+                    fronts: None,
                 };
                 let has_ended = self.steps_in_row(pieces, escapes, &row);
                 self.go_on(has_ended);

@@ -4,8 +4,9 @@ ghost use Rattle.std.specs.Prelude.{◌≡◌, ℕ, ◌+◌, ◌-◌, ◌<◌, �
 ghost use Rattle.std.specs.Prelude.{List, drop, length};
 ghost use Rattle.std.specs.Prelude.{false, []};
 ghost use Rattle.tbl_layout.specs.Entries.{up_to_last_glyph};
-ghost use Rattle.tbl_lines.specs.RowsLeft.{first_cell, first_of};
-ghost use Rattle.tbl_lines.specs.RowsWalked.{AreGlyphless, HasGlyph};
+ghost use Rattle.tbl_lines.specs.RowsLeft.{cell_of_front, first_cell, first_of};
+ghost use Rattle.tbl_lines.specs.RowsWalked.{AreGlyphless, HasBars, HasGlyph};
+ghost use Rattle.tbl_lines.specs.declared.fronts.Front.TheVariants.{Ruled};
 ghost use Rattle.tbl_lines.specs.RowsWalked.{LastHasGlyph};
 ghost use Rattle.tbl_picture.specs.Nexts.{AtFront, next_by};
 ghost use Rattle.tbl_picture.specs.declared.walk.rules.RuleBegun.{RuleBegun};
@@ -128,6 +129,9 @@ impl Walk {
         match front_at(row, at) {
             Front::Nothing => self.pass_front(row, at, self.place, self.width),
             Front::Bars(place, bars) => self.give_bars(pieces, row, at, place, bars),
+            Front::Ruled(from, sign, place, bars, end) => {
+                self.give_ruled_front(pieces, row, at, from, sign, place, bars, end);
+            }
             Front::Crossed(place, bars, sign, end) => {
                 if self.line == 0 {
                     self.give_crossing(pieces, row, at, place, bars, sign, end);
@@ -188,6 +192,37 @@ impl Walk {
         give(pieces, self.count, Piece::Repeated(b'+', crossed));
         give(pieces, self.count, Piece::Repeated(sign_byte(sign), rest));
         self.pass_front(row, at, place, crossed + rest);
+    }
+
+    /// A rule that bars cross, on a line of rules.
+    fn give_ruled_front(
+        &mut self,
+        pieces: &mut PieceQueue,
+        row: &RowLent<'_>,
+        at: usize,
+        from: usize,
+        sign: RuleSign,
+        place: usize,
+        bars: u8,
+        end: usize,
+    )
+        requires lies { LiesInColumns row.now }
+        requires next { self.old.next ≡ AtFront at }
+        requires front { FrontStands (lent_row row.now) at
+            (cell_of_front (Ruled from sign place bars end)) self.old }
+        requires some { HasBars (Ruled from sign place bars end) }
+        requires room { pieces.old.taken + 4 ≤ pieces.old.room }
+        ensures { (frame : List ℕ)
+            → RowSteps frame (lent_row row.now) self.old self.new pieces.old pieces.new }
+    {
+        let crossings = bars as usize;
+        let front = place.saturating_sub(from);
+        let rest = end.saturating_sub(place).saturating_sub(crossings);
+        give(pieces, self.count, Piece::Blanks(self.gap_to(from)));
+        give(pieces, self.count, Piece::Repeated(sign_byte(sign), front));
+        give(pieces, self.count, Piece::Repeated(b'+', crossings));
+        give(pieces, self.count, Piece::Repeated(sign_byte(sign), rest));
+        self.pass_front(row, at, from, front + crossings + rest);
     }
 
     /// What stands in front of a column is given: it begins at a column of the page and has so

@@ -228,7 +228,7 @@ impl Walk {
         if left > 0 {
             self.rule = rule_row_behind(format, rows.columns(), rule, row, left);
             self.next = Next::AtRuleRow;
-        } else if let Lent::Row(keys, _, _, entries) = rows.element(self.element) {
+        } else if let Lent::Row(keys, _, _, entries, _) = rows.element(self.element) {
             self.begin_row(format.row_of_all(keys), entries);
         }
     }

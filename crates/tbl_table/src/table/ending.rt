@@ -210,6 +210,9 @@ impl Table {
         }
         set_places(&mut self.kept, bars, laid.more);
         self.giving.give_picture(
+            &self.text,
+            &self.kept.rows,
+            &self.kept.format,
             indent(options.centered, line_length, laid.width),
             bars,
             laid.width,

@@ -1,6 +1,6 @@
 use Rattle.std.proofs.Common.{◌≡◌, ℕ, suc, ◌-◌, ◌<◌, drop, length, sym, ap, ◌∙◌, arith}
 use Rattle.std.specs.Prelude.{is_some}
-use Rattle.tbl_layout.specs.KeptEntries.{no_entry, rule_of}
+use Rattle.tbl_layout.specs.KeptEntries.{no_entry, said_by_key}
 use Rattle.tbl_layout.specs.RuleKeys.{under_keys}
 use Rattle.tbl_layout.proofs.UnderKeys.{filled-last, filled-none}
 use Rattle.tbl_layout.proofs.rule_keys.filled_columns.Goals as goal
@@ -12,8 +12,8 @@ returns-then-is_some c = λ bars entries is.
     let within : count - 1 < length c.args.keys.now = omega (arith, less, c.loop-count.invariant.within) in
     let next : suc (count - 1) ≡ count = omega (arith, less) in
     sym next ∙ filled-last c.args.keys.now bars c.args.given entries is (count - 1) _ within
-    (ap is_some (sym c.rule_sign.ensures) ∙ sym c.is_some.ensures ∙ c.if-is_some.true)
-    (ap (λ (n : ℕ). under_keys rule_of no_entry (drop n c.args.keys.now)) next ∙ c.loop-count.invariant.none) (omega (arith, less))
+    (ap is_some (sym c.kind_of_key.ensures) ∙ sym c.is_some.ensures ∙ c.if-is_some.true)
+    (ap (λ (n : ℕ). under_keys said_by_key no_entry (drop n c.args.keys.now)) next ∙ c.loop-count.invariant.none) (omega (arith, less))
 
 pub returns : goal.returns
 returns c = λ bars entries is.

@@ -4,7 +4,7 @@ use Rattle.tbl_layout.specs.KeptEntries.{all_entries, no_entry}
 use Rattle.tbl_layout.specs.declared.data_lines.RuleSign.{RuleSign}
 use Rattle.tbl_layout.specs.declared.entry.Entry.{Entry}
 use Rattle.tbl_layout.specs.declared.entry.EntryKind.{EntryKind}
-use Rattle.tbl_layout.specs.declared.entry.EntryKind.TheVariants.{Block, Repeated, Ruled, Short, Split, Text}
+use Rattle.tbl_layout.specs.declared.entry.EntryKind.TheVariants.{Above, Block, Repeated, Ruled, Short, Split, Text}
 use Rattle.tbl_lines.specs.RowsLeft.{joined_kinds}
 use Rattle.tbl_lines.proofs.FrontCells.{joined-at}
 use Rattle.tbl_lines.proofs.fronts.joined_at.Goals as goal
@@ -30,6 +30,7 @@ not-joined (Block b) next other = refl
 not-joined (Ruled sign) next other = absurd (other sign refl)
 not-joined Short next other = refl
 not-joined (Repeated b) next other = refl
+not-joined Above next other = refl
 
 pub returns-in_default : goal.returns-in_default
 returns-in_default c = λ bars.

@@ -1,6 +1,5 @@
 use Rattle.std.proofs.Common.{List, length, ap, ◌∙◌}
 use Rattle.tbl_format.specs.Cells.{cell_count}
-use Rattle.tbl_format.specs.RowsServed.{all_rows, row_at}
 use Rattle.tbl_format.specs.declared.format.FormatKey.{FormatKey}
 use Rattle.tbl_data.proofs.table_data.TableData.cells_next.Goals as goal
 

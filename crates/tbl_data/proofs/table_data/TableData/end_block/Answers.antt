@@ -1,11 +1,8 @@
-use Rattle.std.proofs.Common.{◌≡◌, ◌+◌, ◌-◌, ◌<◌, ℕ, List, length, sym, subst, ap, arith, ◌∙◌}
+use Rattle.std.proofs.Common.{◌≡◌, ◌+◌, ◌-◌, ◌<◌, ℕ, List, length, ap, arith, ◌∙◌}
 use Rattle.std.specs.List.{slice_range}
-use Rattle.tbl_data.specs.LineTaken.{Makes, block_line_made}
-use Rattle.tbl_data.specs.declared.phase.Phase.{Phase}
 use Rattle.tbl_data.proofs.LineSteps.{end-alone, end-fields, row-fits}
 use Rattle.tbl_kept.specs.TableText.{block_of}
 use Rattle.tbl_layout.proofs.Fields.{field_len, length-part}
-use Rattle.tbl_layout.specs.declared.data_lines.BlockLineKind.TheVariants.{End}
 use Rattle.tbl_data.proofs.RowSteps.{row-opened, rules-in-front}
 use Rattle.tbl_data.proofs.table_data.TableData.end_block.Goals as goal
 
@@ -18,10 +15,9 @@ returns-then-end-line-clause-made c =
     let len : c.field_len.result ≡ field_len line.separator (slice_range (block_of k) (line.from + 2) line.to) =
     c.field_len.ensures.value ∙ ap (λ (b : List ℕ). field_len line.separator (slice_range b (line.from + 2) line.to)) c.block.ensures in
     let fits = row-fits (block_of k) d c.requires.formats c.requires.fits in
-    subst (λ (p : Phase). Makes k line count (block_line_made End k line d) p d c.end_row.new.self) (sym c.end_row.ensures.phase)
-    (end-alone k line c.requires.lies d c.requires.fits c.requires.opened c.requires.two c.field_len.result len count c.end_row.new.self c.if-end-line.true
+    end-alone k line c.requires.lies d c.requires.fits c.requires.opened c.requires.two c.field_len.result len count c.end_row.new.self c.if-end-line.true
     (c.end_row.ensures.ends (block_of k) (record { kept = fits.kept; columns = fits.columns; served = fits.served; small = fits.small; whole = fits.whole; notes = fits.notes }))
-    (c.end_row.ensures.settled line.to) c.end_row.ensures.closed c.end_row.ensures.grown)
+    (c.end_row.ensures.settled line.to) c.end_row.ensures.closed c.end_row.ensures.grown
 
 pub returns-clause-made : goal.returns-clause-made
 returns-clause-made c =
@@ -33,7 +29,7 @@ returns-clause-made c =
     let len : c.field_len.result ≡ field_len line.separator (slice_range (block_of k) at line.to) =
     c.field_len.ensures.value ∙ ap (λ (b : List ℕ). field_len line.separator (slice_range b at line.to)) c.block.ensures in
     let more : at + c.field_len.result < line.to = omega (arith, c.if-end-line.false, c.field_len.ensures.within, ap (λ (b : List ℕ). length (slice_range b at line.to)) c.block.ensures, length-part (block_of k) at line.to c.requires.two c.requires.lies.within) in
-    end-fields k line c.requires.lies d c.requires.fits c.requires.opened c.requires.two c.field_len.result len count c.take_fields.result c.take_fields.new.self
+    end-fields k line c.requires.lies d c.requires.fits c.requires.opened c.requires.two c.field_len.result len count c.take_fields.new.self
     c.had_surplus-had_surplus.result c.had_surplus-had_surplus.ensures more (omega (arith, more)) c.take_fields.ensures.made
 
 pub end_row-requires-clause-opened : goal.end_row-requires-clause-opened

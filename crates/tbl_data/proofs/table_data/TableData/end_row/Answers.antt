@@ -1,4 +1,4 @@
-use Rattle.std.proofs.Common.{◌+◌, ◌<◌, ◌≤◌, List, ap, drop, length, refl, sym, subst, arith}
+use Rattle.std.proofs.Common.{◌+◌, ◌<◌, ◌≤◌, List, drop, length, refl, sym, subst, arith}
 use Rattle.tbl_data.specs.LineTaken.{EndsRow, Grows}
 use Rattle.tbl_data.specs.TableData.{EndsBy}
 use Rattle.tbl_data.specs.declared.table_data.OpenBlock.TheVariants.{Nothing}

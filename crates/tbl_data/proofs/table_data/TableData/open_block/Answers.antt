@@ -2,9 +2,10 @@ use Rattle.std.proofs.Common.{Bool, Some, None, ◌≡◌, true, false, subst, s
 use Rattle.tbl_data.specs.LineTaken.{OpensBlock, key_next}
 use Rattle.tbl_data.specs.TableData.{LastEndsAt}
 use Rattle.tbl_data.specs.declared.table_data.OpenBlock.TheVariants.{Dropped, Kept}
-use Rattle.tbl_data.proofs.RowSteps.{ends-at, opens-kept, opens-ruled, opens-surplus}
+use Rattle.tbl_data.proofs.RowSteps.{ends-at, opens-kept, opens-said, opens-surplus}
 use Rattle.tbl_kept.specs.Rows.{KeptRows, with_entry}
-use Rattle.tbl_layout.specs.RuleKeys.{rule_sign}
+use Rattle.tbl_layout.specs.KeptEntries.{rule_entry}
+use Rattle.tbl_layout.specs.RuleKeys.{kind_of_key}
 use Rattle.tbl_layout.specs.declared.entry.Entry.{Entry}
 use Rattle.tbl_data.proofs.table_data.TableData.open_block.Goals as goal
 
@@ -16,17 +17,17 @@ returns-then-had_surplus-clause-opens c bytes within cell fits =
 pub returns-in-Some-clause-opens : goal.returns-in-Some-clause-opens
 returns-in-Some-clause-opens c bytes within cell fits =
     let d = c.args.self.now in
-    let rows = c.keep.ensures ∙ ap (λ (e : Entry). with_entry e d.rows) c.of_rule.ensures in
-    let is : rule_sign (key_next d) ≡ Some c.in-Some.sign = ap rule_sign (sym c.key_next.ensures) ∙ sym c.rule_sign.ensures ∙ c.in-Some.is in
+    let rows = c.keep.ensures ∙ ap (λ (e : Entry). with_entry e d.rows) (c.of_rule.ensures ∙ ap (rule_entry c.args.line_end 0) c.kept_kind.ensures) in
+    let is : kind_of_key (key_next d) ≡ Some c.in-Some.kind = ap kind_of_key (sym c.key_next.ensures) ∙ sym c.kind_of_key.ensures ∙ c.in-Some.is in
     subst (λ (b : Bool). OpensBlock bytes b d (record d { rows = c.keep.new.self; «open» = Dropped false })) (sym c.if-had_surplus.false)
     (subst (λ (k : KeptRows). OpensBlock bytes false d (record d { rows = k; «open» = Dropped false })) (sym rows)
-    (opens-ruled bytes d c.args.line_end c.in-Some.sign within (cell c.if-had_surplus.false) is fits))
+    (opens-said bytes d c.args.line_end c.in-Some.kind within (cell c.if-had_surplus.false) is fits))
 
 pub returns-in-None-clause-opens : goal.returns-in-None-clause-opens
 returns-in-None-clause-opens c bytes within cell fits =
     let d = c.args.self.now in
     let rows = c.keep-in-None.ensures ∙ ap (λ (e : Entry). with_entry e d.rows) c.opened.ensures in
-    let none : rule_sign (key_next d) ≡ None = ap rule_sign (sym c.key_next.ensures) ∙ sym c.rule_sign.ensures ∙ c.in-None.is in
+    let none : kind_of_key (key_next d) ≡ None = ap kind_of_key (sym c.key_next.ensures) ∙ sym c.kind_of_key.ensures ∙ c.in-None.is in
     subst (λ (b : Bool). OpensBlock bytes b d (record d { rows = c.keep-in-None.new.self; «open» = Kept })) (sym c.if-had_surplus.false)
     (subst (λ (k : KeptRows). OpensBlock bytes false d (record d { rows = k; «open» = Kept })) (sym rows)
     (opens-kept bytes d c.args.line_end within (cell c.if-had_surplus.false) none fits))

@@ -1,7 +1,5 @@
-use Rattle.std.proofs.Common.{◌≡◌, ◌+◌, ◌-◌, ℕ, List, true, false, subst, sym, ap, ◌∙◌, arith}
+use Rattle.std.proofs.Common.{◌≡◌, ◌+◌, ◌-◌, ℕ, List, true, false, sym, ap, ◌∙◌, arith}
 use Rattle.std.specs.List.{slice_range}
-use Rattle.tbl_data.specs.LineTaken.{Makes, fields_made}
-use Rattle.tbl_data.specs.declared.phase.Phase.{Phase}
 use Rattle.tbl_data.proofs.LineFields.{surplus-ends, surplus-fits, surplus-opens}
 use Rattle.tbl_kept.specs.TableText.{block_of}
 use Rattle.tbl_layout.specs.Data.{fields}
@@ -24,8 +22,7 @@ returns-then-ends_in_block-clause-made c =
     ap (λ (b : List ℕ). ends_in_block (fields line.separator (slice_range b at line.to))) (sym bytes) ∙ sym c.ends_in_block.ensures ∙ c.if-ends_in_block.true in
     let fits = surplus-fits k line at had d c.requires.full c.requires.fits.served notes told c.requires.fits in
     let block = c.open_block.ensures.opens (block_of k) c.requires.lies.within (λ is. absurd (cc)) fits in
-    subst (λ (p : Phase). Makes k line count (fields_made k line at had d) p d c.open_block.new.self) (sym c.open_block.ensures.phase)
-    (surplus-opens k line at had d c.requires.full c.requires.fits.served notes told count c.open_block.new.self (omega arith) opens block c.open_block.ensures.ends c.open_block.ensures.settled c.open_block.ensures.grown)
+    surplus-opens k line at had d c.requires.full c.requires.fits.served notes told count c.open_block.new.self (omega arith) opens block c.open_block.ensures.ends c.open_block.ensures.settled c.open_block.ensures.grown
 
 pub returns-else-ends_in_block-clause-made : goal.returns-else-ends_in_block-clause-made
 returns-else-ends_in_block-clause-made c =
@@ -41,8 +38,7 @@ returns-else-ends_in_block-clause-made c =
     let ends : ends_in_block (fields line.separator (slice_range (block_of k) at line.to)) ≡ false =
     ap (λ (b : List ℕ). ends_in_block (fields line.separator (slice_range b at line.to))) (sym bytes) ∙ sym c.ends_in_block.ensures ∙ c.if-ends_in_block.false in
     let fits = surplus-fits k line at had d c.requires.full c.requires.fits.served notes told c.requires.fits in
-    subst (λ (p : Phase). Makes k line count (fields_made k line at had d) p d c.end_row.new.self) (sym c.end_row.ensures.phase)
-    (surplus-ends k line at had d c.requires.full c.requires.fits.served notes told count c.end_row.new.self (omega arith) ends (c.end_row.ensures.ends (block_of k) fits) (c.end_row.ensures.settled line.to) c.end_row.ensures.closed c.end_row.ensures.grown)
+    surplus-ends k line at had d c.requires.full c.requires.fits.served notes told count c.end_row.new.self (omega arith) ends (c.end_row.ensures.ends (block_of k) fits) (c.end_row.ensures.settled line.to) c.end_row.ensures.closed c.end_row.ensures.grown
 
 pub end_row-requires-clause-opened : goal.end_row-requires-clause-opened
 end_row-requires-clause-opened c = row-opened (block_of c.args.text.now) c.args.self.now c.requires.fits

@@ -33,6 +33,11 @@ invariant_of-self c =
       rows = rw (c.push_reserved.ensures.items, ← last)
           (LieBetween-row 0 a.row_start a.elements.items _ refl (omega (arith, c.self.invariant.start, c.len.ensures, a.entries.ok.0)) c.self.invariant.rows);
       no_blocks = c.self.invariant.no_blocks;
+      no_above = c.self.invariant.no_above;
+      columns_few = rw (with_items_is a.columns c.hold.new.columns (c.hold.auto.columns ∙ c.as_mut_slice.ensures.len))
+          (omega (arith, c.self.invariant.columns_few, c.hold.auto.columns, c.as_mut_slice.ensures.len, a.columns.ok.0));
+      left_reserved = c.self.invariant.left_reserved;
+      left_above_reserved = c.self.invariant.left_above_reserved;
     }
 
 pub returns : goal.returns

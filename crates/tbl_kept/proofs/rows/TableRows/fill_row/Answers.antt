@@ -1,10 +1,11 @@
-use Rattle.std.proofs.Common.{◌≡◌, ◌<◌, ◌≤◌, ◌-◌, ◌++◌, length, take, drop, sym, ap, subst, ◌∙◌, arith}
+use Rattle.std.proofs.Common.{◌≡◌, ◌<◌, ◌≤◌, ◌-◌, ◌++◌, false, length, take, drop, sym, ap, subst, ◌∙◌, arith}
 use Rattle.std.specs.List.{slice_range}
 use Rattle.std.proofs.lemmas.List.{with_items_is}
 use Rattle.tbl_format.specs.RowsServed.{all_rows, row_at}
 use Rattle.tbl_text.proofs.BlockSlices.{length-slice_range}
 use Rattle.tbl_kept.specs.Rows.{Command, ElementKept, KeptElement}
-use Rattle.tbl_kept.specs.RowsLaying.{NoBlocks}
+use Rattle.tbl_kept.specs.RowsLaying.{NoBlocks, NoneGoOn}
+use Rattle.tbl_kept.proofs.RowsAlone.{none_go_on-changed, none_go_on-laid, none_go_on-part}
 use Rattle.tbl_kept.proofs.RowPlaces.{LieBetween-at, LieBetween-set, kept-at, length-changed, length-kept, part-changed}
 use Rattle.tbl_kept.proofs.RowsFilled.{fields-lie, length-laid}
 use Rattle.tbl_kept.proofs.RowsUnfilled.{no_blocks-changed, no_blocks-laid, no_blocks-part}
@@ -81,12 +82,21 @@ invariant_of-self c =
       elements_reserved = c.self.invariant.elements_reserved;
       columns_reserved = c.self.invariant.columns_reserved;
       start = rw (c.as_mut_slice.ensures.value, written) (omega (arith, c.self.invariant.start, whole));
-      rows = LieBetween-set r c.fill_fields-height.result 0 a.row_start c.args.at a.elements.items c.index.result.now more is c.self.invariant.rows;
+      rows = LieBetween-set r c.fill_fields-height.result false 0 a.row_start c.args.at a.elements.items c.index.result.now more is c.self.invariant.rows;
       no_blocks = λ none. rw (c.as_mut_slice.ensures.value, written)
           (no_blocks-changed a.entries.items part r.from (r.to - r.from) (c.self.invariant.no_blocks none)
           (subst NoBlocks (sym (rw c.as_mut_slice.ensures.value at c.fill_fields-height.ensures.entries))
           (no_blocks-laid c.args.bytes.now c.args.filling.bars c.args.filling.line_length c.args.filling.asked.now c.row_of_all-keys.result.now _
           (no_blocks-part a.entries.items r.from r.to (c.self.invariant.no_blocks none)))));
+      no_above = λ none. rw (c.as_mut_slice.ensures.value, written)
+          (none_go_on-changed a.entries.items part r.from (r.to - r.from) (c.self.invariant.no_above none)
+          (subst NoneGoOn (sym (rw c.as_mut_slice.ensures.value at c.fill_fields-height.ensures.entries))
+          (none_go_on-laid c.args.bytes.now c.args.filling.bars c.args.filling.line_length c.args.filling.asked.now c.row_of_all-keys.result.now _
+          (none_go_on-part a.entries.items r.from r.to (c.self.invariant.no_above none)))));
+      columns_few = rw (with_items_is a.columns c.fill_fields-height.new.columns (c.fill_fields-height.auto.columns ∙ c.as_mut_slice-columns.ensures.len))
+          (omega (arith, c.self.invariant.columns_few, c.fill_fields-height.auto.columns, c.as_mut_slice-columns.ensures.len, a.columns.ok.0));
+      left_reserved = c.self.invariant.left_reserved;
+      left_above_reserved = c.self.invariant.left_above_reserved;
     }
 
 pub returns-in-Row-clause-value : goal.returns-in-Row-clause-value

@@ -12,4 +12,8 @@ invariant_of-self c =
       start = c.self.invariant.start;
       rows = rw c.push_reserved.ensures.items (LieBetween-rule 0 a.row_start c.args.sign a.elements.items c.self.invariant.rows);
       no_blocks = c.self.invariant.no_blocks;
+      no_above = c.self.invariant.no_above;
+      columns_few = c.self.invariant.columns_few;
+      left_reserved = c.self.invariant.left_reserved;
+      left_above_reserved = c.self.invariant.left_above_reserved;
     }

@@ -1,6 +1,6 @@
-use Rattle.std.proofs.Common.{◌∙◌}
+use Rattle.std.proofs.Common.{refl, ◌∙◌}
 use Rattle.tbl_format.specs.RowsServed.{all_rows}
-use Rattle.tbl_kept.proofs.RowsLaidOut.{RowsLaid-all, columns-all, elements_of-all, kept-barred, length-needed, length-with_bars, within-filled}
+use Rattle.tbl_kept.proofs.RowsLaidOut.{RowsLaid-all, alone-filled, columns-all, count-all, elements_of-all, kept-barred, laid-widened, length-needed, length-widened, length-with_bars, within-filled}
 use Rattle.tbl_kept.proofs.rows.TableRows.set_widths.Goals as goal
 
 pub fill_blocks-requires-clause-kept : goal.fill_blocks-requires-clause-kept
@@ -23,17 +23,63 @@ fit_rows-requires-clause-columns c =
     (length-needed c.args.bytes.now (all_rows c.args.format.now.format) c.args.bars c.args.line_length c.args.format.now.format.asked c.args.self.now c.requires.kept
     ∙ c.requires.columns)
 
+pub set_heights-requires-clause-within : goal.set_heights-requires-clause-within
+set_heights-requires-clause-within c =
+    rw (c.make_equal.ensures, c.fit_rows.ensures, c.set_needed.ensures, c.fill_blocks.ensures.value, c.set_bars.ensures, c.asked-asked.ensures.value)
+    (within-filled c.args.bytes.now (all_rows c.args.format.now.format) c.args.bars c.args.line_length c.args.format.now.format.asked c.args.self.now c.requires.kept)
+
+pub set_heights-requires-clause-columns : goal.set_heights-requires-clause-columns
+set_heights-requires-clause-columns c =
+    rw (c.make_equal.ensures, c.fit_rows.ensures, c.set_needed.ensures, c.fill_blocks.ensures.value, c.set_bars.ensures, c.asked-asked.ensures.value)
+    (length-widened c.args.bytes.now (all_rows c.args.format.now.format) c.args.bars c.args.line_length c.args.format.now.format.asked c.args.self.now c.requires.kept
+    ∙ c.requires.columns)
+
 pub returns-clause-laid : goal.returns-clause-laid
 returns-clause-laid c =
-    rw (c.make_equal.ensures, c.fit_rows.ensures, c.set_needed.ensures, c.fill_blocks.ensures.value, c.set_bars.ensures, c.asked-asked.ensures.value)
-    (RowsLaid-all c.args.bytes.now (all_rows c.args.format.now.format) c.args.bars c.args.line_length c.args.format.now.format.asked c.args.self.now c.requires.kept c.requires.columns)
+    let bytes = c.args.bytes.now in
+    let formats = all_rows c.args.format.now.format in
+    let asked = c.args.format.now.format.asked in
+    let k = c.args.self.now in
+    let same = rw (c.make_equal.ensures, c.fit_rows.ensures, c.set_needed.ensures, c.fill_blocks.ensures.value, c.set_bars.ensures, c.asked-asked.ensures.value) at c.set_heights.ensures in
+    rw (same bytes (laid-widened bytes formats c.args.bars c.args.line_length asked k c.requires.kept c.requires.columns) (alone-filled bytes formats c.args.bars c.args.line_length asked k c.requires.kept))
+    (RowsLaid-all bytes formats c.args.bars c.args.line_length asked k c.requires.kept c.requires.columns c.args.bars.boxing.is_inside)
 
 pub returns-clause-elements : goal.returns-clause-elements
 returns-clause-elements c =
-    rw (c.make_equal.ensures, c.fit_rows.ensures, c.set_needed.ensures, c.fill_blocks.ensures.value, c.set_bars.ensures, c.asked-asked.ensures.value)
-    (elements_of-all c.args.bytes.now (all_rows c.args.format.now.format) c.args.bars c.args.line_length c.args.format.now.format.asked c.args.self.now c.requires.kept c.requires.columns)
+    let bytes = c.args.bytes.now in
+    let formats = all_rows c.args.format.now.format in
+    let asked = c.args.format.now.format.asked in
+    let k = c.args.self.now in
+    let same = rw (c.make_equal.ensures, c.fit_rows.ensures, c.set_needed.ensures, c.fill_blocks.ensures.value, c.set_bars.ensures, c.asked-asked.ensures.value) at c.set_heights.ensures in
+    rw (same bytes (laid-widened bytes formats c.args.bars c.args.line_length asked k c.requires.kept c.requires.columns) (alone-filled bytes formats c.args.bars c.args.line_length asked k c.requires.kept))
+    (elements_of-all bytes formats c.args.bars c.args.line_length asked k c.requires.kept c.requires.columns c.args.bars.boxing.is_inside)
 
 pub returns-clause-columns : goal.returns-clause-columns
 returns-clause-columns c =
-    rw (c.make_equal.ensures, c.fit_rows.ensures, c.set_needed.ensures, c.fill_blocks.ensures.value, c.set_bars.ensures, c.asked-asked.ensures.value)
-    (columns-all c.args.bytes.now (all_rows c.args.format.now.format) c.args.bars c.args.line_length c.args.format.now.format.asked c.args.self.now c.requires.kept c.requires.columns)
+    let bytes = c.args.bytes.now in
+    let formats = all_rows c.args.format.now.format in
+    let asked = c.args.format.now.format.asked in
+    let k = c.args.self.now in
+    let same = rw (c.make_equal.ensures, c.fit_rows.ensures, c.set_needed.ensures, c.fill_blocks.ensures.value, c.set_bars.ensures, c.asked-asked.ensures.value) at c.set_heights.ensures in
+    rw (same bytes (laid-widened bytes formats c.args.bars c.args.line_length asked k c.requires.kept c.requires.columns) (alone-filled bytes formats c.args.bars c.args.line_length asked k c.requires.kept))
+    (columns-all bytes formats c.args.bars c.args.line_length asked k c.requires.kept c.requires.columns)
+
+pub returns-clause-count : goal.returns-clause-count
+returns-clause-count c =
+    let bytes = c.args.bytes.now in
+    let formats = all_rows c.args.format.now.format in
+    let asked = c.args.format.now.format.asked in
+    let k = c.args.self.now in
+    let same = rw (c.make_equal.ensures, c.fit_rows.ensures, c.set_needed.ensures, c.fill_blocks.ensures.value, c.set_bars.ensures, c.asked-asked.ensures.value) at c.set_heights.ensures in
+    rw (same bytes (laid-widened bytes formats c.args.bars c.args.line_length asked k c.requires.kept c.requires.columns) (alone-filled bytes formats c.args.bars c.args.line_length asked k c.requires.kept))
+    (count-all bytes formats c.args.bars c.args.line_length asked k c.requires.kept c.args.bars.boxing.is_inside)
+
+pub returns-clause-rooms : goal.returns-clause-rooms
+returns-clause-rooms c =
+    let bytes = c.args.bytes.now in
+    let formats = all_rows c.args.format.now.format in
+    let asked = c.args.format.now.format.asked in
+    let k = c.args.self.now in
+    let same = rw (c.make_equal.ensures, c.fit_rows.ensures, c.set_needed.ensures, c.fill_blocks.ensures.value, c.set_bars.ensures, c.asked-asked.ensures.value) at c.set_heights.ensures in
+    rw (same bytes (laid-widened bytes formats c.args.bars c.args.line_length asked k c.requires.kept c.requires.columns) (alone-filled bytes formats c.args.bars c.args.line_length asked k c.requires.kept))
+    (record { entries = refl; elements = refl; columns = refl })

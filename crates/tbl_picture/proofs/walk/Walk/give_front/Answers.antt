@@ -1,16 +1,17 @@
 use Rattle.std.proofs.Common.{◌≡◌, ◌≢◌, ℕ, suc, ◌∷◌, drop, sym, ap, subst}
 use Rattle.tbl_lines.specs.PictureLines.{bars_at, crossed_at, nothing_there}
-use Rattle.tbl_lines.specs.RowsLeft.{cell_of_front, fronts_by}
+use Rattle.tbl_lines.specs.RowsLeft.{cell_of_front}
 use Rattle.tbl_lines.specs.RowsWalked.{HasBars}
-use Rattle.tbl_picture.specs.Walks.{KeptWalk, RowSteps, WalkedRow, front_passed, lent_row}
+use Rattle.tbl_picture.specs.Walks.{KeptWalk, RowSteps, WalkedRow, front_passed, lent_row, row_fronts_of}
 use Rattle.tbl_lines.specs.declared.fronts.Front.{Front}
+use Rattle.tbl_lines.specs.declared.fronts.Front.TheVariants.{Ruled}
 use Rattle.tbl_picture.proofs.FrontSteps.{front-stands, nothing-steps, stands-late}
 use Rattle.tbl_picture.proofs.walk.Walk.give_front.Goals as goal
 
 -- what was found stands there
 abbrev with-front : WalkedRow → ℕ → Front → Type 0
 with-front row at front =
-    let all = fronts_by row.bars row.width row.format row.columns row.entries in drop at all ≡ cell_of_front front ∷ drop (suc at) all
+    let all = row_fronts_of row in drop at all ≡ cell_of_front front ∷ drop (suc at) all
 
 pub returns-in-Nothing : goal.returns-in-Nothing
 returns-in-Nothing c = λ frame.
@@ -56,3 +57,13 @@ give_bars-requires-else-self-eq0-clause-front c =
 
 pub give_bars-requires-else-self-eq0-clause-some : goal.give_bars-requires-else-self-eq0-clause-some
 give_bars-requires-else-self-eq0-clause-some c = subst HasBars c.in-Crossed.is c.front_at.ensures.some
+
+pub give_ruled_front-requires-clause-front : goal.give_ruled_front-requires-clause-front
+give_ruled_front-requires-clause-front c =
+    let row = lent_row c.args.row.now in
+    let arm = c.in-Ruled in
+    front-stands row c.args.self.now c.args.at (cell_of_front (Ruled arm.from arm.sign arm.place arm.bars arm.end)) c.requires.front
+    (subst (with-front row c.args.at) arm.is c.front_at.ensures.at)
+
+pub give_ruled_front-requires-clause-some : goal.give_ruled_front-requires-clause-some
+give_ruled_front-requires-clause-some c = subst HasBars c.in-Ruled.is c.front_at.ensures.some

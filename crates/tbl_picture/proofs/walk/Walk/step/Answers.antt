@@ -14,11 +14,11 @@ use Rattle.tbl_picture.proofs.walk.Walk.step.Goals as goal
 
 pub step_at_rule-requires-clause-served : goal.step_at_rule-requires-clause-served
 step_at_rule-requires-clause-served c =
-    rows-served c.args.bytes.now (all_rows c.args.format.now.format) (length c.args.rows.now.columns) c.args.rows.now.elements c.requires.can.laid
+    rows-served c.args.bytes.now (all_rows c.args.format.now.format) (length c.args.rows.now.columns) c.args.rows.now.elements c.requires.can.laid.elements
 
 pub step_at_element-requires-clause-served : goal.step_at_element-requires-clause-served
 step_at_element-requires-clause-served c =
-    rows-served c.args.bytes.now (all_rows c.args.format.now.format) (length c.args.rows.now.columns) c.args.rows.now.elements c.requires.can.laid
+    rows-served c.args.bytes.now (all_rows c.args.format.now.format) (length c.args.rows.now.columns) c.args.rows.now.elements c.requires.can.laid.elements
 
 pub step_at_element-requires-clause-fits : goal.step_at_element-requires-clause-fits
 step_at_element-requires-clause-fits c =
@@ -26,7 +26,7 @@ step_at_element-requires-clause-fits c =
 
 pub step_in_rule-requires-clause-served : goal.step_in_rule-requires-clause-served
 step_in_rule-requires-clause-served c =
-    rows-served c.args.bytes.now (all_rows c.args.format.now.format) (length c.args.rows.now.columns) c.args.rows.now.elements c.requires.can.laid
+    rows-served c.args.bytes.now (all_rows c.args.format.now.format) (length c.args.rows.now.columns) c.args.rows.now.elements c.requires.can.laid.elements
 
 pub step_in_rule-requires-clause-fits : goal.step_in_rule-requires-clause-fits
 step_in_rule-requires-clause-fits c =

@@ -1,4 +1,4 @@
-use Rattle.std.proofs.Common.{rules, ◌≡◌, ◌<◌, ℕ, suc, List, [], ◌∷◌, length, drop, sym, ap, subst, ◌∙◌, arith}
+use Rattle.std.proofs.Common.{rules, ◌≡◌, ◌<◌, ℕ, suc, List, [], ◌∷◌, length, drop, refl, None, sym, ap, subst, ◌∙◌, arith}
 use Rattle.std.proofs.lemmas.Bool.{eqb-true}
 use Rattle.tbl_format.specs.Format.{FormatRow}
 use Rattle.tbl_format.specs.FormatRows.{AreWithin}
@@ -23,8 +23,8 @@ steps_in_row-has_ended-requires-clause-lies c =
     let w = c.self.inside in
     let can = c.requires.can in
     let keys = c.row_of_all-row_keys.result.now in
-    let there = Row c.in-Row.keys c.in-Row.field-1 c.in-Row.height c.in-Row.entries.now in
-    let laid = all-at (ElementLaid bytes formats (length rows.columns)) w.element rows.elements there (drop (suc w.element) rows.elements) can.laid c.in-Row.ensures in
+    let there = Row c.in-Row.keys c.in-Row.field-1 c.in-Row.height c.in-Row.field-4 c.in-Row.entries.now in
+    let laid = all-at (ElementLaid bytes formats (length rows.columns)) w.element rows.elements there (drop (suc w.element) rows.elements) can.laid.elements c.in-Row.ensures in
     let columns = sym c.columns.ensures in
     let small : w.room < 4294967296 = search rules in
     record {
@@ -32,6 +32,8 @@ steps_in_row-has_ended-requires-clause-lies c =
           (subst (AreWithin (length rows.columns)) (sym c.row_of_all-row_keys.ensures.keys) laid.cells);
       narrow = subst AreNarrow columns can.narrow;
       few = omega (arith, ap length c.columns.ensures, can.room, ap (λ (k : KeptWalk). k.room) c.self.view_is, small);
+      by_keys = λ _. refl;
+      fronts = tt;
       plain = λ is. sym c.columns_of.ensures.value ∙ eqb-true c.columns_of.result (length keys) is;
     }
 
@@ -48,14 +50,15 @@ returns-in-Row-clause-step c = λ frame within.
     let keys = c.in-Row.keys in
     let rules = c.in-Row.field-1 in
     let height = c.in-Row.height in
+    let is_tall = c.in-Row.field-4 in
     let entries = c.in-Row.entries.now in
     let before = c.args.pieces.now in
     let after = c.steps_in_row-has_ended.new.pieces in
     let elements = drop (suc w.element) rows.elements in
-    let at = subst (λ (k : KeptWalk). drop k.element rows.elements ≡ Row keys rules height entries ∷ drop (suc k.element) rows.elements) view c.in-Row.ensures in
+    let at = subst (λ (k : KeptWalk). drop k.element rows.elements ≡ Row keys rules height is_tall entries ∷ drop (suc k.element) rows.elements) view c.in-Row.ensures in
     let format = row_at formats keys in
     let row : Bars → ℕ → FormatRow → List Column → WalkedRow = λ b n f cs.
-    record { bars = b; width = n; bytes = bytes; format = f; columns = cells_of f.keys cs; height = height; entries = all_entries f entries } in
+    record { bars = b; width = n; bytes = bytes; format = f; columns = cells_of f.keys cs; height = height; entries = all_entries f entries; fronts = None } in
     let lent : List FormatKey → ℕ → WalkedRow = λ ks n. row a.bars a.picture_width (record { keys = ks; bars = n }) c.columns.result.now in
     let does = subst (λ (k : KeptWalk). RowEndsOrGoesOn t frame (row k.bars k.picture_width format rows.columns) w mid before after) view
     (subst (λ (cs : List Column). RowEndsOrGoesOn t frame (row a.bars a.picture_width format cs) w mid before after) c.columns.ensures
@@ -64,7 +67,7 @@ returns-in-Row-clause-step c = λ frame within.
     (c.steps_in_row-has_ended.ensures.steps frame)))) in
     let under = subst (IsInRow bytes formats rows w) at c.requires.row in
     subst (λ (k : KeptWalk). Steps bytes frame formats rows w k before after) (sym c.go_on.ensures)
-    (row-by bytes frame formats rows w c.requires.can before after within keys rules height entries elements at t mid under does)
+    (row-by bytes frame formats rows w c.requires.can before after within keys rules height is_tall entries elements at t mid under does)
 
 pub go_on-requires : goal.go_on-requires
 go_on-requires c = λ _.
@@ -78,13 +81,14 @@ go_on-requires c = λ _.
       columns = cells_of c.row_of_all-row_keys.result.now c.columns.result.now;
       height = c.in-Row.height;
       entries = all_entries (record { keys = c.row_of_all-row_keys.result.now; bars = c.bars_of_all.result }) c.in-Row.entries.now;
+      fronts = None;
     } in
     omega (
       arith,
       (does-stay c.steps_in_row-has_ended.result [] row c.args.self.now c.steps_in_row-has_ended.new.self c.args.pieces.now c.steps_in_row-has_ended.new.pieces
           (c.steps_in_row-has_ended.ensures.steps [])).element,
       ap (λ (k : KeptWalk). k.element) c.self.view_is,
-      within-drop a.element rows.elements (Row c.in-Row.keys c.in-Row.field-1 c.in-Row.height c.in-Row.entries.now) (drop (suc a.element) rows.elements) c.in-Row.ensures,
+      within-drop a.element rows.elements (Row c.in-Row.keys c.in-Row.field-1 c.in-Row.height c.in-Row.field-4 c.in-Row.entries.now) (drop (suc a.element) rows.elements) c.in-Row.ensures,
       c.count.ensures,
       c.count.type_inv,
     )

@@ -7,6 +7,7 @@ use Rattle.tbl_lines.specs.RowsWalked.{AreGlyphless, LastHasGlyph}
 use Rattle.tbl_lines.specs.declared.row_lent.RowLent.{RowLent}
 use Rattle.tbl_picture.specs.Walks.{lent_row, line_cells}
 use Rattle.tbl_lines.proofs.CellsLent.{length-cells_of}
+use Rattle.tbl_lines.proofs.FrontsLent.{fronts-lent}
 use Rattle.tbl_lines.proofs.RowColumns.{length-places}
 use Rattle.tbl_lines.proofs.RowMarks.{first-left, many-cells}
 use Rattle.tbl_lines.proofs.RunsGiven.{glyphless-more, last-at, last-none}
@@ -36,7 +37,7 @@ loop-count-init c =
     let cells = line_cells row c.args.line c.args.places.now in
     let n = length c.args.places.now + c.max.result + 1 in
     let given = length-places row.bytes row.entries c.args.places.now c.requires.cells.places in
-    let many = many-cells row c.args.line c.args.places.now c.requires.cells.short c.requires.cells.places c.requires.any in
+    let many = many-cells row c.args.line c.args.places.now c.requires.cells.short c.requires.cells.places (fronts-lent c.args.row.now c.requires.lies) c.requires.any in
     record {
       few = omega (arith, many, given, c.max.ensures, c.cells.ensures);
       behind = subst AreGlyphless (sym (drop_all n cells (omega (arith, many, given, c.max.ensures, c.cells.ensures)))) tt;

@@ -5,7 +5,8 @@ use Rattle.tbl_lines.specs.PictureLines.{Cell}
 use Rattle.tbl_lines.specs.RowsLeft.{first_of}
 use Rattle.tbl_lines.specs.RowsWalked.{HasGlyph}
 use Rattle.tbl_picture.specs.Walks.{lent_row}
-use Rattle.tbl_lines.proofs.FrontCells.{front-count}
+use Rattle.tbl_lines.proofs.FrontCells.{count-fronts}
+use Rattle.tbl_lines.proofs.FrontsLent.{fronts-lent}
 use Rattle.tbl_lines.proofs.RowColumns.{length-places}
 use Rattle.tbl_lines.proofs.RowMarks.{even-marks, many-cells, odd-cell, past-marks}
 use Rattle.tbl_picture.proofs.walk.fronts.has_mark.Goals as goal
@@ -28,8 +29,8 @@ front_at-requires-clause-within c =
       c.requires.within,
       c.if-at-fields.true,
       length-places row.bytes row.entries c.args.places.now c.requires.cells.places,
-      many-cells row c.args.line c.args.places.now c.requires.cells.short c.requires.cells.places c.requires.any,
-      front-count row.bars row.width row.format row.columns row.entries c.requires.any,
+      many-cells row c.args.line c.args.places.now c.requires.cells.short c.requires.cells.places (fronts-lent c.args.row.now c.requires.lies) c.requires.any,
+      count-fronts row (fronts-lent c.args.row.now c.requires.lies) c.requires.any,
     )
 
 pub returns-then-at-fields : goal.returns-then-at-fields
@@ -38,7 +39,7 @@ returns-then-at-fields c =
     let at = c.args.at in
     let given = length-places row.bytes row.entries c.args.places.now c.requires.cells.places in
     let i = at - length c.args.places.now in
-    let marks = past-marks row c.args.line c.args.places.now c.requires.cells.short c.requires.cells.places c.requires.any at i c.front_at.result
+    let marks = past-marks row c.args.line c.args.places.now c.requires.cells.short c.requires.cells.places (fronts-lent c.args.row.now c.requires.lies) c.requires.any at i c.front_at.result
     (omega (arith, c.if-at-fields.true, given)) (omega (arith, c.if-at-fields.true, given)) c.front_at.ensures.at c.front_at.ensures.some
     c.is_some.result c.is_some.ensures in
     record { yes = marks.yes; no = marks.no; room = refl }
@@ -52,7 +53,7 @@ front_at-requires-then-at-eq0-clause-within c =
       arith,
       half.1,
       c.requires.cells.short,
-      front-count row.bars row.width row.format row.columns row.entries c.requires.any,
+      count-fronts row (fronts-lent c.args.row.now c.requires.lies) c.requires.any,
     )
 
 pub returns-then-at-eq0 : goal.returns-then-at-eq0
@@ -62,7 +63,7 @@ returns-then-at-eq0 c =
     let given = length-places row.bytes row.entries c.args.places.now c.requires.cells.places in
     let half = halves at (length row.entries) (omega (arith, c.if-at-fields.false, given)) c.if-at-eq0.true in
     let found = c.front_at-then-at-eq0 in
-    let marks = even-marks row c.args.line c.args.places.now c.requires.cells.short c.requires.cells.places c.requires.any at (at / 2) found.result
+    let marks = even-marks row c.args.line c.args.places.now c.requires.cells.short c.requires.cells.places (fronts-lent c.args.row.now c.requires.lies) c.requires.any at (at / 2) found.result
     half.0 half.1 found.ensures.at found.ensures.some c.is_some-then-at-eq0.result c.is_some-then-at-eq0.ensures in
     record { yes = marks.yes; no = marks.no; room = refl }
 
@@ -79,7 +80,7 @@ returns c =
     let places = c.args.places.now in
     let given = length-places row.bytes row.entries places c.requires.cells.places in
     let half = odd-halves at (length row.entries) (omega (arith, c.if-at-fields.false, given)) c.if-at-eq0.false in
-    let this = odd-cell row c.args.line places c.requires.cells.short c.requires.cells.places c.requires.any at (at / 2) half.0 half.1 in
+    let this = odd-cell row c.args.line places c.requires.cells.short c.requires.cells.places (fronts-lent c.args.row.now c.requires.lies) c.requires.any at (at / 2) half.0 half.1 in
     record {
       yes = λ yes. subst (λ (cell : Cell). HasGlyph (first_of cell)) (sym this) (c.has_glyph_at.ensures.yes yes);
       no = λ no. ap (λ (cell : Cell). up_to_last_glyph (first_of cell)) this ∙ c.has_glyph_at.ensures.no no;

@@ -1,19 +1,16 @@
-use Rattle.std.proofs.Common.{◌≡◌, ◌+◌, ◌-◌, ◌<◌, ◌≤◌, ℕ, true, List, [], ◌++◌, length, length-append, sym, ap, subst, ◌∙◌, arith}
+use Rattle.std.proofs.Common.{◌≡◌, ◌+◌, ℕ, true, List, [], length, length-append, ap, subst, ◌∙◌, arith}
 use Rattle.std.specs.Prelude.{is_some}
-use Rattle.tbl_data.specs.declared.phase.Phase.TheVariants.{AtHead}
 use Rattle.tbl_data.specs.declared.table_data.TableData.{TableData}
-use Rattle.tbl_format.specs.KeyCounts.{IsCount, StandsOnLine}
+use Rattle.tbl_format.specs.KeyCounts.{StandsOnLine}
 use Rattle.tbl_options.specs.Notes.{told_of_all}
 use Rattle.tbl_format.specs.declared.format.FormatPlace.{FormatPlace}
 use Rattle.tbl_options.specs.declared.message.Told.{Told}
 use Rattle.tbl_kept.specs.Joined.{behind_joined}
 use Rattle.tbl_kept.specs.Rows.{entries_of}
 use Rattle.tbl_kept.specs.TableText.{KeptText, text_closed}
-use Rattle.tbl_table.specs.Begun.{FewKeys, begun_in}
 use Rattle.tbl_table.specs.Kept.{reading_of}
 use Rattle.tbl_table.specs.Reading.{KeptTable, Reading}
 use Rattle.tbl_table.specs.Table.{closed}
-use Rattle.tbl_table.specs.declared.begun.Begun.{Begun}
 use Rattle.tbl_table.proofs.BlockCloses.{close-fits, close-read, close-told, closed-counted, closes, line-before, may-tell-some, mid-can, mid-ends, mid-fits, mid-formats, no-head}
 use Rattle.tbl_table.proofs.LineEnds.{Taken, all-kept, few-formats, one-read, take-behind, take-fits, take-settled}
 use Rattle.tbl_table.proofs.TableFits.{open-by}

@@ -1,14 +1,12 @@
-use Rattle.std.proofs.Common.{◌≡◌, ◌+◌, ◌-◌, ◌≤◌, ℕ, List, [], ◌++◌, length, length-append, sym, ap, subst, ◌∙◌, arith}
+use Rattle.std.proofs.Common.{◌≡◌, ℕ, List, [], length, length-append, ap, ◌∙◌, arith}
 use Rattle.tbl_data.specs.declared.table_data.TableData.{TableData}
 use Rattle.tbl_options.specs.Notes.{told_of_all}
 use Rattle.tbl_options.specs.declared.message.Told.{Told}
-use Rattle.tbl_kept.specs.Joined.{behind_joined}
 use Rattle.tbl_kept.specs.Rows.{entries_of}
-use Rattle.tbl_kept.specs.TableText.{KeptText, block_of, text_ended}
+use Rattle.tbl_kept.specs.TableText.{text_ended}
 use Rattle.tbl_table.specs.Begun.{begun_in}
 use Rattle.tbl_table.specs.Kept.{reading_of}
 use Rattle.tbl_table.specs.Reading.{KeptTable, Reading}
-use Rattle.tbl_table.specs.declared.begun.Begun.{Begun}
 use Rattle.tbl_table.proofs.BegunLines.{count_is}
 use Rattle.tbl_table.proofs.FormatLines.{whole-len}
 use Rattle.tbl_table.proofs.LineEnds.{Taken, all-kept, block-len, block-line, end-fits, end-read, end-told, few-formats, one-read, take-behind, take-fits, take-settled, whole-most}

@@ -1,4 +1,4 @@
-use Rattle.std.proofs.Common.{◌≡◌, ◌≤◌, ℕ, List, map, append-nil, length-append, [], ◌∷◌, ◌++◌, length, refl, sym, ap, ◌∙◌, arith}
+use Rattle.std.proofs.Common.{◌≡◌, ℕ, List, map, append-nil, length-append, [], ◌∷◌, ◌++◌, length, refl, sym, ap, ◌∙◌, arith}
 use Rattle.std.proofs.lemmas.List.{length-map}
 use Rattle.roff_source.specs.Bytes.{newline}
 use Rattle.tbl_data.specs.TableRead.{TableRead}
@@ -10,7 +10,7 @@ use Rattle.tbl_format.specs.declared.format.FormatPlace.{FormatPlace}
 use Rattle.tbl_format.proofs.LeftOut.{letters-few}
 use Rattle.tbl_kept.specs.Joined.{behind_joined}
 use Rattle.tbl_kept.specs.TableNotes.{KeptNotes}
-use Rattle.tbl_kept.specs.TableText.{block_of, text_whole}
+use Rattle.tbl_kept.specs.TableText.{block_of}
 use Rattle.tbl_layout.specs.KeptEntries.{content_of}
 use Rattle.tbl_table.specs.Begun.{begun_in}
 use Rattle.tbl_table.specs.Kept.{table_of}

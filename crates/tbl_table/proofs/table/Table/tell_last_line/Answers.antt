@@ -1,4 +1,4 @@
-use Rattle.std.proofs.Common.{◌≡◌, ◌++◌, ap, map, sym, ◌∙◌, append-nil, refl}
+use Rattle.std.proofs.Common.{◌++◌, ap, map, sym, ◌∙◌, append-nil, refl}
 use Rattle.tbl_data.specs.TableRead.{TableRead}
 use Rattle.tbl_options.specs.Notes.{told_of_all}
 use Rattle.tbl_kept.specs.Joined.{behind_joined}

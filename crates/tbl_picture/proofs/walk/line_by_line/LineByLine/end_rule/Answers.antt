@@ -1,0 +1,67 @@
+use Rattle.std.proofs.Common.{◌≡◌, ◌+◌, ◌≤◌, ◌<◌, ℕ, Bool, true, false, List, [], ◌∷◌, ◌++◌, drop, length, suc, Some, None, Option, refl, sym, ap, subst, ◌∙◌, arith, nat_lt, ◌==◌}
+use Rattle.tbl_format.specs.Format.{FormatRow}
+use Rattle.tbl_format.specs.RowsServed.{all_rows}
+use Rattle.tbl_kept.specs.Rows.{KeptElement, KeptRows}
+use Rattle.tbl_layout.specs.declared.columns.Column.{Column}
+use Rattle.tbl_text.specs.declared.block_parts.BlockPlace.{BlockPlace}
+use Rattle.tbl_picture.specs.Walks.{KeptWalk}
+use Rattle.tbl_picture.specs.LinesWalked.{CanGo, HasCome, KeptLineByLine, LineBegins, LineGone, LineSteps, LineUnderWay, PartGone, SignTold, UnderWayIf, coming, is_on_line, kept_by, lines_to_come, sheet_by}
+use Rattle.tbl_picture.specs.declared.walk.line_by_line.Place.{Place}
+use Rattle.tbl_picture.specs.declared.walk.line_by_line.Place.TheVariants.{AtElement, AtEnd, AtTop, OnRow, OnRule}
+use Rattle.tbl_picture.specs.declared.walk.line_by_line.RuleAt.TheVariants.{Element as OfElement, End as OfEnd, InFront, Top as OfTop}
+use Rattle.tbl_picture.proofs.RulesEnded.{drop-within, element-ended, end-ended, front-ended, gone-by, top-ended}
+use Rattle.tbl_picture.proofs.walk.line_by_line.LineByLine.end_rule.Goals as goal
+
+pub returns-in-Top-clause-gone : goal.returns-in-Top-clause-gone
+returns-in-Top-clause-gone c = λ room come.
+    let g = kept_by c.self.inside in
+    let bytes = c.args.bytes.now in
+    let formats = all_rows c.args.format.now.format in
+    let rows = c.args.rows.now in
+    let tall = c.pass_rule.new.self in
+    let place : g.place ≡ OnRule OfTop = ap (λ (k : KeptLineByLine). k.place) c.self.view_is ∙ c.requires.place ∙ ap OnRule c.in-Top.is in
+    let here = subst (λ (k : KeptLineByLine). HasCome bytes formats rows k room) (sym c.self.view_is) come in
+    subst (λ (k : KeptLineByLine). PartGone bytes formats rows k (record g { element = g.element; place = AtElement; tall = tall }) room) c.self.view_is
+    (gone-by bytes formats rows g room tall c.pass_rule.ensures.comes c.pass_rule.ensures.come c.pass_rule.ensures.room OfTop (g.element) AtElement place refl
+    (top-ended bytes formats rows g room tall c.pass_rule.ensures.comes c.pass_rule.ensures.come c.pass_rule.ensures.room) here)
+
+pub returns-in-Element-clause-gone : goal.returns-in-Element-clause-gone
+returns-in-Element-clause-gone c = λ room come.
+    let g = kept_by c.self.inside in
+    let bytes = c.args.bytes.now in
+    let formats = all_rows c.args.format.now.format in
+    let rows = c.args.rows.now in
+    let tall = c.pass_rule.new.self in
+    let place : g.place ≡ OnRule OfElement = ap (λ (k : KeptLineByLine). k.place) c.self.view_is ∙ c.requires.place ∙ ap OnRule c.in-Element.is in
+    let here = subst (λ (k : KeptLineByLine). HasCome bytes formats rows k room) (sym c.self.view_is) come in
+    let one : suc g.element ≡ g.element + 1 = omega arith in
+    subst (λ (n : ℕ). PartGone bytes formats rows c.args.self.now (record g { element = n; place = AtElement; tall = tall }) room) one
+    (subst (λ (k : KeptLineByLine). PartGone bytes formats rows k (record g { element = suc g.element; place = AtElement; tall = tall }) room) c.self.view_is
+    (gone-by bytes formats rows g room tall c.pass_rule.ensures.comes c.pass_rule.ensures.come c.pass_rule.ensures.room OfElement (suc g.element) AtElement place refl
+    (element-ended bytes formats rows g room tall c.pass_rule.ensures.comes c.pass_rule.ensures.come c.pass_rule.ensures.room) here))
+
+pub returns-in-InFront-clause-gone : goal.returns-in-InFront-clause-gone
+returns-in-InFront-clause-gone c = λ room come.
+    let g = kept_by c.self.inside in
+    let bytes = c.args.bytes.now in
+    let formats = all_rows c.args.format.now.format in
+    let rows = c.args.rows.now in
+    let tall = c.pass_rule.new.self in
+    let place : g.place ≡ OnRule InFront = ap (λ (k : KeptLineByLine). k.place) c.self.view_is ∙ c.requires.place ∙ ap OnRule c.in-InFront.is in
+    let here = subst (λ (k : KeptLineByLine). HasCome bytes formats rows k room) (sym c.self.view_is) come in
+    subst (λ (k : KeptLineByLine). PartGone bytes formats rows k (record g { element = g.element; place = AtElement; tall = tall }) room) c.self.view_is
+    (gone-by bytes formats rows g room tall c.pass_rule.ensures.comes c.pass_rule.ensures.come c.pass_rule.ensures.room InFront (g.element) AtElement place refl
+    (front-ended bytes formats rows g room tall c.pass_rule.ensures.comes c.pass_rule.ensures.come c.pass_rule.ensures.room) here)
+
+pub returns-in-End-clause-gone : goal.returns-in-End-clause-gone
+returns-in-End-clause-gone c = λ room come.
+    let g = kept_by c.self.inside in
+    let bytes = c.args.bytes.now in
+    let formats = all_rows c.args.format.now.format in
+    let rows = c.args.rows.now in
+    let tall = c.pass_rule.new.self in
+    let place : g.place ≡ OnRule OfEnd = ap (λ (k : KeptLineByLine). k.place) c.self.view_is ∙ c.requires.place ∙ ap OnRule c.in-End.is in
+    let here = subst (λ (k : KeptLineByLine). HasCome bytes formats rows k room) (sym c.self.view_is) come in
+    subst (λ (k : KeptLineByLine). PartGone bytes formats rows k (record g { element = g.element; place = AtEnd; tall = tall }) room) c.self.view_is
+    (gone-by bytes formats rows g room tall c.pass_rule.ensures.comes c.pass_rule.ensures.come c.pass_rule.ensures.room OfEnd (g.element) AtEnd place refl
+    (end-ended bytes formats rows g room tall c.pass_rule.ensures.comes c.pass_rule.ensures.come c.pass_rule.ensures.room) here)

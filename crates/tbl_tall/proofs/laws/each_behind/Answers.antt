@@ -1,0 +1,5 @@
+use Rattle.tbl_tall.proofs.FirstLines.{each-behind}
+use Rattle.tbl_tall.proofs.laws.each_behind.Goals as goal
+
+pub returns : goal.returns
+returns c = each-behind

@@ -1,0 +1,29 @@
+use Rattle.std.proofs.Common.{◌≡◌, ℕ, sym, ap, subst, ◌∙◌, Some}
+use Rattle.std.specs.Option.{MatchOption}
+use Rattle.std.specs.Prelude.{Option}
+use Rattle.tbl_format.specs.RowsServed.{all_rows}
+use Rattle.tbl_kept.specs.RowsLaying.{element_at}
+use Rattle.tbl_lines.specs.CellsLeft.{cell_by}
+use Rattle.tbl_tall.proofs.CellsNext.{above-is}
+use Rattle.tbl_tall.proofs.next_cells.left_above.Goals as goal
+use Rattle.tbl_tall.specs.RowsNext.{GoesOnWith, above_kept}
+
+pub returns-in-Some-cell_above-clause-left : goal.returns-in-Some-cell_above-clause-left
+returns-in-Some-cell_above-clause-left c = λ bytes above lefts new there all.
+    let elements = c.args.rows.now.elements in
+    let formats = all_rows c.args.format.now.format in
+    let row = element_at elements c.args.row.at in
+    let other : above_kept bytes formats above row c.args.cell ≡ Some c.in-Some-cell_above.other
+    = sym (above-is bytes formats elements c.args.row.above c.in-Some.above above c.args.cell row c.in-Some.is there)
+    ∙ sym (c.cell_above.ensures bytes) ∙ c.in-Some-cell_above.is in
+    subst (λ (o : Option ℕ). MatchOption c.cell_at.result (cell_by o lefts new ≡ new) (GoesOnWith bytes o lefts new)) (sym other)
+    (c.cell_at.ensures.left bytes lefts new all)
+
+pub returns-in-None-cell_above-clause-left : goal.returns-in-None-cell_above-clause-left
+returns-in-None-cell_above-clause-left c = λ bytes above lefts new there all.
+    let elements = c.args.rows.now.elements in
+    let formats = all_rows c.args.format.now.format in
+    let row = element_at elements c.args.row.at in
+    ap (λ (o : Option ℕ). cell_by o lefts new)
+    (sym (above-is bytes formats elements c.args.row.above c.in-Some.above above c.args.cell row c.in-Some.is there)
+    ∙ sym (c.cell_above.ensures bytes) ∙ c.in-None-cell_above.is)

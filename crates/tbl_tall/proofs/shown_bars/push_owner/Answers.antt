@@ -1,0 +1,14 @@
+use Rattle.std.proofs.Common.{[], ◌∷◌, ◌++◌, replicate, arith, length-append, ◌∙◌}
+use Rattle.tbl_tall.proofs.Repeats.{repeat-next}
+use Rattle.tbl_tall.proofs.shown_bars.push_owner.Goals as goal
+
+pub loop-at-preserved : goal.loop-at-preserved
+loop-at-preserved c =
+    let i = c.loop-at.invariant in
+    record {
+      items = rw c.push_reserved.ensures.items
+          (repeat-next c.loop-at.through.items c.args.owner c.args.count c.loop-at.at (c.args.through.now.items ++ replicate c.args.count
+          c.args.owner) c.loop-at-test.true i.items);
+      many = rw c.push_reserved.ensures.items (omega (arith, i.many, length-append c.loop-at.through.items (c.args.owner ∷ [])));
+      capacity = c.push_reserved.ensures.capacity ∙ i.capacity;
+    }

@@ -1,0 +1,139 @@
+use Rattle.std.proofs.Common.{◌≡◌, ◌+◌, ◌<◌, ◌≤◌, ℕ, List, length, map, refl, sym, ap, subst, ◌∙◌, arith}
+use Rattle.std.specs.List.{AllByRecursion}
+use Rattle.tbl_format.specs.Format.{columns_of}
+use Rattle.tbl_format.specs.RowsServed.{all_rows, row_at}
+use Rattle.tbl_kept.specs.Rows.{Command, ElementLaid}
+use Rattle.tbl_lines.specs.LinesLeft.{OfRow}
+use Rattle.tbl_tall.proofs.CellsNext.{all-at, all-less, row-within}
+use Rattle.tbl_tall.proofs.KeysCover.{cover-all, cover-some, fewer-room}
+use Rattle.tbl_tall.proofs.RowsFilled.{filled-comes}
+use Rattle.tbl_tall.proofs.tall_row.TallRow.come_to.Goals as goal
+use Rattle.tbl_tall.specs.Bands.{KeptBand, ShowBars, kept_band, keys_in}
+use Rattle.tbl_tall.specs.KeptCells.{AllLeft, behind_rules}
+use Rattle.tbl_tall.specs.LinesDrawn.{kept_line}
+use Rattle.tbl_tall.specs.TallRows.{KeptTall, kept_by}
+use Rattle.tbl_tall.specs.declared.cells.CellLeft.{CellLeft}
+
+pub fill_cells-requires-clause-first : goal.fill_cells-requires-clause-first
+fill_cells-requires-clause-first c = λ is. c.as_slice.ensures.value ∙ (rw (← c.self.view_is) at c.requires.none) is
+
+pub fill_cells-requires-clause-small : goal.fill_cells-requires-clause-small
+fill_cells-requires-clause-small c =
+    let room = rw (← c.self.view_is) at c.requires.room in
+    omega (arith, room, c.self.invariant.few)
+
+pub fill_cells-requires-clause-room : goal.fill_cells-requires-clause-room
+fill_cells-requires-clause-room c =
+    let room = rw (← c.self.view_is) at c.requires.room in
+    omega (arith, room, c.self.invariant.cells)
+
+pub fill_cells-requires-clause-come : goal.fill_cells-requires-clause-come
+fill_cells-requires-clause-come c =
+    let come = rw (← c.self.view_is) at c.requires.come in
+    let few : c.self.inside.come ≤ 9223372036854775808 = omega (arith, come) in
+    subst (λ (cs : List CellLeft). AllByRecursion (λ (k : CellLeft). k.rows < 9223372036854775808) cs) (sym c.as_slice.ensures.value)
+    (all-less c.self.inside.above.items c.self.inside.come 9223372036854775808 few c.self.invariant.come_above)
+
+pub fill_cells-requires-clause-empty : goal.fill_cells-requires-clause-empty
+fill_cells-requires-clause-empty c = rw (← c.self.view_is) at c.requires.empty
+
+pub invariant_of-self : goal.invariant_of-self
+invariant_of-self c = record {
+  few = c.self.invariant.few;
+  cells = omega (arith, c.self.invariant.cells, c.fill_cells.ensures.capacity);
+  above = c.self.invariant.above;
+  band = c.end.ensures.room c.self.inside.room (c.set_lines.ensures.room c.self.inside.room c.self.invariant.band);
+  line = c.self.invariant.line;
+  come = c.fill_cells.ensures.come c.self.inside.come
+      (subst (λ (cs : List CellLeft). AllByRecursion (λ (k : CellLeft). k.rows < c.self.inside.come) cs) (sym c.as_slice.ensures.value) c.self.invariant.come_above);
+  come_above = c.self.invariant.come_above;
+}
+
+pub returns-clause-comes : goal.returns-clause-comes
+returns-clause-comes c = λ bytes s keys lefts beside all stand above then_come.
+    let a = c.self.inside in
+    let rows = c.args.rows.now in
+    let formats = all_rows c.args.format.now.format in
+    let here = rw (← c.self.view_is) at stand in
+    let room = rw (← c.self.view_is) at c.requires.room in
+    let cells = c.fill_cells.new.cells.items in
+    let last = c.bars_at_end-self-inside in
+    let lines = c.set_lines.ensures.lines in
+    let rest = c.end.ensures.rest in
+    let own = c.as_slice-2.ensures.value in
+    let laid = all-at (ElementLaid bytes formats (length rows.columns)) rows.elements c.args.row.at (Command 0 0) c.requires.at here.laid.elements in
+    let new : KeptTall = record {
+      last = last.result;
+      cells = cells;
+      above = a.above.items;
+      lines_left = c.args.row.height;
+      band = kept_band c.end.new.self;
+      line = kept_line a.line;
+      come = a.come;
+      room = a.room;
+    } in
+    let same_wholes = ap (λ (b : KeptBand). b.wholes) rest in
+    let same_count = ap (λ (b : KeptBand). b.count) rest in
+    let set_wholes = ap (λ (b : KeptBand). b.wholes) lines in
+    let same_lines : c.set_lines.new.self.wholes + c.set_lines.new.self.count ≡ new.band.wholes + new.band.count = omega (arith, same_wholes, same_count) in
+    filled-comes bytes formats c.args.boxing rows s c.args.row c.args.rules (kept_by a) new keys lefts beside all c.requires.lie c.requires.at c.requires.row here
+    (record {
+      left = c.fill_cells.ensures.left bytes keys lefts laid above
+          (subst (λ (cs : List CellLeft). AllLeft bytes cs lefts) (sym c.as_slice.ensures.value) here.left);
+      has = c.fill_cells.ensures.keys;
+      through = λ lefts_own columns kept many. (rw own at c.end.ensures.through) bytes lefts_own columns kept many;
+      below = λ lefts_own kept.
+          subst (λ (n : ℕ). ShowBars c.args.boxing (columns_of (keys_in cells)) new.band.below (OfRow (map (behind_rules n) lefts_own) last.result)) same_lines
+          ((rw own at c.end.ensures.below) bytes lefts_own kept);
+      as_many = rw own at c.end.ensures.columns;
+      wholes = same_wholes ∙ set_wholes ∙ c.rules_in_front-wholes.ensures.value;
+      most = omega (arith, same_wholes, set_wholes, c.rules_in_front-wholes.ensures.most);
+      first = ap (λ (b : KeptBand). b.first) rest ∙ ap (λ (b : KeptBand). b.first) lines ∙ c.saturating_sub.ensures;
+      count = same_count ∙ ap (λ (b : KeptBand). b.count) lines;
+      none = ap (λ (b : KeptBand). b.at) rest ∙ ap (λ (b : KeptBand). b.at) lines;
+      above = ap (λ (b : KeptBand). b.above) rest ∙ ap (λ (b : KeptBand). b.above) lines;
+      high = refl;
+      last = last.ensures;
+      room = refl;
+    }) c.requires.few c.requires.few_keys c.requires.some room c.self.invariant.few c.stays_within.ensures then_come
+
+pub end-requires-clause-cells : goal.end-requires-clause-cells
+end-requires-clause-cells c =
+    let rows = c.args.rows.now in
+    let formats = all_rows c.args.format.now.format in
+    let within = row-within formats (length rows.columns) rows.elements c.args.row c.requires.at c.requires.row c.requires.lie in
+    rw c.as_slice-2.ensures.value (cover-all (length rows.columns) (row_at formats c.args.row.keys) c.fill_cells.new.cells.items within c.fill_cells.ensures.keys).order
+
+pub end-requires-clause-some : goal.end-requires-clause-some
+end-requires-clause-some c =
+    let rows = c.args.rows.now in
+    let formats = all_rows c.args.format.now.format in
+    let within = row-within formats (length rows.columns) rows.elements c.args.row c.requires.at c.requires.row c.requires.lie in
+    let cover = cover-all (length rows.columns) (row_at formats c.args.row.keys) c.fill_cells.new.cells.items within c.fill_cells.ensures.keys in
+    rw c.as_slice-2.ensures.value (cover-some (length rows.columns) c.fill_cells.new.cells.items cover c.requires.some)
+
+pub end-requires-clause-small : goal.end-requires-clause-small
+end-requires-clause-small c =
+    let rows = c.args.rows.now in
+    let formats = all_rows c.args.format.now.format in
+    let within = row-within formats (length rows.columns) rows.elements c.args.row c.requires.at c.requires.row c.requires.lie in
+    let cover = cover-all (length rows.columns) (row_at formats c.args.row.keys) c.fill_cells.new.cells.items within c.fill_cells.ensures.keys in
+    let room = rw (← c.self.view_is) at c.requires.room in
+    rw c.as_slice-2.ensures.value (omega (arith, cover.all, room, c.self.invariant.few))
+
+pub end-requires-clause-room : goal.end-requires-clause-room
+end-requires-clause-room c =
+    let rows = c.args.rows.now in
+    let formats = all_rows c.args.format.now.format in
+    let within = row-within formats (length rows.columns) rows.elements c.args.row c.requires.at c.requires.row c.requires.lie in
+    let cover = cover-all (length rows.columns) (row_at formats c.args.row.keys) c.fill_cells.new.cells.items within c.fill_cells.ensures.keys in
+    let room = rw (← c.self.view_is) at c.requires.room in
+    let few : columns_of (keys_in c.fill_cells.new.cells.items) ≤ c.self.inside.room = omega (arith, cover.all, room) in
+    rw c.as_slice-2.ensures.value (fewer-room c.set_lines.new.self (columns_of (keys_in c.fill_cells.new.cells.items)) c.self.inside.room few
+    (c.set_lines.ensures.room c.self.inside.room c.self.invariant.band))
+
+pub end-requires-clause-lines : goal.end-requires-clause-lines
+end-requires-clause-lines c =
+    let wholes = ap (λ (b : KeptBand). b.wholes) c.set_lines.ensures.lines in
+    let count = ap (λ (b : KeptBand). b.count) c.set_lines.ensures.lines in
+    omega (arith, wholes, count, c.rules_in_front-wholes.ensures.most, c.requires.few, c.requires.few_keys)
