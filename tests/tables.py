@@ -4,6 +4,9 @@
     tests/tables.py [OPTIONS] [DOCUMENTS [FIRST]]   # 3000 documents from number 0 on, or so many
     tests/tables.py [OPTIONS] --bytes               # tables with each byte in many places
     tests/tables.py [OPTIONS] --shapes              # cells of every shape in three columns and rows
+    tests/tables.py [OPTIONS] --narrow              # the same without blanks between columns
+    tests/tables.py [OPTIONS] --meetings            # lines of every kind between two rows, in each box
+    tests/tables.py [OPTIONS] --lengths             # tables on lines of each length up to 80
 
 With `--program PROGRAM` this one is compared, and else crates/roff/out/roff. With `--built KEYS`
 the spans of these keys are laid out, of `s^`, and else those of `BUILT` in tests/table_format.py.
@@ -22,6 +25,8 @@ import sys
 import tempfile
 
 sys.dont_write_bytecode = True
+import table_meetings
+import table_narrow
 import table_shapes
 from table_format import NOT_YET, not_yet
 from table_model import Model
@@ -314,6 +319,22 @@ def check_shape(folder, number):
     return compared(folder / str(number), "kind %d of shape %d" % (kind, place), source, {}, 30)
 
 
+def check_narrow(folder, number):
+    """A document with a table without blanks between its columns."""
+    return compared(folder / str(number), "narrow table %d" % number, table_narrow.TABLES[number], {}, 30)
+
+
+def check_meeting(folder, number):
+    """A document with a table of lines that meet."""
+    return compared(folder / str(number), "meeting %d" % number, table_meetings.TABLES[number], {}, 65)
+
+
+def check_length(folder, number):
+    """A document with a table on a line of a length."""
+    length, source = table_meetings.BY_LENGTH[number]
+    return compared(folder / str(number), "length %d" % number, source, {}, length)
+
+
 def main():
     global PROGRAM
     words = sys.argv[1:]
@@ -330,6 +351,12 @@ def main():
     elif words == ["--shapes"]:
         shapes = table_shapes.shapes(b"^" not in NOT_YET["keys"])
         numbers, checked = range(len(shapes) * len(table_shapes.KINDS)), check_shape
+    elif words == ["--narrow"]:
+        numbers, checked = range(len(table_narrow.TABLES)), check_narrow
+    elif words == ["--meetings"]:
+        numbers, checked = range(len(table_meetings.TABLES)), check_meeting
+    elif words == ["--lengths"]:
+        numbers, checked = range(len(table_meetings.BY_LENGTH)), check_length
     else:
         count, first = (list(map(int, words)) + [3000, 0][len(words):])[:2]
         numbers, checked = range(first, first + count), check

@@ -11,3 +11,5 @@ pub mod Spans
 pub mod SpanLaws
 pub mod KeptEntries
 pub mod Heights
+pub mod EntriesFit
+pub mod HeightLaws

@@ -1,12 +1,17 @@
 //! What holds of columns and of the bars between them, as contracts of functions that do nothing.
 
-ghost use Rattle.std.specs.Prelude.{◌≡◌, ℕ, Bool, List, length, map};
+ghost use Rattle.std.specs.Prelude.{◌≡◌, ◌++◌, ◌∷◌, [], ℕ, Bool, List, length, map};
+ghost use Rattle.tbl_format.specs.Format.{FormatRow};
+ghost use Rattle.tbl_format.specs.FormatRows.{AreWithin};
 ghost use Rattle.tbl_format.specs.declared.format.Asked.{Asked};
 ghost use Rattle.tbl_layout.specs.Columns.{IsLeast, laid_by};
-ghost use Rattle.tbl_layout.specs.Entries.{Element};
+ghost use Rattle.tbl_layout.specs.Entries.{Content, Element, Row};
+ghost use Rattle.tbl_layout.specs.EntriesFit.{EntriesFit, FieldsFit, HaveWideKeys};
+ghost use Rattle.tbl_layout.specs.HeightLaws.{EachHigh};
+ghost use Rattle.tbl_layout.specs.Heights.{heights};
 ghost use Rattle.tbl_layout.specs.LayoutLaws.{AreInOrder, HaveRoom, IsAsWide, StandInOrder};
 ghost use Rattle.tbl_layout.specs.SpanLaws.{AreFitted, HoldAll};
-ghost use Rattle.tbl_layout.specs.Spans.{Wide};
+ghost use Rattle.tbl_layout.specs.Spans.{Wide, cells_of, filled, laid};
 ghost use Rattle.tbl_layout.specs.declared.bars.Bars.{Bars};
 ghost use Rattle.tbl_layout.specs.declared.columns.Column.{Column};
 ghost use Rattle.tbl_layout.specs.declared.columns.Stands.{Stands};
@@ -60,4 +65,29 @@ pub fn fitted()
 pub fn hold_all()
     ensures { (bars : Bars) (line_length : ℕ) (asked : List Asked) (elements : List Element)
         → HoldAll bars line_length asked elements }
+{}
+
+/// In a picture each column is wide enough for what is asked of it and for its own entries, and
+/// each entry of several columns fits these as one, with the separations between.
+pub fn entries_fit()
+    ensures { (bars : Bars) (is_expanded : Bool) (line_length : ℕ) (asked : List Asked)
+        (elements : List Element) → EntriesFit bars is_expanded line_length asked elements }
+{}
+
+/// The fields of each row of a table fit their cells in its picture.
+pub fn fields_fit()
+    ensures { (bars : Bars) (is_expanded : Bool) (line_length : ℕ) (asked : List Asked)
+        (elements before after : List Element) (rules : List FormatRow) (format : FormatRow)
+        (fields : List Content)
+        → filled bars line_length asked elements ≡ before ++ Row rules format fields ∷ after
+        → AreWithin (length asked) format.keys → HaveWideKeys 0 format.keys
+        → FieldsFit format.keys fields (cells_of format.keys
+        (laid bars is_expanded line_length asked elements).columns) }
+{}
+
+/// Each row of a table is one line high at least, and just so high that nothing is left of the
+/// cells that end with it: the last row of a cell of several rows grows, and no other.
+pub fn rows_high()
+    ensures { (is_inside : Bool) (columns : ℕ) (elements : List Element)
+        → EachHigh is_inside columns [] [] 0 (heights is_inside columns elements) elements }
 {}

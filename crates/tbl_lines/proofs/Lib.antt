@@ -27,3 +27,11 @@ pub mod PlainHeights
 pub mod PlainShown
 pub mod PlainTables
 pub mod KeptAlone
+pub mod PiecesBehind
+pub mod EntriesFit
+pub mod RowApart
+pub mod RuleApart
+pub mod InTurn
+pub mod CellsStand
+pub mod CellsStay
+pub mod CellsFresh

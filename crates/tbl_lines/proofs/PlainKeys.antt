@@ -48,7 +48,7 @@ all-behind {A = A} from (k ∷ keys) m bars xs cells many =
     (all-behind k.end keys m bars (drop (k.end - from) xs) cells.1
     (omega (arith, many, cells.0, length-drop (k.end - from) xs, end-behind k.end keys cells.1)))
 
-cells-all : (columns : List Column) (format : FormatRow) → AreWithin (length columns) format.keys
+pub cells-all : (columns : List Column) (format : FormatRow) → AreWithin (length columns) format.keys
     → cells_of (all_keys (length columns) format) columns ≡ cells_of format.keys columns
 cells-all columns format lie =
     let own = columns_of-behind format.keys in

@@ -26,7 +26,7 @@ inner-by : (t : Bool) (n most : ℕ) → n ≤ most → (if t then max 1 n else 
 inner-by true n most few = omega (arith, few)
 inner-by false n most few = few
 
-inner-grows : (boxing : Boxing) (n most : ℕ) → n ≤ most → inner_bars boxing n ≤ inner_bars boxing most
+pub inner-grows : (boxing : Boxing) (n most : ℕ) → n ≤ most → inner_bars boxing n ≤ inner_bars boxing most
 inner-grows boxing n most few = inner-by boxing.is_inside n most few
 
 most-by : (t : Bool) (n : ℕ) → (if t then max 1 n else n) ≤ max 1 n

@@ -9,3 +9,4 @@ pub mod RowsLent
 pub mod RowsAlone
 pub mod RulePlaces
 pub mod RulesAlone
+pub mod PiecesApart

@@ -4,6 +4,7 @@
 
 pub mod fronts;
 pub mod laws;
+pub mod piece_laws;
 pub mod plain_tables;
 pub mod row_columns;
 pub mod row_lent;

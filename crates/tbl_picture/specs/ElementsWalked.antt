@@ -15,7 +15,7 @@ use Rattle.tbl_layout.specs.declared.data_lines.RuleSign.{RuleSign}
 use Rattle.tbl_layout.specs.declared.data_lines.RuleSign.TheVariants.{Single}
 use Rattle.tbl_layout.specs.declared.entry.Entry.{Entry}
 pub use Rattle.tbl_lines.specs.PictureLines.{boxed_from}
-use Rattle.tbl_lines.specs.PictureLines.{Neighbour, NoRow, OfRow, OfRules, Sheet, bar, frame_rules, frame_sign, lines_behind, rule_line, ruled_inside}
+use Rattle.tbl_lines.specs.PictureLines.{Neighbour, NoRow, OfRow, OfRules, Sheet, bar, frame_sign, lines_behind, rule_line}
 use Rattle.tbl_pieces.specs.PieceQueue.{Adds, KeptPieces, bytes_left}
 use Rattle.tbl_pieces.specs.Pieces.{AreWithin}
 use Rattle.tbl_lines.specs.RowsWalked.{AreNarrow, front_count, most_steps, steps_of_columns, steps_of_lines}

@@ -1,9 +1,5 @@
-pub mod Frame
 pub mod Nexts
 pub mod Walks
 pub mod RuleMarks
 pub mod RulesWalked
 pub mod ElementsWalked
-pub mod PartsToCome
-pub mod LinesWalked
-pub mod Giving

@@ -1,7 +1,5 @@
-//! The picture of a table, a line and a piece of it at a time (Lesk, "Tbl - A Program to Format
-//! Tables").
+//! The lines of a table's picture, a piece of them at a time, where no cell has several rows (Lesk,
+//! "Tbl - A Program to Format Tables").
 #![tactic(auto)]
 
-pub mod frame;
-pub mod giving;
 pub mod walk;

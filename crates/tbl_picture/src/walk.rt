@@ -35,7 +35,6 @@ pub mod beside;
 mod cells;
 mod elements;
 mod fronts;
-pub mod line_by_line;
 mod lines;
 mod rule_marks;
 mod rule_rows;
@@ -194,7 +193,7 @@ impl Walk {
     }
 
     /// The next pieces of a row, as many as there is room for. Answers whether they were its last.
-    fn steps_in_row(
+    pub fn steps_in_row(
         &mut self,
         pieces: &mut PieceQueue,
         escapes: &mut OpenEscapes,

@@ -36,7 +36,7 @@ use Rattle.tbl_lines.specs.PictureLines.{Sheet}
 use Rattle.tbl_table.specs.Kept.{PartsFit, row_open, table_of}
 use Rattle.tbl_table.specs.Laying.{IsLaid, body_of, columns_by, lacking_by}
 use Rattle.tbl_table.specs.MayTell.{line_may_tell}
-use Rattle.tbl_picture.specs.Giving.{HasCells, IsLaidOut, lines_laid}
+use Rattle.tbl_giving.specs.Giving.{HasCells, IsLaidOut, lines_laid}
 use Rattle.tbl_lines.specs.RulePlaces.{HavePlaces}
 use Rattle.tbl_table.specs.Table.{body_filled, laid_out}
 use Rattle.tbl_table.specs.declared.begun.Begun.{Begun}

@@ -10,7 +10,7 @@ use Rattle.tbl_format.specs.KeyCounts.{StandsOnLine}
 use Rattle.tbl_kept.specs.Joined.{Joined, behind_joined}
 use Rattle.tbl_options.specs.Notes.{NotesWithin, told_of_all}
 use Rattle.tbl_table.specs.MayTell.{fault_may_come, line_may_tell}
-use Rattle.tbl_picture.specs.Giving.{CanGive, coming}
+use Rattle.tbl_giving.specs.Giving.{CanGive, coming}
 use Rattle.tbl_table.specs.Reading.{KeptTable, Reading}
 use Rattle.tbl_table.specs.Table.{TableRead}
 use Rattle.tbl_kept.specs.Rows.{entries_of}

@@ -21,7 +21,7 @@ use Rattle.tbl_data.specs.declared.phase.Phase.TheVariants.{AtHead, Bad, InData,
 use Rattle.tbl_data.specs.declared.table_data.OpenBlock.{OpenBlock}
 use Rattle.tbl_data.specs.declared.table_data.OpenBlock.TheVariants.{Dropped, Kept, Nothing}
 use Rattle.tbl_data.specs.declared.table_data.TableData.{TableData}
-use Rattle.tbl_picture.specs.Giving.{with_newline}
+use Rattle.tbl_giving.specs.Giving.{with_newline}
 use Rattle.tbl_table.specs.Reading.{Reading}
 use Rattle.tbl_table.specs.Table.{TableRead}
 use Rattle.tbl_format.specs.declared.format.FormatPlace.{FormatPlace}

@@ -14,7 +14,7 @@ use Rattle.tbl_layout.specs.DataLines.{ends_row}
 use Rattle.tbl_layout.specs.Entries.{Element}
 use Rattle.tbl_layout.specs.Spans.{filled, laid}
 use Rattle.tbl_layout.specs.Widths.{table_bars}
-use Rattle.tbl_picture.specs.Frame.{indent, picture}
+use Rattle.tbl_giving.specs.Frame.{indent, picture}
 use Rattle.tbl_lines.specs.PictureLeft.{table_lines}
 use Rattle.tbl_lines.specs.PictureLines.{Sheet}
 use Rattle.tbl_data.specs.DataRead.{closed_block, data_line, whole_line}

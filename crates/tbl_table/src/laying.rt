@@ -6,7 +6,7 @@ ghost use Rattle.tbl_data.specs.declared.table_data.OpenBlock.TheVariants.{Nothi
 ghost use Rattle.tbl_format.specs.Format.{FormatRow};
 ghost use Rattle.tbl_kept.specs.Rows.{RowsLaid};
 ghost use Rattle.tbl_layout.specs.Columns.{width_of_all};
-ghost use Rattle.tbl_picture.specs.Frame.{indent};
+ghost use Rattle.tbl_giving.specs.Frame.{indent};
 ghost use Rattle.tbl_table.specs.Laying.{IsLaid, lacking_by, laid_by, with_places};
 
 use tbl_data::table_data::TableData;

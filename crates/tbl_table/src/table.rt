@@ -20,10 +20,10 @@ use std::marker::Model;
 use tbl_data::phase::Phase;
 use tbl_data::table_data::TableData;
 use tbl_format::limits::TblLimits;
+use tbl_giving::giving::Giving;
 use tbl_kept::table_text::TableText;
 use tbl_options::message::Told;
 use tbl_options::options::{NO_OPTIONS, Options};
-use tbl_picture::giving::Giving;
 
 /// The table that is being read, or that is being given. All its memory is reserved as it is made.
 #[derive(Drop)]

@@ -10,7 +10,7 @@ use Rattle.tbl_lines.specs.LinesLeft.{Beside, Over, bars_met, is_within, over_at
 use Rattle.tbl_lines.specs.PictureLines.{RuleLine}
 use Rattle.tbl_lines.specs.RulePlaces.{bars_behind}
 use Rattle.tbl_options.specs.declared.options.Boxing.{Boxing}
-use Rattle.tbl_tall.specs.RulesDrawn.{FitBetween}
+use Rattle.tbl_line_cells.specs.RulesDrawn.{FitBetween}
 
 -- two columns beside each other are behind each other
 behind-at : (boxing : Boxing) (columns : List Column) (at : ℕ) (c d : Column) (others : List Column) → AreBehind boxing columns

@@ -15,8 +15,8 @@ use Rattle.tbl_layout.specs.declared.entry.EntryKind.{EntryKind}
 use Rattle.tbl_layout.specs.declared.entry.EntryKind.TheVariants.{Above as AboveKind, Block as BlockKind, Repeated as RepeatedKind, Ruled as RuledKind, Short as ShortKind, Split as SplitKind, Text as TextKind}
 use Rattle.tbl_lines.specs.CellsLeft.{nothing_left, own_field}
 use Rattle.tbl_lines.specs.RowsLeft.{block_text}
-use Rattle.tbl_tall.proofs.CellsKept.{nothing-laid, nothing-lies}
-use Rattle.tbl_tall.specs.KeptCells.{GoesOnBy, IsLeft, lead_by}
+use Rattle.tbl_line_cells.proofs.CellsKept.{nothing-laid, nothing-lies}
+use Rattle.tbl_line_cells.specs.KeptCells.{GoesOnBy, IsLeft, lead_by}
 use Rattle.tbl_tall.specs.LinesOver.{lines_kept}
 use Rattle.tbl_tall.specs.RowsNext.{begun_kept}
 use Rattle.tbl_text.specs.BlockPlaces.{IsWithin}

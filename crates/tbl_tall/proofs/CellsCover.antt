@@ -4,7 +4,7 @@ use Rattle.tbl_format.specs.Cells.{AreCells}
 use Rattle.tbl_format.specs.Format.{columns_of}
 use Rattle.tbl_format.specs.declared.format.FormatKey.{FormatKey}
 use Rattle.tbl_format.proofs.CellColumns.{columns_behind, columns_of-behind}
-use Rattle.tbl_tall.specs.RulesDrawn.{Cover}
+use Rattle.tbl_line_cells.specs.RulesDrawn.{Cover}
 
 cover-from : (from count : ℕ) (keys : List FormatKey) → AreCells from keys → columns_behind from keys ≡ count → Cover from count keys
 cover-from from count [] cells all = all

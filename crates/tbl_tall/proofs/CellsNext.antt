@@ -15,11 +15,11 @@ use Rattle.tbl_kept.specs.RowsLaying.{ElementWithin, element_at}
 use Rattle.tbl_layout.specs.Entries.{key_at}
 use Rattle.tbl_layout.specs.declared.entry.Entry.{Entry}
 use Rattle.tbl_lines.specs.CellsLeft.{Left, all_keys, cell_by, gone_on, keys_behind}
-use Rattle.tbl_tall.specs.KeptCells.{AllLeft, IsKeyAt, IsLeft}
+use Rattle.tbl_line_cells.specs.KeptCells.{AllLeft, IsKeyAt, IsLeft}
 use Rattle.tbl_tall.specs.LinesOver.{HasInFront}
 use Rattle.tbl_tall.specs.RowsNext.{GoesOnWith, HasKey, HasKeys, NoneAbove, OneAbove, RowAbove, RowIsAt, above_kept, cells_by}
 use Rattle.tbl_tall.specs.TallRows.{ElementLies}
-use Rattle.tbl_tall.specs.declared.cells.CellLeft.{CellLeft}
+use Rattle.tbl_line_cells.specs.declared.cells.CellLeft.{CellLeft}
 use Rattle.tbl_tall.specs.declared.next_cells.RowComing.{RowComing}
 
 -- what holds of all of some, holds of each

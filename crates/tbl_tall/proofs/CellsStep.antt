@@ -8,7 +8,7 @@ use Rattle.tbl_format.proofs.CellColumns.{columns_behind}
 use Rattle.tbl_layout.specs.KeptEntries.{no_entry}
 use Rattle.tbl_tall.specs.Bands.{keys_in}
 use Rattle.tbl_tall.specs.ShownBars.{owner_of, owners}
-use Rattle.tbl_tall.specs.declared.cells.CellLeft.{CellLeft}
+use Rattle.tbl_line_cells.specs.declared.cells.CellLeft.{CellLeft}
 use Rattle.tbl_tall.proofs.CellsSpread.{first-end, spread}
 use Rattle.tbl_tall.proofs.CellsThrough.{owners-next}
 use Rattle.tbl_tall.proofs.RowBars.{spread-next}

@@ -7,13 +7,13 @@ use Rattle.tbl_format.specs.FormatRows.{AreWithin}
 use Rattle.tbl_format.specs.declared.format.FormatKey.{FormatKey}
 use Rattle.tbl_lines.specs.CellsLeft.{Left, all_keys, keys_behind}
 use Rattle.tbl_tall.specs.Bands.{HasRoom, keys_in}
-use Rattle.tbl_tall.specs.KeptCells.{AllLeft}
-use Rattle.tbl_tall.specs.LinesDrawn.{HasRoom as LineHasRoom}
+use Rattle.tbl_line_cells.specs.KeptCells.{AllLeft}
+use Rattle.tbl_line_cells.specs.LinesDrawn.{HasRoom as LineHasRoom}
 use Rattle.tbl_tall.specs.RowsNext.{HasKeys}
 use Rattle.tbl_tall.specs.TallRows.{HaveKeys}
 use Rattle.tbl_tall.specs.declared.band.Band.{Band}
-use Rattle.tbl_tall.specs.declared.cells.CellLeft.{CellLeft}
-use Rattle.tbl_tall.specs.declared.line_cells.LineCells.{LineCells}
+use Rattle.tbl_line_cells.specs.declared.cells.CellLeft.{CellLeft}
+use Rattle.tbl_line_cells.specs.declared.line_cells.LineCells.{LineCells}
 
 -- keys behind others
 cells-append : (from : ℕ) (keys more : List FormatKey) → AreCells from keys → AreCells (columns_behind from keys) more → AreCells from (keys ++ more)

@@ -14,7 +14,7 @@ use Rattle.tbl_lines.specs.RowsLeft.{cell_of_front}
 use Rattle.tbl_lines.specs.RowsLent.{AreFronts, WalkedRow}
 use Rattle.tbl_lines.specs.RowsWalked.{AreNarrow}
 use Rattle.tbl_lines.specs.declared.fronts.Front.{Front}
-use Rattle.tbl_tall.specs.LinesDrawn.{AreSingle, Draws, KeptLine, laid_row}
+use Rattle.tbl_line_cells.specs.LinesDrawn.{AreSingle, Draws, KeptLine, laid_row}
 
 -- cells of one column each
 single-order : (from : ℕ) (keys : List FormatKey) → AreSingle from keys → AreCells from keys

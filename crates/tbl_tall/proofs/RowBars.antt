@@ -13,10 +13,10 @@ use Rattle.tbl_lines.specs.LinesLeft.{OfRow, bars_at_cell, bars_in_front, joined
 use Rattle.tbl_lines.specs.PictureLeft.{through_rule}
 use Rattle.tbl_tall.specs.Bands.{ShowBars, keys_in}
 use Rattle.tbl_layout.specs.declared.data_lines.RuleSign.{RuleSign}
-use Rattle.tbl_tall.specs.KeptCells.{AllLeft, IsLeft, ShowsRule, behind_rules}
-use Rattle.tbl_tall.specs.declared.cells.CellLeft.{CellLeft}
+use Rattle.tbl_line_cells.specs.KeptCells.{AllLeft, IsLeft, ShowsRule, behind_rules}
+use Rattle.tbl_line_cells.specs.declared.cells.CellLeft.{CellLeft}
 use Rattle.tbl_tall.proofs.BandsAlike.{through-key}
-use Rattle.tbl_tall.proofs.FirstLines.{joined-shown}
+use Rattle.tbl_line_cells.proofs.FirstLines.{joined-shown}
 use Rattle.tbl_tall.proofs.CellsSpread.{at_found, length-spread, spread, spread-shown}
 
 -- cells that are left have the keys of what is kept of them

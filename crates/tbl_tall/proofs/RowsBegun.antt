@@ -15,10 +15,10 @@ use Rattle.tbl_lines.specs.LinesLeft.{Beside, Nothing, OfRow, Over, overs}
 use Rattle.tbl_lines.specs.PictureLeft.{through_rule, through_rules}
 use Rattle.tbl_lines.specs.PictureLines.{Sheet, boxed_from}
 use Rattle.tbl_options.specs.declared.options.Boxing.{Boxing}
-use Rattle.tbl_tall.proofs.FirstLines.{each-behind}
+use Rattle.tbl_line_cells.proofs.FirstLines.{each-behind}
 use Rattle.tbl_tall.proofs.RowsComing.{cells-one, foreseen}
 use Rattle.tbl_tall.specs.Bands.{BandFits, BandStands, GoThrough, KeptBand, ShowBars, keys_left, rest_shown}
-use Rattle.tbl_tall.specs.KeptCells.{AllLeft, behind_rules}
+use Rattle.tbl_line_cells.specs.KeptCells.{AllLeft, behind_rules}
 use Rattle.tbl_tall.specs.LinesOver.{HasInFront, heights_kept}
 use Rattle.tbl_tall.specs.RowsNext.{RulesThen, cell_kept, cells_by}
 use Rattle.tbl_tall.specs.TallRows.{BarsFit, Comes, HaveKeys, KeptTall, no_row, row_below}

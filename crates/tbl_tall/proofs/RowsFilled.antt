@@ -19,7 +19,7 @@ use Rattle.tbl_tall.proofs.KeysCover.{Cover, cover-all}
 use Rattle.tbl_tall.proofs.RowsBegun.{RowKeeps, cells-come, keeps-comes}
 use Rattle.tbl_tall.proofs.RowsComing.{keys-kept, step-row}
 use Rattle.tbl_tall.specs.Bands.{BandFits, GoThrough, ShowBars, keys_in}
-use Rattle.tbl_tall.specs.KeptCells.{AllLeft, behind_rules}
+use Rattle.tbl_line_cells.specs.KeptCells.{AllLeft, behind_rules}
 use Rattle.tbl_tall.specs.LinesOver.{heights_kept}
 use Rattle.tbl_tall.specs.RowsNext.{HasKeys, RowIsAt, RulesThen, StandsBelow, boxed_behind, cell_kept, cells_by, rules_in_front}
 use Rattle.tbl_tall.specs.TallRows.{Comes, ElementLies, KeptTall, RowLies, RowsLie}

@@ -17,7 +17,7 @@ use Rattle.tbl_tall.proofs.BarsFit.{row-fits, rules-fit}
 use Rattle.tbl_tall.proofs.KeysCover.{lefts-all, lefts-order}
 use Rattle.tbl_tall.specs.BandLaws.{ComesNext, HasLinePlaces}
 use Rattle.tbl_tall.specs.Bands.{BandStands, ShowBars}
-use Rattle.tbl_tall.specs.KeptCells.{AllLeft}
+use Rattle.tbl_line_cells.specs.KeptCells.{AllLeft}
 use Rattle.tbl_tall.specs.TallRows.{Comes, HaveKeys, KeysCome, KeptTall, RowEnded, RowStands, RuleComes, WholeComes, next_format, next_height, row_below}
 
 -- what comes behind a line of rules is what comes

@@ -4,9 +4,9 @@ use Rattle.std.specs.List.{AllByRecursion}
 use Rattle.std.specs.Prelude.{if◌then◌else◌}
 use Rattle.tbl_layout.specs.Entries.{Above, Block, Content, Repeated, Ruled, Short, Text}
 use Rattle.tbl_lines.specs.CellsLeft.{Left, behind_line, goes_on, rest_by}
-use Rattle.tbl_tall.specs.KeptCells.{AllLeft, IsLeft}
+use Rattle.tbl_line_cells.specs.KeptCells.{AllLeft, IsLeft}
 use Rattle.tbl_tall.specs.RowsPassed.{IsKept, passed, passed_at}
-use Rattle.tbl_tall.specs.declared.cells.CellLeft.{CellLeft}
+use Rattle.tbl_line_cells.specs.declared.cells.CellLeft.{CellLeft}
 
 -- one more
 pub passed-next : (bytes : List ℕ) (is_rule : Bool) (cells : List CellLeft) (lefts : List Left) (at : ℕ) (none new : CellLeft) → at < length cells

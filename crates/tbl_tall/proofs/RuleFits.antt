@@ -5,7 +5,7 @@ use Rattle.tbl_layout.specs.declared.columns.Column.{Column}
 use Rattle.tbl_lines.specs.LinesLeft.{Beside, Over, bars_met}
 use Rattle.tbl_lines.specs.PictureLines.{RuleLine, Sheet}
 use Rattle.tbl_tall.specs.BandLaws.{HasLinePlaces}
-use Rattle.tbl_tall.specs.RulesDrawn.{FitBetween}
+use Rattle.tbl_line_cells.specs.RulesDrawn.{FitBetween}
 use Rattle.tbl_tall.specs.TallRows.{BarsFit}
 use Rattle.tbl_tall.proofs.BarsFit.{own-fits}
 use Rattle.tbl_tall.proofs.BarsMet.{fit-given}

@@ -18,7 +18,7 @@ use Rattle.tbl_lines.specs.PictureLines.{OfKeys, RuleLine, Sheet, Whole}
 use Rattle.tbl_lines.specs.RulePlaces.{HasPlaces, HavePlaces}
 use Rattle.tbl_tall.specs.BandLaws.{ComesNext, HasLinePlaces, NextPlaces}
 use Rattle.tbl_tall.specs.Bands.{AlikeLines, KeptBand, Keys, Wholes, band_line, line_given, lines_behind}
-use Rattle.tbl_tall.specs.RulesDrawn.{RuleGiven, is_whole_line}
+use Rattle.tbl_line_cells.specs.RulesDrawn.{RuleGiven, is_whole_line}
 use Rattle.tbl_tall.specs.TallRows.{BarsFit, Comes, HaveKeys, KeptTall, KeysCome, RuleComes, SignIs, WholeComes, below_rule, next_format, row_below}
 use Rattle.tbl_tall.proofs.BandSteps.{overs-self}
 use Rattle.tbl_tall.proofs.BandsAlike.{met-alike, through-key}

@@ -10,7 +10,7 @@ use Rattle.tbl_options.specs.declared.options.Boxing.{Boxing}
 use Rattle.tbl_lines.specs.LinesLeft.{Beside, OfRules, Over, is_free, bars_met, is_within, over_at, rules_boundary, shown_bars}
 use Rattle.tbl_lines.specs.PictureLines.{OfKeys, RuleLine, Whole}
 use Rattle.tbl_tall.specs.declared.band.Band.{Band}
-use Rattle.tbl_tall.specs.declared.cells.CellLeft.{CellLeft}
+use Rattle.tbl_line_cells.specs.declared.cells.CellLeft.{CellLeft}
 
 -- how many rules over the whole picture there are, and behind them rows of rule keys: the first among the rows of all formats, and how
 -- many; how many of these lines were given; the cell of each column that goes through them, if one does; and bars at each boundary: of the

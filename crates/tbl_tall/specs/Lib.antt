@@ -1,11 +1,7 @@
-pub mod KeptCells
 pub mod LinesOver
 pub mod Bands
-pub mod LaidCells
 pub mod ShownBars
 pub mod BandLaws
-pub mod LinesDrawn
-pub mod RulesDrawn
 pub mod TallRows
 pub mod RowsNext
 pub mod RowsPassed

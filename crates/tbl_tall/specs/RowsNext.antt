@@ -16,9 +16,9 @@ use Rattle.tbl_lines.specs.PictureLines.{Sheet, boxed_from}
 use Rattle.tbl_lines.specs.RulePlaces.{HavePlaces}
 use Rattle.tbl_options.specs.declared.options.Boxing.{Boxing}
 use Rattle.tbl_tall.specs.Bands.{ShowBars}
-use Rattle.tbl_tall.specs.KeptCells.{AllLeft, IsLeft}
+use Rattle.tbl_line_cells.specs.KeptCells.{AllLeft, IsLeft}
 use Rattle.tbl_tall.specs.LinesOver.{lines_kept}
-use Rattle.tbl_tall.specs.declared.cells.CellLeft.{CellLeft}
+use Rattle.tbl_line_cells.specs.declared.cells.CellLeft.{CellLeft}
 use Rattle.tbl_tall.specs.declared.next_cells.RowComing.{RowComing}
 use Rattle.tbl_tall.specs.TallRows.{BarsFit, KeptTall}
 

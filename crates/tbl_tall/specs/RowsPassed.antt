@@ -2,8 +2,8 @@
 use Rattle.std.specs.Prelude.{ℕ, zero, suc, Bool, true, false, List, [], ◌∷◌}
 use Rattle.tbl_lines.specs.CellsLeft.{Left, behind_line}
 use Rattle.tbl_lines.specs.PictureLeft.{through_rule}
-use Rattle.tbl_tall.specs.KeptCells.{AllLeft, IsLeft}
-use Rattle.tbl_tall.specs.declared.cells.CellLeft.{CellLeft}
+use Rattle.tbl_line_cells.specs.KeptCells.{AllLeft, IsLeft}
+use Rattle.tbl_line_cells.specs.declared.cells.CellLeft.{CellLeft}
 
 -- behind a line of rules, or of a row
 abbrev pub passed : Bool → Left → Left

@@ -1,6 +1,6 @@
 -- The columns of the cells of a row that go on, one by one (Lesk, "Tbl": Formatting).
 use Rattle.std.specs.Prelude.{ℕ, suc, nat_lt, ◌-◌, List, [], ◌∷◌, ◌++◌, replicate, Option, None, Some, if◌then◌else◌}
-use Rattle.tbl_tall.specs.declared.cells.CellLeft.{CellLeft}
+use Rattle.tbl_line_cells.specs.declared.cells.CellLeft.{CellLeft}
 
 -- the number of a cell, if it goes on
 abbrev pub owner_of : ℕ → CellLeft → Option ℕ

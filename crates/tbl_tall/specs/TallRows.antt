@@ -20,9 +20,9 @@ use Rattle.tbl_lines.specs.RulePlaces.{HasPlaces, HavePlaces, bars_behind}
 use Rattle.tbl_lines.specs.RowsWalked.{AreNarrow}
 use Rattle.tbl_options.specs.declared.options.Boxing.{Boxing}
 use Rattle.tbl_tall.specs.Bands.{BandStands, HasRoom as BandHasRoom, KeptBand, ShowBars, kept_band, keys_left, wholes_left}
-use Rattle.tbl_tall.specs.KeptCells.{AllLeft}
-use Rattle.tbl_tall.specs.LinesDrawn.{KeptLine, HasRoom, kept_line}
-use Rattle.tbl_tall.specs.declared.cells.CellLeft.{CellLeft}
+use Rattle.tbl_line_cells.specs.KeptCells.{AllLeft}
+use Rattle.tbl_line_cells.specs.LinesDrawn.{KeptLine, HasRoom, kept_line}
+use Rattle.tbl_line_cells.specs.declared.cells.CellLeft.{CellLeft}
 use Rattle.tbl_tall.specs.declared.tall_row.TallRow.TheInside.{Inside}
 
 -- how many bars it has behind its last cell, its cells and those of the row above, how many lines it has still, the lines of rules in

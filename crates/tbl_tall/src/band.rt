@@ -14,11 +14,10 @@ ghost use Rattle.tbl_lines.specs.LinesLeft.{Beside, Nothing, OfRow, Over, is_fre
 ghost use Rattle.tbl_lines.specs.LinesLeft.{over_at, overs, own_bars, rules_boundary};
 ghost use Rattle.tbl_lines.specs.LinesLeft.{rules_column, sign_at};
 ghost use Rattle.tbl_lines.specs.PictureLines.{RuleLine};
-ghost use Rattle.tbl_tall.specs.KeptCells.{AllLeft, behind_rules};
+ghost use Rattle.tbl_line_cells.specs.KeptCells.{AllLeft, behind_rules};
 
 mod met;
 
-use crate::cells::CellLeft;
 use crate::shown_bars::{push_nothing, push_owner, push_shown, push_through};
 use std::alloc::{AllocError, Global};
 use tbl_format::format_rows::FormatRows;
@@ -26,6 +25,7 @@ use tbl_kept::rows::key_at;
 use tbl_layout::bars::{edge_bars, inner_bars};
 use tbl_layout::data_lines::RuleSign;
 use tbl_layout::rule_keys::rule_sign;
+use tbl_line_cells::cells::CellLeft;
 use tbl_lines::row_lent::bars_among;
 use tbl_options::options::Boxing;
 

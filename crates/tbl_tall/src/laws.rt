@@ -13,9 +13,9 @@ ghost use Rattle.tbl_lines.specs.LinesLeft.{joined_here};
 ghost use Rattle.tbl_lines.specs.PictureLeft.{through_rules};
 ghost use Rattle.tbl_lines.specs.PictureLines.{ruled_inside};
 ghost use Rattle.tbl_options.specs.declared.options.Boxing.{Boxing};
-ghost use Rattle.tbl_tall.specs.KeptCells.{ShowsRule, behind_rules};
+ghost use Rattle.tbl_line_cells.specs.KeptCells.{ShowsRule, behind_rules};
 ghost use Rattle.tbl_tall.specs.LinesOver.{HasInFront, heights_kept, lines_below, lines_kept};
-ghost use Rattle.tbl_tall.specs.declared.cells.CellLeft.{CellLeft};
+ghost use Rattle.tbl_line_cells.specs.declared.cells.CellLeft.{CellLeft};
 
 /// Below a row, the rules that a box adds inside count as one line where no other rule stands.
 pub fn over_boxed()

@@ -4,16 +4,9 @@
 
 mod band;
 pub mod band_laws;
-mod block_places;
-pub mod cells;
-mod laid_cells;
 pub mod laws;
-mod line_cells;
 mod lines_over;
 mod next_cells;
-mod row_cells;
-mod rule_cells;
 pub mod rule_laws;
-mod rule_places;
 mod shown_bars;
 pub mod tall_row;

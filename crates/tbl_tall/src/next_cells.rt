@@ -20,15 +20,14 @@ ghost use Rattle.tbl_lines.specs.CellsLeft.{keys_behind, nothing_left, own_field
 ghost use Rattle.tbl_lines.specs.PictureLines.{frame_rules};
 ghost use Rattle.tbl_lines.specs.RowsLeft.{block_text};
 ghost use Rattle.tbl_lines.specs.RowsLent.{first_place};
-ghost use Rattle.tbl_tall.specs.KeptCells.{AllLeft, GoesOnBy, IsKeyAt, IsLeft, lead_by};
+ghost use Rattle.tbl_line_cells.specs.KeptCells.{AllLeft, GoesOnBy, IsKeyAt, IsLeft, lead_by};
 ghost use Rattle.tbl_tall.specs.RowsNext.{GoesOnWith, HasKey, HasKeys, RowAbove, RowIsAt};
 ghost use Rattle.tbl_tall.specs.RowsNext.{above_kept, begun_kept, cell_kept, cells_by};
 ghost use Rattle.tbl_tall.specs.RowsNext.{rules_in_front};
 ghost use Rattle.tbl_tall.specs.TallRows.{RowsLie};
-ghost use Rattle.tbl_tall.specs.declared.cells.CellLeft.{CellLeft as OneCell};
+ghost use Rattle.tbl_line_cells.specs.declared.cells.CellLeft.{CellLeft as OneCell};
 ghost use Rattle.tbl_text.specs.BlockPlaces.{IsWithin};
 
-use crate::cells::CellLeft;
 use crate::lines_over::lines_over;
 use tbl_format::cells::{cell_count, columns_of, end_of};
 use tbl_format::format::{FormatKey, Key, Standing};
@@ -36,6 +35,7 @@ use tbl_format::format_rows::FormatRows;
 use tbl_kept::rows::TableRows;
 use tbl_kept::rows::heights::lines_of;
 use tbl_layout::entry::{Entry, EntryKind};
+use tbl_line_cells::cells::CellLeft;
 use tbl_options::options::Boxing;
 use tbl_text::block_parts::BlockPlace;
 

@@ -9,7 +9,7 @@ ghost use Rattle.tbl_layout.specs.declared.columns.Column.{Column};
 ghost use Rattle.tbl_lines.specs.LinesLeft.{Beside, Over, bars_met};
 ghost use Rattle.tbl_lines.specs.PictureLines.{RuleLine, Sheet};
 ghost use Rattle.tbl_tall.specs.BandLaws.{HasLinePlaces};
-ghost use Rattle.tbl_tall.specs.RulesDrawn.{Cover, FitBetween};
+ghost use Rattle.tbl_line_cells.specs.RulesDrawn.{Cover, FitBetween};
 ghost use Rattle.tbl_tall.specs.TallRows.{BarsFit};
 
 /// Bars that meet between two columns on a line of rules have their places there, where those of

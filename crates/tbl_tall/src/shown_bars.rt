@@ -9,11 +9,11 @@ ghost use Rattle.tbl_lines.specs.CellsLeft.{Left};
 ghost use Rattle.tbl_lines.specs.LinesLeft.{OfRow, bars_in_front};
 ghost use Rattle.tbl_options.specs.declared.options.Boxing.{Boxing};
 ghost use Rattle.tbl_tall.specs.Bands.{ShowBars, keys_in};
-ghost use Rattle.tbl_tall.specs.KeptCells.{AllLeft, behind_rules};
+ghost use Rattle.tbl_line_cells.specs.KeptCells.{AllLeft, behind_rules};
 ghost use Rattle.tbl_tall.specs.ShownBars.{owner_of, owners};
 
-use crate::cells::CellLeft;
 use tbl_layout::bars::{edge_bars, inner_bars};
+use tbl_line_cells::cells::CellLeft;
 use tbl_options::options::Boxing;
 
 /// No bars at so many boundaries.

@@ -16,12 +16,10 @@ ghost use Rattle.tbl_lines.specs.PictureLines.{Sheet, boxed, boxed_from};
 ghost use Rattle.tbl_lines.specs.RowsLent.{LiesInColumns, lent_entries, lent_row};
 ghost use Rattle.tbl_lines.specs.RulePlaces.{HavePlaces};
 ghost use Rattle.tbl_options.specs.declared.options.Boxing.{Boxing as OneBoxing};
-ghost use Rattle.tbl_tall.specs.LinesDrawn.{Draws, laid_row};
+ghost use Rattle.tbl_line_cells.specs.LinesDrawn.{Draws, laid_row};
 ghost use Rattle.tbl_tall.specs.LinesOver.{heights_kept};
 
 use crate::band::Band;
-use crate::cells::CellLeft;
-use crate::line_cells::LineCells;
 use crate::next_cells::{
     RowComing, bars_at_end, fill_cells, fill_nothing, frame_lines, rules_in_front, stays_within,
 };
@@ -30,6 +28,8 @@ use std::marker::Model;
 use tbl_format::format_rows::FormatRows;
 use tbl_kept::rows::{Lent, TableRows};
 use tbl_layout::bars::Bars;
+use tbl_line_cells::cells::CellLeft;
+use tbl_line_cells::line_cells::LineCells;
 use tbl_lines::row_lent::RowLent;
 use tbl_options::options::Boxing;
 use tbl_text::block_parts::BlockPlace;
@@ -90,7 +90,7 @@ impl TallRow {
     /// The line that is laid, as a row of one line, in a picture with these bars that is so wide.
     pub fn lent<'a>(&'a self, bars: Bars, width: usize, bytes: &'a [u8]) -> RowLent<'a>
         ensures lies { (text : List ℕ) → Draws bytes.now bars width self.now.line text
-            → length self.now.line.columns < 2 ^ 32 → LiesInColumns result }
+            → LiesInColumns result }
         ensures row { (text : List ℕ) → Draws bytes.now bars width self.now.line text
             → lent_row result ≡ laid_row bytes.now bars width self.now.line }
         ensures entries { (text : List ℕ) → Draws bytes.now bars width self.now.line text

@@ -1,7 +1,8 @@
 //! The words of a block's line, and the ends of lines, as a walk gives them.
 
-ghost use Rattle.std.specs.Prelude.{◌≡◌, ℕ, ◌+◌, ◌<◌, ◌^◌, ◌≤◌, List, [], length};
-ghost use Rattle.tbl_picture.specs.Nexts.{AtCell, AtWord};
+ghost use Rattle.std.specs.Prelude.{◌≡◌, ℕ, ◌+◌, ◌<◌, ◌^◌, ◌≤◌, ◌++◌, List, [], length};
+ghost use Rattle.std.specs.Prelude.{vec_capacity, vec_len};
+ghost use Rattle.tbl_picture.specs.Nexts.{AtCell, AtLine, AtWord};
 
 use super::cells::{end_given, give};
 use super::{Next, Walk};
@@ -81,5 +82,27 @@ impl Walk {
         self.line += 1;
         self.next = Next::AtLine;
         self.line == row.height
+    }
+
+    /// A line begins whose blocks go on at these places: the line of a row of one line.
+    pub fn begin_line_laid(&mut self, places: &[BlockPlace])
+        requires { length places.now ≤ self.old.room }
+        ensures { self.new ≡ record self.old { line = 0; places = places.now; next = AtLine } }
+    {
+        self.places.clear();
+        push_all(&mut self.places, places);
+        self.line = 0;
+        self.next = Next::AtLine;
+    }
+}
+
+/// Adds some places behind others.
+fn push_all(places: &mut Vec<BlockPlace>, more: &[BlockPlace])
+    requires { vec_len places.old + length more.now ≤ vec_capacity places.old }
+    ensures items { places.new.items ≡ places.old.items ++ more.now }
+    ensures capacity { vec_capacity places.new ≡ vec_capacity places.old }
+{
+    for at in 0..more.len() {
+        places.push_reserved(more[at]);
     }
 }

@@ -73,7 +73,7 @@ pub(super) const CROSSING: u8 = b'+';
 pub(super) const BAR: u8 = b'|';
 
 /// How the rules above and below a picture are drawn, at whose edges so many bars stand.
-pub(super) fn frame_sign(bars: u8) -> RuleSign
+pub fn frame_sign(bars: u8) -> RuleSign
     ensures { result ≡ frame_sign bars }
 {
     if bars > 1 {

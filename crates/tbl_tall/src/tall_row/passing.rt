@@ -16,19 +16,19 @@ ghost use Rattle.tbl_lines.specs.PictureLines.{RuleLine, Sheet};
 ghost use Rattle.tbl_lines.specs.RulePlaces.{HasPlaces, HavePlaces};
 ghost use Rattle.tbl_tall.specs.Bands.{BandFits, GoThrough, HasRoom as BandHasRoom, ShowBars};
 ghost use Rattle.tbl_tall.specs.Bands.{keys_in, kept_band, line_given};
-ghost use Rattle.tbl_tall.specs.KeptCells.{AllLeft, IsLeft};
-ghost use Rattle.tbl_tall.specs.LinesDrawn.{Draws};
+ghost use Rattle.tbl_line_cells.specs.KeptCells.{AllLeft, IsLeft};
+ghost use Rattle.tbl_line_cells.specs.LinesDrawn.{Draws};
 ghost use Rattle.tbl_tall.specs.RowsPassed.{AreKept, IsKept, passed};
-ghost use Rattle.tbl_tall.specs.declared.cells.CellLeft.{CellLeft as OneCell};
+ghost use Rattle.tbl_line_cells.specs.declared.cells.CellLeft.{CellLeft as OneCell};
 
 use super::TallRow;
 use crate::band::Band;
-use crate::cells::CellLeft;
 use roff_escape::OpenEscapes;
 use tbl_format::format_rows::FormatRows;
 use tbl_layout::bars::Bars;
 use tbl_layout::columns::Column;
 use tbl_layout::data_lines::RuleSign;
+use tbl_line_cells::cells::CellLeft;
 use tbl_options::options::Boxing;
 
 impl TallRow {

@@ -1,4 +1,4 @@
-use Rattle.tbl_tall.proofs.FirstLines.{each-behind}
+use Rattle.tbl_line_cells.proofs.FirstLines.{each-behind}
 use Rattle.tbl_tall.proofs.laws.each_behind.Goals as goal
 
 pub returns : goal.returns

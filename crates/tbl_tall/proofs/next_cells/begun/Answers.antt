@@ -6,10 +6,10 @@ use Rattle.tbl_kept.specs.RowsLaying.{element_at}
 use Rattle.tbl_tall.proofs.CellsBegun.{begun-is}
 use Rattle.tbl_tall.proofs.CellsNext.{get-drop}
 use Rattle.tbl_tall.proofs.next_cells.begun.Goals as goal
-use Rattle.tbl_tall.specs.KeptCells.{IsLeft}
+use Rattle.tbl_line_cells.specs.KeptCells.{IsLeft}
 use Rattle.tbl_tall.specs.LinesOver.{lines_kept}
 use Rattle.tbl_tall.specs.RowsNext.{begun_kept}
-use Rattle.tbl_tall.specs.declared.cells.CellLeft.{CellLeft}
+use Rattle.tbl_line_cells.specs.declared.cells.CellLeft.{CellLeft}
 
 pub returns-clause-left : goal.returns-clause-left
 returns-clause-left c = λ bytes laid letter.

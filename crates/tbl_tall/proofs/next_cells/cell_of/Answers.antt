@@ -5,9 +5,9 @@ use Rattle.tbl_kept.specs.RowsLaying.{element_at}
 use Rattle.tbl_lines.specs.CellsLeft.{Left, gone_on}
 use Rattle.tbl_tall.proofs.RowsComing.{key-begun}
 use Rattle.tbl_tall.proofs.next_cells.cell_of.Goals as goal
-use Rattle.tbl_tall.specs.KeptCells.{IsLeft}
+use Rattle.tbl_line_cells.specs.KeptCells.{IsLeft}
 use Rattle.tbl_tall.specs.RowsNext.{begun_kept}
-use Rattle.tbl_tall.specs.declared.cells.CellLeft.{CellLeft}
+use Rattle.tbl_line_cells.specs.declared.cells.CellLeft.{CellLeft}
 
 pub returns-in-Some-clause-left : goal.returns-in-Some-clause-left
 returns-in-Some-clause-left c = λ bytes above lefts laid there all letter.

@@ -9,9 +9,9 @@ use Rattle.tbl_kept.specs.RowsLaying.{element_at}
 use Rattle.tbl_lines.specs.CellsLeft.{all_keys}
 use Rattle.tbl_tall.proofs.CellsNext.{all-next, end-key, end-left, key-lent, keys-many, letter-at, next-key, next-left, row-within}
 use Rattle.tbl_tall.proofs.next_cells.fill_cells.Goals as goal
-use Rattle.tbl_tall.specs.KeptCells.{IsKeyAt}
+use Rattle.tbl_line_cells.specs.KeptCells.{IsKeyAt}
 use Rattle.tbl_tall.specs.RowsNext.{cell_kept, cells_by}
-use Rattle.tbl_tall.specs.declared.cells.CellLeft.{CellLeft}
+use Rattle.tbl_line_cells.specs.declared.cells.CellLeft.{CellLeft}
 
 pub key_of-key-requires-clause-end : goal.key_of-key-requires-clause-end
 key_of-key-requires-clause-end c =

@@ -7,9 +7,9 @@ use Rattle.tbl_kept.specs.Rows.{ElementLaid}
 use Rattle.tbl_kept.specs.RowsLaying.{element_at}
 use Rattle.tbl_lines.specs.CellsLeft.{Left, all_keys}
 use Rattle.tbl_tall.proofs.next_cells.fill_cells.Given as goal
-use Rattle.tbl_tall.specs.KeptCells.{AllLeft}
+use Rattle.tbl_line_cells.specs.KeptCells.{AllLeft}
 use Rattle.tbl_tall.specs.RowsNext.{HasKeys, RowAbove, cell_kept, cells_by}
-use Rattle.tbl_tall.specs.declared.cells.CellLeft.{CellLeft}
+use Rattle.tbl_line_cells.specs.declared.cells.CellLeft.{CellLeft}
 
 abbrev pub invariant-loop-cell : goal.invariant-loop-cell
 invariant-loop-cell l = record {

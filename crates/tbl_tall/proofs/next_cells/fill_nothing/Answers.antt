@@ -5,9 +5,9 @@ use Rattle.tbl_lines.specs.CellsLeft.{Left, keys_behind, nothing_left}
 use Rattle.tbl_tall.proofs.CellsBegun.{nothing-is}
 use Rattle.tbl_tall.proofs.CellsNext.{all-next, cells-map, end-left, keys-behind-many, next-left}
 use Rattle.tbl_tall.proofs.next_cells.fill_nothing.Goals as goal
-use Rattle.tbl_tall.specs.KeptCells.{AllLeft, IsKeyAt}
+use Rattle.tbl_line_cells.specs.KeptCells.{AllLeft, IsKeyAt}
 use Rattle.tbl_tall.specs.RowsNext.{cells_by}
-use Rattle.tbl_tall.specs.declared.cells.CellLeft.{CellLeft}
+use Rattle.tbl_line_cells.specs.declared.cells.CellLeft.{CellLeft}
 use Rattle.tbl_text.specs.declared.block_parts.BlockPlace.TheVariants.{AtEnd}
 
 pub loop-cell-preserved : goal.loop-cell-preserved

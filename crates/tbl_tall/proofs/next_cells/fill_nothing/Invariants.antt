@@ -4,9 +4,9 @@ use Rattle.std.specs.Prelude.{vec_capacity}
 use Rattle.tbl_format.specs.declared.format.FormatKey.{FormatKey}
 use Rattle.tbl_lines.specs.CellsLeft.{keys_behind, nothing_left}
 use Rattle.tbl_tall.proofs.next_cells.fill_nothing.Given as goal
-use Rattle.tbl_tall.specs.KeptCells.{AllLeft}
+use Rattle.tbl_line_cells.specs.KeptCells.{AllLeft}
 use Rattle.tbl_tall.specs.RowsNext.{cells_by}
-use Rattle.tbl_tall.specs.declared.cells.CellLeft.{CellLeft}
+use Rattle.tbl_line_cells.specs.declared.cells.CellLeft.{CellLeft}
 
 abbrev pub invariant-loop-cell : goal.invariant-loop-cell
 invariant-loop-cell l = record {

@@ -4,8 +4,8 @@ use Rattle.tbl_format.proofs.CellColumns.{columns_of-behind}
 use Rattle.tbl_format.specs.Format.{columns_of}
 use Rattle.tbl_lines.specs.LinesLeft.{OfRow}
 use Rattle.tbl_tall.specs.Bands.{ShowBars, keys_in}
-use Rattle.tbl_tall.specs.KeptCells.{behind_rules}
-use Rattle.tbl_tall.specs.declared.cells.CellLeft.{CellLeft}
+use Rattle.tbl_line_cells.specs.KeptCells.{behind_rules}
+use Rattle.tbl_line_cells.specs.declared.cells.CellLeft.{CellLeft}
 use Rattle.tbl_tall.proofs.CellsNext.{drop-past}
 use Rattle.tbl_tall.proofs.CellsSpread.{spread}
 use Rattle.tbl_tall.proofs.CellsStep.{columns-step, end-few, many-shown, no_cell, order-here, push-room, spread-step, zeros-room}

@@ -3,7 +3,7 @@ use Rattle.std.specs.Prelude.{vec_capacity}
 use Rattle.tbl_format.proofs.CellColumns.{columns_of-behind}
 use Rattle.tbl_tall.specs.Bands.{keys_in}
 use Rattle.tbl_tall.specs.ShownBars.{owner_of, owners}
-use Rattle.tbl_tall.specs.declared.cells.CellLeft.{CellLeft}
+use Rattle.tbl_line_cells.specs.declared.cells.CellLeft.{CellLeft}
 use Rattle.tbl_format.specs.Format.{columns_of}
 use Rattle.tbl_tall.proofs.CellsStep.{columns-step, end-few, many-step, no_cell, order-here, owners-step, room-step}
 use Rattle.tbl_tall.proofs.shown_bars.push_through.Goals as goal

@@ -1,6 +1,6 @@
 use Rattle.std.proofs.Common.{◌≡◌, ℕ, List, ap, nat_lt, true, false, sym, ◌∙◌}
 use Rattle.tbl_table.specs.Reading.{limit_at_end, output_or_read}
-use Rattle.tbl_picture.proofs.GivingLeft.{newline-append}
+use Rattle.tbl_giving.proofs.GivingLeft.{newline-append}
 use Rattle.tbl_table.specs.Steps.{behind_line, given_within}
 use Rattle.tbl_table.specs.Table.{closed, ended_in, output_in, rows}
 use Rattle.tbl_table.proofs.TableEnds.{closed-alone, closed-rests, given-by, told-by, told-cut, width-met}

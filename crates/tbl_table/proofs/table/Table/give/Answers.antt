@@ -1,6 +1,6 @@
 use Rattle.std.proofs.Common.{◌≡◌, ◌++◌, ℕ, List, Option, ap, sym, ◌∙◌}
 use Rattle.tbl_data.specs.declared.phase.Phase.TheVariants.{InData}
-use Rattle.tbl_picture.specs.Giving.{with_newline}
+use Rattle.tbl_giving.specs.Giving.{with_newline}
 use Rattle.tbl_table.specs.Reading.{output_or_read}
 use Rattle.tbl_table.specs.Steps.{given_within}
 use Rattle.tbl_table.proofs.TableEnds.{picture-out}

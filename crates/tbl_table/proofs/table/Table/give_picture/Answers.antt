@@ -11,10 +11,10 @@ use Rattle.tbl_layout.specs.KeptEntries.{content_of}
 use Rattle.tbl_layout.specs.Widths.{table_bars}
 use Rattle.tbl_layout.specs.declared.bars.Bars.{Bars}
 use Rattle.tbl_layout.specs.declared.columns.Column.{Column}
-use Rattle.tbl_picture.specs.Frame.{indent, picture}
+use Rattle.tbl_giving.specs.Frame.{indent, picture}
 use Rattle.tbl_table.specs.Kept.{PartsFit, table_of}
 use Rattle.tbl_table.specs.Laying.{IsLaid, lacking_by, with_places}
-use Rattle.tbl_picture.specs.Giving.{IsLaidOut, lines_laid, with_newline}
+use Rattle.tbl_giving.specs.Giving.{IsLaidOut, lines_laid, with_newline}
 use Rattle.tbl_table.specs.Table.{laid_out}
 use Rattle.tbl_table.specs.declared.begun.Begun.TheVariants.{Nothing as NothingBegun}
 use Rattle.tbl_table.proofs.LaidTables.{laid-fits, laid-lies, laid-out, lines-are, places, settled-is}

@@ -9,10 +9,10 @@ use Rattle.tbl_tall.proofs.KeysCover.{cover-all, cover-some, fewer-room}
 use Rattle.tbl_tall.proofs.RowsFilled.{filled-comes}
 use Rattle.tbl_tall.proofs.tall_row.TallRow.come_to.Goals as goal
 use Rattle.tbl_tall.specs.Bands.{KeptBand, ShowBars, kept_band, keys_in}
-use Rattle.tbl_tall.specs.KeptCells.{AllLeft, behind_rules}
-use Rattle.tbl_tall.specs.LinesDrawn.{kept_line}
+use Rattle.tbl_line_cells.specs.KeptCells.{AllLeft, behind_rules}
+use Rattle.tbl_line_cells.specs.LinesDrawn.{kept_line}
 use Rattle.tbl_tall.specs.TallRows.{KeptTall, kept_by}
-use Rattle.tbl_tall.specs.declared.cells.CellLeft.{CellLeft}
+use Rattle.tbl_line_cells.specs.declared.cells.CellLeft.{CellLeft}
 
 pub fill_cells-requires-clause-first : goal.fill_cells-requires-clause-first
 fill_cells-requires-clause-first c = λ is. c.as_slice.ensures.value ∙ (rw (← c.self.view_is) at c.requires.none) is

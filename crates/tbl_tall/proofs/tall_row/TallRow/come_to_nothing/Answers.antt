@@ -6,8 +6,8 @@ use Rattle.tbl_tall.proofs.KeysCover.{fewer-room}
 use Rattle.tbl_tall.proofs.RowsBegun.{none-goes, nothing-comes}
 use Rattle.tbl_tall.proofs.tall_row.TallRow.come_to_nothing.Goals as goal
 use Rattle.tbl_tall.specs.Bands.{KeptBand, ShowBars, kept_band}
-use Rattle.tbl_tall.specs.KeptCells.{AllLeft}
-use Rattle.tbl_tall.specs.LinesDrawn.{kept_line}
+use Rattle.tbl_line_cells.specs.KeptCells.{AllLeft}
+use Rattle.tbl_line_cells.specs.LinesDrawn.{kept_line}
 use Rattle.tbl_tall.specs.TallRows.{KeptTall}
 
 pub fill_nothing-requires-clause-small : goal.fill_nothing-requires-clause-small

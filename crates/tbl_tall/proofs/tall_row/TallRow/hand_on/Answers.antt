@@ -9,7 +9,7 @@ use Rattle.tbl_tall.proofs.tall_row.TallRow.hand_on.Goals as goal
 use Rattle.tbl_tall.specs.LinesOver.{heights_kept}
 use Rattle.tbl_tall.specs.RowsNext.{Here, OneAbove}
 use Rattle.tbl_tall.specs.TallRows.{Comes}
-use Rattle.tbl_tall.specs.declared.cells.CellLeft.{CellLeft}
+use Rattle.tbl_line_cells.specs.declared.cells.CellLeft.{CellLeft}
 
 pub invariant_of-self : goal.invariant_of-self
 invariant_of-self c =

@@ -5,9 +5,9 @@ use Rattle.tbl_lines.specs.LinesLeft.{row_line}
 use Rattle.tbl_lines.specs.PictureLines.{Sheet}
 use Rattle.tbl_tall.proofs.KeysCover.{cover-all, cover-some, fewer-line, left-has}
 use Rattle.tbl_tall.proofs.tall_row.TallRow.lay_row.Goals as goal
-use Rattle.tbl_tall.specs.KeptCells.{AllLeft}
-use Rattle.tbl_tall.specs.LinesDrawn.{Draws, kept_line}
-use Rattle.tbl_tall.specs.declared.cells.CellLeft.{CellLeft}
+use Rattle.tbl_line_cells.specs.KeptCells.{AllLeft}
+use Rattle.tbl_line_cells.specs.LinesDrawn.{Draws, kept_line}
+use Rattle.tbl_line_cells.specs.declared.cells.CellLeft.{CellLeft}
 
 pub lay_row-requires-clause-some : goal.lay_row-requires-clause-some
 lay_row-requires-clause-some c =

@@ -5,7 +5,7 @@ use Rattle.tbl_tall.proofs.tall_row.TallRow.lent.Goals as goal
 use Rattle.tbl_tall.specs.TallRows.{KeptTall}
 
 pub returns-clause-lies : goal.returns-clause-lies
-returns-clause-lies c = λ text draws few.
+returns-clause-lies c = λ text draws.
     let line = c.args.self.now.line in
     let keys = c.as_slice.ensures.value ∙ ap (λ (t : KeptTall). t.line.keys) c.self.view_is in
     let columns = c.as_slice-2.ensures.value ∙ ap (λ (t : KeptTall). t.line.columns) c.self.view_is in
@@ -16,7 +16,7 @@ returns-clause-lies c = λ text draws few.
           c.as_slice-3.result.now c.as_slice-4.result.now keys columns entries fronts;
       narrow = narrow-own c.args.bytes.now c.args.bars c.args.width line text draws c.as_slice.result.now c.as_slice-2.result.now
           c.as_slice-3.result.now c.as_slice-4.result.now keys columns entries fronts;
-      few = omega (arith, few, ap (λ (cs : List Column). length cs) columns);
+      few = omega (arith, draws.few, ap (λ (cs : List Column). length cs) columns);
       plain = λ is. absurd cc;
       by_keys = λ is. absurd cc;
       fronts = fronts-own c.args.bytes.now c.args.bars c.args.width line text draws c.as_slice.result.now c.as_slice-2.result.now

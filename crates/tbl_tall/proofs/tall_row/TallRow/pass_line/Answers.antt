@@ -9,10 +9,10 @@ use Rattle.tbl_tall.proofs.KeysCover.{cover-all, cover-some, fewer-room, left-ha
 use Rattle.tbl_tall.proofs.RowsGoOn.{line-passed, row-ended}
 use Rattle.tbl_tall.proofs.tall_row.TallRow.pass_line.Goals as goal
 use Rattle.tbl_tall.specs.Bands.{ShowBars, kept_band, keys_in}
-use Rattle.tbl_tall.specs.KeptCells.{AllLeft}
-use Rattle.tbl_tall.specs.LinesDrawn.{kept_line}
+use Rattle.tbl_line_cells.specs.KeptCells.{AllLeft}
+use Rattle.tbl_line_cells.specs.LinesDrawn.{kept_line}
 use Rattle.tbl_tall.specs.TallRows.{KeptTall, kept_by}
-use Rattle.tbl_tall.specs.declared.cells.CellLeft.{CellLeft}
+use Rattle.tbl_line_cells.specs.declared.cells.CellLeft.{CellLeft}
 
 pub keep_bars-requires-clause-cells : goal.keep_bars-requires-clause-cells
 keep_bars-requires-clause-cells c =

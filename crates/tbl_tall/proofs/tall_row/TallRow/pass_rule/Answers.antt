@@ -11,10 +11,10 @@ use Rattle.tbl_tall.proofs.KeysCover.{fewer-room}
 use Rattle.tbl_tall.proofs.RowsGoOn.{rule-passed}
 use Rattle.tbl_tall.proofs.tall_row.TallRow.pass_rule.Goals as goal
 use Rattle.tbl_tall.specs.Bands.{AlikeOvers, BandStands, KeptBand, kept_band}
-use Rattle.tbl_tall.specs.KeptCells.{AllLeft}
-use Rattle.tbl_tall.specs.LinesDrawn.{kept_line}
+use Rattle.tbl_line_cells.specs.KeptCells.{AllLeft}
+use Rattle.tbl_line_cells.specs.LinesDrawn.{kept_line}
 use Rattle.tbl_tall.specs.TallRows.{KeptTall, kept_by, row_below}
-use Rattle.tbl_tall.specs.declared.cells.CellLeft.{CellLeft}
+use Rattle.tbl_line_cells.specs.declared.cells.CellLeft.{CellLeft}
 
 pub pass_cells-requires : goal.pass_cells-requires
 pass_cells-requires c = record {

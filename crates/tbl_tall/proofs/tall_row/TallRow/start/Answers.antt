@@ -9,9 +9,9 @@ use Rattle.tbl_tall.proofs.BarsFit.{nothing-fits}
 use Rattle.tbl_tall.proofs.RowsComing.{frame-first}
 use Rattle.tbl_tall.proofs.tall_row.TallRow.start.Goals as goal
 use Rattle.tbl_tall.specs.Bands.{ShowBars}
-use Rattle.tbl_tall.specs.KeptCells.{AllLeft}
+use Rattle.tbl_line_cells.specs.KeptCells.{AllLeft}
 use Rattle.tbl_tall.specs.RowsNext.{NoneAbove, RulesThen}
-use Rattle.tbl_tall.specs.declared.cells.CellLeft.{CellLeft}
+use Rattle.tbl_line_cells.specs.declared.cells.CellLeft.{CellLeft}
 
 pub invariant_of-self : goal.invariant_of-self
 invariant_of-self c = record {

@@ -3,9 +3,9 @@ use Rattle.std.proofs.lemmas.List.{length-set}
 use Rattle.tbl_tall.proofs.CellsNext.{all-at}
 use Rattle.tbl_tall.proofs.RowsPassed.{all-set, kept-at, passed-end, passed-next}
 use Rattle.tbl_tall.proofs.tall_row.passing.pass_cells.Goals as goal
-use Rattle.tbl_tall.specs.KeptCells.{AllLeft}
+use Rattle.tbl_line_cells.specs.KeptCells.{AllLeft}
 use Rattle.tbl_tall.specs.RowsPassed.{passed_at}
-use Rattle.tbl_tall.specs.declared.cells.CellLeft.{CellLeft}
+use Rattle.tbl_line_cells.specs.declared.cells.CellLeft.{CellLeft}
 
 pub pass_cell-requires : goal.pass_cell-requires
 pass_cell-requires c = record {

@@ -1,0 +1,125 @@
+-- Steps in front of elements of a picture with cells of several rows: a line begins.
+use Rattle.std.proofs.Common.{◌≡◌, ℕ, nat_lt, ◌+◌, Bool, true, false, List, [], ◌∷◌, drop, Option, None, Some, refl, sym, ap, subst, ◌∙◌, ◌==◌, if◌then◌else◌}
+use Rattle.tbl_format.specs.Format.{FormatRow}
+use Rattle.tbl_kept.specs.Rows.{Command, KeptElement, KeptRows, Row, Rule}
+use Rattle.tbl_layout.specs.declared.data_lines.RuleSign.{RuleSign}
+use Rattle.tbl_layout.specs.declared.data_lines.RuleSign.TheVariants.{Single}
+use Rattle.tbl_layout.specs.Entries.{Element, Rule as OneRule}
+use Rattle.tbl_lines.specs.PictureLeft.{lines_left}
+use Rattle.tbl_lines.specs.PictureLines.{frame_sign}
+use Rattle.tbl_giving.proofs.LineStepsMade.{begins-step, off-line}
+use Rattle.tbl_giving.proofs.LinesLaid.{StillCome}
+use Rattle.tbl_giving.proofs.PartsNext.{RuleNext, element-next, end-next, row-next, rule-keys-next, top-next, whole-next}
+use Rattle.tbl_giving.proofs.StepsOnLines.{come-at}
+use Rattle.tbl_giving.specs.LinesWalked.{CanGo, HasCome, IsRow, KeptLineByLine, LineBegins, LineSteps, boxed_now, coming, is_on_line, lines_to_come, sheet_by}
+use Rattle.tbl_giving.specs.PartsToCome.{all_lines}
+use Rattle.tbl_picture.specs.Walks.{KeptWalk}
+use Rattle.tbl_giving.specs.declared.line_by_line.Place.{Place}
+use Rattle.tbl_giving.specs.declared.line_by_line.Place.TheVariants.{AtElement, AtEnd, AtTop, OnRow, OnRule}
+use Rattle.tbl_giving.specs.declared.line_by_line.RuleAt.{RuleAt}
+use Rattle.tbl_giving.specs.declared.line_by_line.RuleAt.TheVariants.{Element as OfElement, End as OfEnd, InFront, Top as OfTop}
+use Rattle.tbl_pieces.specs.PieceQueue.{KeptPieces}
+use Rattle.tbl_tall.specs.Bands.{keys_left, wholes_left}
+
+module _ (bytes : List ℕ) (formats : List FormatRow) (rows : KeptRows) (g : KeptLineByLine) (w : KeptWalk) where
+  still-from : (place : Place) → g.place ≡ place → (new : KeptLineByLine) → StillCome bytes formats rows (record g { place = place }) new w.room
+      → StillCome bytes formats rows g new w.room
+  still-from place is new still = subst (λ (p : Place). StillCome bytes formats rows (record g { place = p }) new w.room) (sym is) still
+
+  -- a line of rules begins, or one of a row
+  pub rule-step : (frame : List ℕ) (place : Place) (at : RuleAt) (whole : Option RuleSign) → g.place ≡ place → is_on_line place ≡ false
+      → RuleNext bytes formats rows g place at whole w.room → (new : KeptLineByLine) (after : KeptWalk) (pieces : KeptPieces)
+      → LineBegins bytes formats rows (record g { place = OnRule at }) new w after → LineSteps bytes frame formats rows g new w after pieces pieces
+  rule-step frame place at whole is off next new after pieces begins =
+      begins-step bytes frame formats rows g w new after pieces (OnRule at) (ap (λ (p : Place). is_on_line p) is ∙ off) refl
+      (still-from place is (record g { place = OnRule at }) next.still) begins
+
+  pub row-step : (frame : List ℕ) → g.place ≡ AtElement → StillCome bytes formats rows (record g { place = AtElement }) (record g { place = OnRow }) w.room
+      → (new : KeptLineByLine) (after : KeptWalk) (pieces : KeptPieces)
+      → LineBegins bytes formats rows (record g { place = OnRow }) new w after → LineSteps bytes frame formats rows g new w after pieces pieces
+  row-step frame is still new after pieces begins =
+      begins-step bytes frame formats rows g w new after pieces OnRow (ap (λ (p : Place). is_on_line p) is) refl
+      (still-from AtElement is (record g { place = OnRow }) still) begins
+
+  -- what comes in front of a row
+  module _ (is : g.place ≡ AtElement) (can : CanGo bytes formats rows g w) where
+    here : HasCome bytes formats rows (record g { place = AtElement }) w.room
+    here = come-at bytes formats rows g w AtElement is w.room can.come
+
+    whole-by : (kept : List KeptElement) → drop g.element rows.elements ≡ kept → IsRow kept → (wholes_left g.tall.band == 0) ≡ false
+        → RuleNext bytes formats rows g AtElement InFront (Some Single) w.room
+    whole-by [] kept_is row some = absurd row
+    whole-by (Rule sign ∷ kept) kept_is row some = absurd row
+    whole-by (Command from to ∷ kept) kept_is row some = absurd row
+    whole-by (Row keys others height is_tall entries ∷ kept) kept_is row some =
+        whole-next bytes formats rows g w.room keys others height is_tall entries kept kept_is here some
+
+    pub whole-at : IsRow (drop g.element rows.elements) → (wholes_left g.tall.band == 0) ≡ false
+        → RuleNext bytes formats rows g AtElement InFront (Some Single) w.room
+    whole-at row some = whole-by (drop g.element rows.elements) refl row some
+
+    keys-by : (kept : List KeptElement) → drop g.element rows.elements ≡ kept → IsRow kept → wholes_left g.tall.band ≡ 0
+        → nat_lt g.tall.band.at (g.tall.band.wholes + g.tall.band.count) ≡ true → RuleNext bytes formats rows g AtElement InFront None w.room
+    keys-by [] kept_is row none more = absurd row
+    keys-by (Rule sign ∷ kept) kept_is row none more = absurd row
+    keys-by (Command from to ∷ kept) kept_is row none more = absurd row
+    keys-by (Row keys others height is_tall entries ∷ kept) kept_is row none more =
+        rule-keys-next bytes formats rows g w.room keys others height is_tall entries kept kept_is here none more
+
+    pub keys-at : IsRow (drop g.element rows.elements) → wholes_left g.tall.band ≡ 0
+        → nat_lt g.tall.band.at (g.tall.band.wholes + g.tall.band.count) ≡ true → RuleNext bytes formats rows g AtElement InFront None w.room
+    keys-at row none more = keys-by (drop g.element rows.elements) refl row none more
+
+    line-by : (kept : List KeptElement) → drop g.element rows.elements ≡ kept → IsRow kept → wholes_left g.tall.band ≡ 0
+        → nat_lt g.tall.band.at (g.tall.band.wholes + g.tall.band.count) ≡ false
+        → StillCome bytes formats rows (record g { place = AtElement }) (record g { place = OnRow }) w.room
+    line-by [] kept_is row none more = absurd row
+    line-by (Rule sign ∷ kept) kept_is row none more = absurd row
+    line-by (Command from to ∷ kept) kept_is row none more = absurd row
+    line-by (Row keys others height is_tall entries ∷ kept) kept_is row none more =
+        row-next bytes formats rows g w.room keys others height is_tall entries kept kept_is here none more
+
+    pub line-at : IsRow (drop g.element rows.elements) → wholes_left g.tall.band ≡ 0
+        → nat_lt g.tall.band.at (g.tall.band.wholes + g.tall.band.count) ≡ false
+        → StillCome bytes formats rows (record g { place = AtElement }) (record g { place = OnRow }) w.room
+    line-at row none more = line-by (drop g.element rows.elements) refl row none more
+
+    -- an element that is a rule; and behind all of them a rule, or nothing
+    pub element-at : (sign : RuleSign) (kept : List KeptElement) → drop g.element rows.elements ≡ Rule sign ∷ kept
+        → RuleNext bytes formats rows g AtElement OfElement (Some sign) w.room
+    element-at sign kept kept_is = element-next bytes formats rows g w.room sign kept kept_is here
+
+    pub end-at : (g.bars.boxing.bars == 0) ≡ false → drop g.element rows.elements ≡ []
+        → RuleNext bytes formats rows g AtElement OfEnd (Some (frame_sign g.bars.boxing.bars)) w.room
+    end-at some none = end-next bytes formats rows g w.room some none here
+
+    nothing-comes : (coming bytes formats rows (record g { place = AtElement })).elements ≡ [] → lines_to_come bytes formats rows g w ≡ []
+    nothing-comes elements =
+        let x = coming bytes formats rows (record g { place = AtElement }) in
+        let s = sheet_by rows g in
+        off-line bytes [] formats rows g w (ap (λ (p : Place). is_on_line p) is)
+        ∙ ap (λ (p : Place). all_lines s (coming bytes formats rows (record g { place = p }))) is
+        ∙ ap (λ (es : List Element). lines_left s x.heights x.cells x.above es) elements
+
+    pub none-at : (g.bars.boxing.bars == 0) ≡ true → drop g.element rows.elements ≡ [] → lines_to_come bytes formats rows g w ≡ []
+    none-at no_bars none =
+        let elements : (coming bytes formats rows (record g { place = AtElement })).elements ≡ [] =
+        here.elements
+        ∙ ap (λ (es : List KeptElement). boxed_now g.bars.boxing bytes formats (wholes_left g.tall.band) (keys_left formats g.tall.band) es) none
+        ∙ ap (λ (t : Bool). if t then [] else OneRule (frame_sign g.bars.boxing.bars) ∷ []) no_bars in
+        nothing-comes elements
+
+  -- the rule above everything
+  pub top-at : g.place ≡ AtTop → CanGo bytes formats rows g w
+      → RuleNext bytes formats rows g AtTop OfTop (Some (frame_sign g.bars.boxing.bars)) w.room
+  top-at is can = top-next bytes formats rows g w.room (come-at bytes formats rows g w AtTop is w.room can.come)
+
+  -- behind everything nothing comes
+  pub ended-at : g.place ≡ AtEnd → CanGo bytes formats rows g w → lines_to_come bytes formats rows g w ≡ []
+  ended-at is can =
+      let come = come-at bytes formats rows g w AtEnd is w.room can.come in
+      let x = coming bytes formats rows (record g { place = AtEnd }) in
+      let s = sheet_by rows g in
+      off-line bytes [] formats rows g w (ap (λ (p : Place). is_on_line p) is)
+      ∙ ap (λ (p : Place). all_lines s (coming bytes formats rows (record g { place = p }))) is
+      ∙ ap (λ (es : List Element). lines_left s x.heights x.cells x.above es) come.elements

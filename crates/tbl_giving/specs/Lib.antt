@@ -1,0 +1,4 @@
+pub mod Frame
+pub mod PartsToCome
+pub mod LinesWalked
+pub mod Giving

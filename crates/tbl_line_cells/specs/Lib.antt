@@ -1,0 +1,4 @@
+pub mod KeptCells
+pub mod LaidCells
+pub mod LinesDrawn
+pub mod RulesDrawn

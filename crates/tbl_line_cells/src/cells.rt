@@ -1,0 +1,133 @@
+//! What is left of the cells of a row (Lesk, "Tbl": Format).
+
+ghost use Rattle.std.specs.Prelude.{◌≡◌, ℕ, ◌+◌, ◌-◌, ◌<◌, ◌^◌, List, nat_lt};
+ghost use Rattle.tbl_lines.specs.CellsLeft.{Left, behind_line, gone_on};
+ghost use Rattle.tbl_lines.specs.LinesLeft.{joined_here};
+ghost use Rattle.tbl_layout.specs.KeptEntries.{Lies};
+ghost use Rattle.tbl_lines.specs.RowsLeft.{block_text};
+ghost use Rattle.tbl_line_cells.specs.KeptCells.{IsLeft, ShowsRule, behind_rules};
+ghost use Rattle.tbl_text.specs.BlockPlaces.{IsWithin};
+
+use crate::block_places::behind_block_line;
+use roff_escape::OpenEscapes;
+use tbl_format::format::FormatKey;
+use tbl_layout::data_lines::RuleSign;
+use tbl_layout::entry::{Entry, EntryKind};
+use tbl_lines::row_columns::{block_bytes, is_ruled};
+use tbl_text::block_parts::BlockPlace;
+
+/// What is left of a cell in front of a line: its key, its field, how many lines stand above the
+/// field's next one, where its block goes on, and over how many rows it has come.
+#[derive(Clone, Copy)]
+pub struct CellLeft {
+    pub key: FormatKey,
+    pub entry: Entry,
+    pub lead: u128,
+    pub place: BlockPlace,
+    pub rows: usize,
+}
+
+impl CellLeft {
+    /// Whether it goes on from the row above.
+    pub fn goes_on(self) -> bool
+        ensures { result ≡ nat_lt 0 self.rows }
+    {
+        self.rows > 0
+    }
+
+    /// What is left of it behind the line: of a block a line less, and of any other field nothing.
+    pub fn behind_line(self, escapes: &mut OpenEscapes, bytes: &[u8]) -> CellLeft
+        requires lies { Lies bytes.now self.entry }
+        requires within { IsWithin (block_text bytes.now self.entry) self.place }
+        ensures left { (l : Left) → IsLeft bytes.now self l
+            → IsLeft bytes.now result (behind_line l) }
+        ensures room { escapes.new.room ≡ escapes.old.room }
+    {
+        if self.lead > 0 {
+            return self.with(self.entry, self.lead - 1, self.place);
+        }
+        match self.entry.kind {
+            EntryKind::Block(_) => {
+                let block = block_bytes(bytes, self.entry);
+                let measure = u64::from(self.entry.measure());
+                let place = behind_block_line(escapes, block, self.place, measure);
+                self.with(self.entry, 0, place)
+            }
+            _ => self.with(Entry::NOTHING, 0, BlockPlace::AtEnd),
+        }
+    }
+
+    fn with(self, entry: Entry, lead: u128, place: BlockPlace) -> CellLeft
+        ensures { result ≡ record self { entry = entry; lead = lead; place = place } }
+    {
+        CellLeft {
+            key: self.key,
+            entry,
+            lead,
+            place,
+            rows: self.rows,
+        }
+    }
+
+    /// What is left of it on the first line of its row, in front of which so many lines of rules
+    /// stand, as far as the rule counts that it shows there. The bars that meet a line of rules from
+    /// below are found by it, before these lines are given.
+    pub fn on_first_line(self, rules: u128) -> CellLeft
+        ensures { (bytes : List ℕ) (l : Left) → IsLeft bytes self l
+            → ShowsRule bytes result (behind_rules rules l) }
+    {
+        if !self.goes_on() {
+            return self;
+        }
+        if self.lead < rules {
+            return self.with(Entry::NOTHING, 0, BlockPlace::AtEnd);
+        }
+        self.with(self.entry, self.lead - rules, self.place)
+    }
+
+    /// It goes on in the row below, under a key there.
+    pub fn gone_on(self, key: FormatKey) -> CellLeft
+        requires { self.rows < 2 ^ 64 - 1 }
+        ensures left { (bytes : List ℕ) (l : Left) → IsLeft bytes self l
+            → IsLeft bytes result (gone_on key l) }
+        ensures value { result
+            ≡ record self { key = record key { key = self.key.key }; rows = self.rows + 1 } }
+    {
+        CellLeft {
+            key: FormatKey {
+                bars: key.bars,
+                key: self.key.key,
+                end: key.end,
+                standing: key.standing,
+                has_no_width: key.has_no_width,
+            },
+            entry: self.entry,
+            lead: self.lead,
+            place: self.place,
+            rows: self.rows + 1,
+        }
+    }
+
+    /// The sign of the rule that it and the next one both show on the line.
+    pub fn joined(self, next: CellLeft) -> Option<RuleSign>
+        ensures { (bytes : List ℕ) (l m : Left) → IsLeft bytes self l → IsLeft bytes next m
+            → result ≡ joined_here l m }
+    {
+        if self.lead > 0 {
+            return None;
+        }
+        if next.lead > 0 {
+            return None;
+        }
+        match self.entry.kind {
+            EntryKind::Ruled(sign) => {
+                if is_ruled(sign, next.entry.kind) {
+                    Some(sign)
+                } else {
+                    None
+                }
+            }
+            _ => None,
+        }
+    }
+}

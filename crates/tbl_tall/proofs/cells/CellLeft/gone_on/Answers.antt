@@ -1,5 +1,0 @@
-use Rattle.tbl_tall.proofs.CellsKept.{gone-kept}
-use Rattle.tbl_tall.proofs.cells.CellLeft.gone_on.Goals as goal
-
-pub returns-clause-left : goal.returns-clause-left
-returns-clause-left c = λ bytes l is. gone-kept bytes c.args.self l c.args.key is
