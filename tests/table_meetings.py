@@ -1,5 +1,5 @@
-"""Tables of which lines of each kind meet: rows and rules in each box, with bars above and below, and within each length of the
-line (part of tests/tables.py)."""
+"""Tables of which lines of each kind meet: rows and rules in each box, with bars above and below;
+and tables on lines of each length (part of tests/tables.py)."""
 import itertools
 
 BOXES = [b"", b"box ", b"allbox ", b"doublebox ", b"doublebox allbox "]
@@ -12,13 +12,15 @@ RULE_ROWS = [b"", b"_ _\n", b"= _\n", b"_\n", b"|_||=|\n"]
 AROUND = list(itertools.product(BOXES, BARS, BARS, RULE_ROWS))
 BETWEEN = [lines for count in range(3) for lines in itertools.product(LINES, repeat=count)]
 
-# Tables whose pictures go by the length of the line, and the lengths.
+# Lengths of lines, options of tables whose pictures go by them, and formats with data.
 LENGTHS = range(81)
-EXPANDED_OR_CENTRED = [
-    options + b" tab(:);\n" + rest
-    for options in (b"center", b"expand", b"center box", b"expand allbox", b"center doublebox", b"expand center box")
-    for rest in (b"l r.\na:bb\n_\nccc:d\n", b"l2 || c0 | n l.\na:b:1.5\nc:d:22:e\n", b"l | l s\n^ | l l.\nT{\nsome words of a block\nT}:T{\n"
-                 b"more of them here\nT}\na:b\n", b"l.\nwider than many of the lines are\n")]
+BY_THE_LINE = [b"center", b"expand", b"center box", b"expand allbox", b"center doublebox",
+               b"expand center box"]
+FORMATS_AND_DATA = [
+    b"l r.\na:bb\n_\nccc:d\n",
+    b"l2 || c0 | n l.\na:b:1.5\nc:d:22:e\n",
+    b"l | l s\n^ | l l.\nT{\nsome words of a block\nT}:T{\nmore of them here\nT}\na:b\n",
+    b"l.\nwider than many of the lines are\n"]
 
 
 def keys(bars):
@@ -27,11 +29,13 @@ def keys(bars):
 
 
 def table_of(box, above, below, rule_rows, lines):
-    """A table of two rows with these bars, these lines between them, and these rule keys in front of the second one."""
+    """A table of two rows with these bars, these lines between them, and these rule keys in front
+    of the second one."""
     formats = keys(above) * (1 + sum(b":" in line for line in lines)) + rule_rows + keys(below)
     data = b"".join(line + b"\n" for line in [b"a:b", *lines, b"c:d"])
     return b".TS\n" + box + b"tab(:);\n" + formats[:-1] + b".\n" + data + b".TE\n"
 
 
 TABLES = [table_of(*around, lines) for around, lines in itertools.product(AROUND, BETWEEN)]
-BY_LENGTH = [(length, b".TS\n" + table + b".TE\n") for length, table in itertools.product(LENGTHS, EXPANDED_OR_CENTRED)]
+BY_LENGTH = [(length, b".TS\n" + options + b" tab(:);\n" + rest + b".TE\n")
+             for length, options, rest in itertools.product(LENGTHS, BY_THE_LINE, FORMATS_AND_DATA)]
