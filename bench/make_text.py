@@ -18,6 +18,7 @@
     bench/make_text.py tables MEGABYTES     tables of 200 rows of three columns, with a line of text before each
     bench/make_text.py measured MEGABYTES   the same with escapes in half of the fields
     bench/make_text.py boxes MEGABYTES      tables as in `tables`, each field of which stands in a box
+    bench/make_text.py spans MEGABYTES      the same with a heading over all columns, and a thing that goes over two rows in every ten
     bench/make_text.py blocks MEGABYTES     tables of 20 rows of two columns, of which one has blocks of forty words
 """
 import functools
@@ -25,7 +26,7 @@ import random
 import sys
 
 KINDS = ("text", "requests", "registers", "code", "tabs", "fields", "skipped", "macros", "springs", "pages", "headers", "diversions",
-         "diverting", "loop", "tables", "measured", "boxes", "blocks")
+         "diverting", "loop", "tables", "measured", "boxes", "spans", "blocks")
 
 MEGABYTE = 1_000_000
 
@@ -207,9 +208,13 @@ LOOPED = '.\\\\" counted in a register\n.nr a +1\n.if \\\\na<0 .tm below\n'
 CALLERS = "bc"
 
 # The options and formats of tables, and how many rows they have.
-FORMATS = {"tables": "l l r.", "measured": "l l r.", "boxes": "allbox;\nl l r.", "blocks": "l lw(40)."}
+FORMATS = {"tables": "l l r.", "measured": "l l r.", "boxes": "allbox;\nl l r.", "spans": "c s s\nl l r.",
+           "blocks": "l lw(40)."}
 
-TABLE_ROWS = {"tables": 200, "measured": 200, "boxes": 200, "blocks": 20}
+TABLE_ROWS = {"tables": 200, "measured": 200, "boxes": 200, "spans": 200, "blocks": 20}
+
+# In a table with spans a row of so many goes on with the thing of the one above.
+SPANNED_ROWS = 10
 
 # The words of a block, and of a line of it.
 BLOCK_WORDS, LINE_WORDS = 40, 10
@@ -269,13 +274,18 @@ class Writer:
         """Returns lines of ten numbers, each behind a tab."""
         return ["".join(f"\t{self.between(1, 99999)}" for _ in range(10)) for _ in range(10)]
 
-    def table_row(self, kind):
-        """Returns a row of a table: a thing, a place, and a number; some of them with escapes, or the thing and a block."""
+    def table_row(self, kind, at):
+        """Returns a row of a table, which has this place: a thing, a place, and a number; some of them with escapes, or the thing and a
+        block, or the thing and the place as a heading, or the place and the number where the thing above goes on."""
         thing = " ".join(self.one_of(WORDS) for _ in range(self.between(2, 4)))
         if kind == "blocks":
             return f"{thing}\tT{{\n{self.block()}T}}\n"
         place = " ".join(self.one_of(WORDS).capitalize() for _ in range(self.between(1, 3)))
         fields = [thing, place, str(self.between(1, 99999))]
+        if kind == "spans" and at == 0:
+            return f"{thing} {place}\n"
+        if kind == "spans" and at % SPANNED_ROWS == SPANNED_ROWS - 1:
+            fields[0] = "\\^"
         if kind == "measured":
             fields = [self.measured(field) if self.random() < 0.5 else field for field in fields]
         return "\t".join(fields) + "\n"
@@ -305,7 +315,7 @@ class Writer:
 
     def table(self, rows, kind="tables"):
         """Returns a table of so many rows."""
-        return f".TS\n{FORMATS[kind]}\n" + "".join(self.table_row(kind) for _ in range(rows)) + ".TE\n"
+        return f".TS\n{FORMATS[kind]}\n" + "".join(self.table_row(kind, at) for at in range(rows)) + ".TE\n"
 
     def document(self, kind, size):
         """Returns so many bytes of text, cut at a line's end."""

@@ -33,8 +33,8 @@ COUNTED_SIZE = 0.3
 # Documents for the memory at the limits that hold where none is given.
 DEFAULT_WORKS = (("nroff", "text", 1), ("nroff", "text", 10), ("nroff", "text", 40), ("nroff", "macros", 5),
                  ("nroff", "loop", 30), ("tbl", "text", 40), ("both", "text", 40), ("tbl", "tables", 5), ("both", "tables", 5),
-                 ("tbl", "measured", 5), ("both", "measured", 5), ("tbl", "boxes", 5), ("both", "boxes", 5), ("tbl", "blocks", 5),
-                 ("both", "blocks", 5))
+                 ("tbl", "measured", 5), ("both", "measured", 5), ("tbl", "boxes", 5), ("both", "boxes", 5), ("tbl", "spans", 5),
+                 ("both", "spans", 5), ("tbl", "blocks", 5), ("both", "blocks", 5))
 MOST_MEMORY = 8
 # One table of so many rows, and one of four times as many, with the options that let them pass, and how often each is read.
 FEW_ROWS = 5_000
@@ -189,6 +189,13 @@ WORKS_ON_TABLES = (
          rounds=10, command="both"),
     Work("Boxes for nroff", "boxes", 0.67,
          Aim(instructions, "instructions a byte", most=250),
+         rounds=10, command="tbl"),
+    Work("Spans", "spans", 0.67,
+         Aim(speed, "MB/s", least=8),
+         Aim(times("groff"), "times as fast as groff -t", least=20),
+         rounds=10, command="both"),
+    Work("Spans for nroff", "spans", 0.67,
+         Aim(instructions, "instructions a byte", most=200),
          rounds=10, command="tbl"),
     Work("Blocks", "blocks", 1,
          Aim(speed, "MB/s", least=8),

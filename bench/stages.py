@@ -62,7 +62,7 @@ STAGES = {
     "pages": ["roff_pages"],
     "writing": ["roff_sinks", "roff_lines::stretch"],
     "store": ["roff_store"],
-    "tables": ["tbl_options", "tbl_format", "tbl_text", "tbl_layout", "tbl_pieces", "tbl_lines", "tbl_line_cells", "tbl_tall", "tbl_picture", "tbl_giving", "tbl_data", "tbl_kept", "tbl_table", "tbl_core", "tbl_run"],
+    "tables": ["tbl_options", "tbl_format", "tbl_text", "tbl_layout", "tbl_pieces", "tbl_lines", "tbl_line_cells", "tbl_laws", "tbl_tall", "tbl_picture", "tbl_giving", "tbl_data", "tbl_kept", "tbl_table", "tbl_core", "tbl_run"],
 }
 REST = "rest"
 

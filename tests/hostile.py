@@ -13,8 +13,8 @@ be. A long document may take no more than its share beside one of a quarter of i
 named for it, or by none, and some must begin as they are said to. Documents whose lines or spaces go far are formatted
 once: of their output, which is up to 200 megabytes, the beginning and the length are compared, and the line on which a
 limit stops them. Short documents that tell hundreds of megabytes are stopped by a limit on messages, and at once where that
-is small. Tables of rules, bars, rule keys and spans are given room for four times as many, which may take 4.5 times as long. GNU
-time measures the memory. Four kinds are run at a time, and each is told as it ends, with the seconds that it took; what is
+is small. Tables of rules, bars, rule keys, spans and entries without width are given room for four times as many, which may take
+4.5 times as long. GNU time measures the memory. Four kinds are run at a time, and each is told as it ends, with the seconds that it took; what is
 wrong is told again behind them all. On four quiet cores it takes less than five minutes. The exit status is 1 if something
 is wrong.
 """
@@ -807,6 +807,47 @@ GROWING = {
         b".TS\n" + 40 * b"l||" + b"\n", rule_rows(LENGTHS, b"_||"), 40 * b"^||" + b".\n" + 39 * b"a\t" + b"a\n\n.TE\n", 64),
     "rules_of_fields_in_tall_cells": (
         b".TS\n" + 40 * b"l||" + b".\n", 39 * b"_\t" + b"_\n_\n" + 39 * b"\\^\t" + b"\\^\n", b".TE\n", 625),
+    "entries_without_width": (b".TS\n" + 40 * b"lz" + b".\n", 39 * b"ab\t" + b"\n", b".TE\n", 2_500),
+    "entries_without_width_under_all_keys": (
+        b".TS\n" + 8 * b"lzrzcznzaz" + b".\n", 7 * b"a\tb\tc\t1.5\td\t" + b"a\tb\tc\t1.5\n", b".TE\n", 2_500),
+    "entries_cut": (b".TS\n" + 40 * b"lz" + b".\n", 39 * b"abcd\t" + b"abcd\n", b".TE\n", 1_000),
+    "entries_cut_at_bars": (b".TS\n" + 40 * b"lz||" + b".\n", 39 * b"abcd\t" + b"abcd\n", b".TE\n", 1_000),
+    "entries_that_run_on_over_all_columns": (
+        b".TS\nlz" + 39 * b"l" + b".\n", 117 * b"x" + b"\n", b".TE\n", 2_500),
+    "entries_that_run_on_one_column_too_far": (
+        b".TS\nlz" + 39 * b"l" + b".\n", 118 * b"x" + b"\n", b".TE\n", 2_500),
+    "entry_that_is_long": (b".TS\nlz l.\n", b"x", b"\ta\n.TE\n", 50_000),
+    "entry_that_is_long_without_glyphs_of_width": (b".TS\nlz l.\n", rb"\&\fB", b"x\ta\n.TE\n", 50_000),
+    "entries_of_several_columns_without_width": (
+        b".TS\n" + 20 * b"lzs" + b".\n", 19 * b"wide\t" + b"\n", b".TE\n", 2_500),
+    "block_without_width": (b".TS\nlzw(2) l.\nT{\n", b"abcdefgh\n", b"T}\tb\n.TE\n", 5_000),
+    "blocks_without_width": (b".TS\nlzw(2) l.\n", b"T{\nabcdefgh\na b c\nT}\tb\n", b".TE\n", 5_000),
+    "block_of_long_words_without_width": (b".TS\nlzw(2) l.\nT{\n", 1_000 * b"x" + b"\n", b"T}\tb\n.TE\n", 500),
+    "blocks_without_width_or_measure": (b".TS\nlz l.\n", b"T{\nwords of a block that is filled\nT}\tb\n", b".TE\n", 2_500),
+    "tall_entry_beside_columns_without_texts": (
+        b".TS\nlz" + 39 * b"l" + b"\n^" + 39 * b"l" + b".\n" + 200 * b"x" + b"\n", b"\n", 39 * b"\t" + b"x\n.TE\n", 2_500),
+    "tall_entry_without_width": (b".TS\nlz l l\n^ l l.\nabcdefgh\n", b"\n", b"\t\tx\n.TE\n", 5_000),
+    "tall_entries_without_width": (
+        b".TS\n" + 40 * b"lz" + b"\n" + 40 * b"^" + b".\n" + 39 * b"ab\t" + b"\n", b"\n", b".TE\n", 2_500),
+    "tall_entries_without_width_in_all_rows": (
+        b".TS\nlz rz lz l.\n", b"abcd\tab\tabcd\n\\^\t\\^\t\\^\tx\n", b".TE\n", 2_500),
+    "tall_entries_without_width_in_all_rows_and_columns": (
+        b".TS\n" + 20 * b"lzlz" + b".\n", 19 * b"wide\t\t" + b"wide\n" + 19 * b"\\^\t\t" + b"\\^\n", b".TE\n", 1_250),
+    "tall_entries_without_width_that_take_turns": (
+        b".TS\n" + 20 * b"lzrz" + b".\n", 19 * b"a\t\\^\t" + b"a\n" + 19 * b"\\^\ta\t" + b"\\^\n", b".TE\n", 625),
+    "tall_entries_beside_empty_cells": (
+        b".TS\nlz" + 39 * b"l" + b".\n", 99 * b"x" + b"\n\\^\n", b".TE\n", 2_500),
+    "tall_entry_through_rule_lines": (
+        b".TS\nlzw(2) l|l\n^ l|l.\nT{\n" + 10_000 * b"abcdefgh\n" + b"T}\n", b"_\n", b"\t\tb\n.TE\n", 5_000),
+}
+# Of these so many entries are cut, in front of what is repeated and behind it, and in each repetition.
+CUT = {
+    "entries_cut": (0, 40), "entries_cut_at_bars": (0, 40), "entries_that_run_on_one_column_too_far": (0, 1),
+    "entry_that_is_long": (1, 0), "block_without_width": (1, 0), "blocks_without_width": (0, 1),
+    "block_of_long_words_without_width": (1, 0), "blocks_without_width_or_measure": (0, 1),
+    "tall_entry_beside_columns_without_texts": (1, 0),
+    "tall_entry_without_width": (1, 0), "tall_entries_without_width_in_all_rows": (0, 2),
+    "tall_entries_without_width_in_all_rows_and_columns": (0, 1), "tall_entry_through_rule_lines": (1, 0),
 }
 # The widths that some of them are given.
 GROWING_WIDTHS = dict.fromkeys(
@@ -836,6 +877,8 @@ FILLED = {
     "width_filled_by_a_block_of_a_span": (
         b".TS\nl" + 39 * b"s" + b".\nT{\n%s\nT}\n_\n.TE\n" % (WIDEST * b"x"),
         b".TS\nl" + 39 * b"s" + b".\nT{\n%s\nT}\n_\n.TE\n" % ((WIDEST + 1) * b"x")),
+    "width_filled_by_an_entry_that_runs_on": (
+        b".TS\nlz lw(4093).\n%s\n.TE\n" % ((WIDEST + 1) * b"x"), b".TS\nlz lw(4094).\n%s\n.TE\n" % ((WIDEST + 1) * b"x")),
     "width_filled_by_expand": (b".TS\nexpand allbox;\nl l.\na\tb\n.TE\n", b".TS\nexpand allbox;\nlw(4090) l.\na\tb\n.TE\n"),
 }
 
@@ -1084,6 +1127,7 @@ PIECES_OF_TABLES = (
     + [rb"\fB", rb"\(em", rb"\nx", rb"\w'", rb"\*(", b"\\", b"'", b"\n.sp\n", b"\n.5\n"]
     + [b"_", b"=", b"-", b"_ =\n", b"_,", b"\n.TS\n_|=\nl l\n_\n=|-\nl|_.\n", b"\n.T&\n_ _,l _ l.\n"]
     + [b"s", b" s", b"|s", b"_ s", b"\n.TS\nallbox tab(:);\nc s s\nl s l,_ l s.\n", b"\n.T&\nl s,l.\n"]
+    + [b"z", b"\n.TS\ntab(:);\nlz l rz\n^ sz nz,^z lz l.\n", b"\n.T&\nlz ^z cz.\n"]
 )
 RANDOM_TABLES = {
     "random_bytes_in_a_table": [bytes([value]) for value in range(256)],
@@ -1101,6 +1145,7 @@ TABLES_AROUND = (
     b".TS%s\nl.\na\n.TE\n.TS\nl.\na\\\n%s\n.TE",
     b".TS\nl%s lw%s lw(%s) lf%s lm%s%s.\na\n.TE\n",
     b".TS\ntab(:);\nl n a.\na%s:1%s5:\\%s(%sx\n\\f%sx:\\w%s\\%sb%s:\\n\\%sx\n.TE\n",
+    b".TS\ntab(:);\nlz l%s,rz|^%sz l.\nab%scd::x\n%sabcdef::%s\nabc%s::\n.TE\n",
     b".TS\n_%s|=,l%sl\n%s_\n_%s l.\na%s\n%s\tb\nT{\n%s\nT}\tc%s\n.TE\n",
     b".TS\ntab(:);\nlw(5) l.\nT{\na%sb \\%s c%s\n%s\n%s x\nT}%s:b\n.T&%s\nl.\n.%s\n.TE\n",
 )
@@ -1283,6 +1328,12 @@ def check_far_table(folder, name):
     return ["%s: %s" % (name, what) for what in wrong]
 
 
+def told_of_cut_entries(name, document, times):
+    """What is told of the entries that are cut: a message for each, on the last line."""
+    once, each = CUT.get(name, (0, 0))
+    return (once + each * times) * (b"tbl: line %d: entry cut\n" % document.count(b"\n"))
+
+
 def check_growing(folder, name):
     """A table, and one of four times as many repetitions, by both commands."""
     front, text, behind, count = GROWING[name]
@@ -1303,7 +1354,7 @@ def check_growing(folder, name):
         for times, most in sizes.items():
             run = quickest[times]
             wrong += too_much(run, run.kilobytes, most)
-            if run.given[::2] != (0, b""):
+            if run.given[::2] != (0, told_of_cut_entries(name, front + times * text + behind, times)):
                 wrong.append("%s of %d: status %d, and %r" % (command, times, run.given[0], run.given[2][:SHOWN]))
     return ["%s: %s" % (name, what) for what in wrong]
 

@@ -12,7 +12,7 @@ class Text:
     """An entry that is a text, under a key: its lines of items, how wide it is, and for `n` how
     wide its left part is."""
 
-    is_entry, is_rule, sign = True, False, None
+    is_entry, is_empty, is_rule, sign = True, False, False, None
 
     def __init__(self, source, key):
         text = [item for item in table_items.items(source)]
@@ -31,7 +31,7 @@ class Drawn:
     """A field that is drawn, on one line: a rule, or a byte that is repeated. It needs no width,
     and so it is no entry."""
 
-    is_entry, left = False, None
+    is_entry, is_empty, left = False, False, None
 
     def __init__(self, source):
         self.source, self.lines = source, [[]]
@@ -50,6 +50,7 @@ class Block:
         self.lines = filled(lines, measure)
         self.columns = max(map(columns_of, self.lines), default=0)
         self.is_entry = any(self.lines)
+        self.is_empty = not self.is_entry
 
 
 def filled(lines, measure):
@@ -82,16 +83,21 @@ def blanks(count):
 
 
 class Cell:
-    """A cell: its columns, its first row and its last one, its key, its side of several rows, and
-    what stands in it, or none."""
+    """A cell: its columns, its first row and its last one, its key, what stands in it, or none, its
+    side of several rows, and whether its entry has no width, as that row of keys says."""
 
-    def __init__(self, columns, row, key, side, entry):
-        self.columns, self.row, self.last = columns, row, row
-        self.key, self.side, self.entry = key, side, entry
+    def __init__(self, columns, number, row, entry):
+        self.columns, self.row, self.last = columns, number, number
+        self.key, self.entry = row.key(columns[0]), entry
+        self.side, self.is_widthless = row.side(columns), row.is_widthless(columns)
 
     def has_entry(self):
         """Whether it has a text, or a block with a word."""
         return self.entry is not None and self.entry.is_entry
+
+    def is_empty(self):
+        """Whether it has no text, no block with a word, and no rule or repeated byte."""
+        return self.entry is None or self.entry.is_empty
 
     def lines(self):
         return self.entry.lines if self.entry else []
@@ -120,8 +126,7 @@ def cells_of(row, above, count, measure):
             cell = above[-1][columns[0]]
             cell.last = number
         else:
-            entry = entry_of(key, field, columns, measure)
-            cell = Cell(columns, number, key, row.side(columns), entry)
+            cell = Cell(columns, number, row, entry_of(key, field, columns, measure))
         cells += [cell] * len(columns)
     return cells
 

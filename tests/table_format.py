@@ -12,24 +12,6 @@ RULES = {b"_": b"_", b"-": b"_", b"=": b"="}
 # How many bars stand at a boundary at most.
 BARS = 2
 
-# Which spans are laid out: `s` those over several columns, `^` those over several rows.
-BUILT = b"s^"
-
-
-def not_yet(built):
-    """What isn't laid out where these spans are: it is `bad format` where it stands. What comes to
-    be laid out loses its line, or its place in one."""
-    return {
-        "options": (),
-        "keys": bytes(key for key in b"s^" if key not in built),
-        "letters": b"z",
-        "lines": (),
-        "fields": () if b"^" in built else ("from above",),
-    }
-
-
-NOT_YET = not_yet(BUILT)
-
 
 class Bad(Exception):
     """A table can't be formatted, on this line."""
@@ -129,10 +111,10 @@ def end_of_digits(line, at):
 
 class FormatRow:
     """A row of the format: its keys, how many bars stand in front of the first one and behind each,
-    and the last letter `t` or `d` of each that has one."""
+    the last letter `t` or `d` of each that has one, and which have a letter `z`."""
 
     def __init__(self):
-        self.keys, self.bars, self.sides = b"", {}, {}
+        self.keys, self.bars, self.sides, self.widthless = b"", {}, {}, set()
 
     def bars_here(self):
         """How many bars stand behind its last key so far, or in front of the first one."""
@@ -181,8 +163,6 @@ class Format:
         small = option.lower()
         if small in (b"center", b"centre"):
             self.is_centred = True
-        elif small in NOT_YET["options"]:
-            raise Bad(number)
         elif small == b"expand":
             self.is_expanded = True
         elif small in (b"box", b"frame", b"allbox"):
@@ -218,11 +198,11 @@ class Format:
             if byte in KEYS:
                 row.keys += byte
                 self.keys = max(self.keys, len(row.keys))
-                if byte in NOT_YET["keys"] or self.spans_nothing(row):
+                if self.spans_nothing(row):
                     raise Bad(number)
             elif byte == b"|":
                 self.bar(number, row)
-            elif byte in NOT_YET["letters"] or not row.keys or row.bars_here():
+            elif not row.keys or row.bars_here():
                 raise Bad(number)
             else:
                 at = self.behind_key(number, line, at - 1)
@@ -271,6 +251,8 @@ class Format:
             self.tell(number, b"left out: " + letter)
         elif small in b"td":
             self.begun.sides[column] = small
+        elif small == b"z":
+            self.begun.widthless.add(column)
         elif small not in b"biu":
             raise Bad(number)
         return at

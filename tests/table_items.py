@@ -211,6 +211,15 @@ def columns_of(text):
     return sum(item.columns for item in text)
 
 
+def front(text, columns):
+    """The longest front of a text of items that is at most so many columns wide."""
+    end, wide = 0, 0
+    while end < len(text) and wide + text[end].columns <= columns:
+        wide += text[end].columns
+        end += 1
+    return text[:end]
+
+
 def split_place(text):
     """Where a text of items is split under `n`: so many are its left part, and whether the next one goes. Or none."""
     for place, item in enumerate(text):

@@ -3,7 +3,7 @@ tests/tables.py)."""
 import itertools
 
 from table_format import BARS
-from table_items import BLANK, Item, columns_of
+from table_items import BLANK, Item, columns_of, front
 from table_reading import Rule, RuleRow
 
 BAR, MEETING = b"|", b"+"
@@ -51,6 +51,13 @@ class Lines:
         # the first line of each row.
         self.standing, self.tops = [], []
         self.lay_out()
+        numbers = range(len(self.lines))
+        before, behind = self.bars_before(numbers), self.bars_before(reversed(numbers))
+        # What rules and bars each line shows, by their places.
+        self.shown = [self.marks(at, before[at] | behind[at]) for at in numbers]
+        # For each line its texts, with their cells and places, and how many entries lost something.
+        self.texts, self.cut = [], 0
+        self.set_texts()
 
     # Which lines there are.
 
@@ -197,15 +204,35 @@ class Lines:
         places = range(end - self.picture.apart[boundary - 1], end)
         return {place: MEETING if before.get(place) == BAR else cell.entry.sign for place in places}
 
-    def line(self, at, beside):
+    def room(self, at, cell):
+        """How many places an entry that runs on has on a line: up to the first rule or bar to its
+        right, the next column that is used in its rows, or the picture's end."""
+        picture = self.picture
+        ends = [place for place in self.shown[at] if place >= picture.end_of(cell.columns)]
+        return min([*ends, picture.next_used(cell)]) - picture.start_of(cell.columns[0])
+
+    def set_texts(self):
+        """Places the texts of all lines, and cuts those that run on and don't fit."""
+        cut = set()
+        for at, cells in enumerate(self.standing):
+            self.texts.append([])
+            for cell, number in cells:
+                whole = text = cell.entry.lines[number]
+                if cell.has_entry() and self.picture.runs_on(cell):
+                    text = front(whole, self.room(at, cell))
+                if len(text) < len(whole):
+                    cut.add(cell)
+                if text:
+                    self.texts[at].append((self.picture.place_of_text(cell), cell, text))
+        self.cut = len(cut)
+
+    def line(self, at):
         """A line, up to its last glyph. Texts at one place stand in the order of their cells, and
         rules and bars last."""
         parts = [(place, 1, 0, 0, [Item(sign, "blank" if sign == BLANK else "glyph", sign, 1)])
-                 for place, sign in self.marks(at, beside).items()]
-        for cell, number in self.standing[at]:
-            if cell.entry.lines[number]:
-                place = self.picture.place(cell)
-                parts.append((place, 0, cell.row, cell.columns[0], cell.entry.lines[number]))
+                 for place, sign in self.shown[at].items()]
+        parts += [(place, 0, cell.row, cell.columns[0], text)
+                  for place, cell, text in self.texts[at]]
         line = []
         for place, *_, part in sorted(parts, key=lambda placed: placed[:4]):
             line += [Item(BLANK, "blank", BLANK, 1)] * (place - columns_of(line)) + part
@@ -215,10 +242,8 @@ class Lines:
 
     def written(self):
         """The lines and commands of the output."""
-        numbers = range(len(self.lines))
-        before, behind = self.bars_before(numbers), self.bars_before(reversed(numbers))
         for what in self.order:
             if isinstance(what, bytes):
                 yield what
             else:
-                yield b"\\&" + self.line(what, before[what] | behind[what])
+                yield b"\\&" + self.line(what)

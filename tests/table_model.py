@@ -1,7 +1,6 @@
 """A run of `roff tbl`, as a plain model (part of tests/tables.py).
 
-It goes over all of a table again with each line, and keeps nothing but what was read. What isn't laid out yet is `bad format`
-where it stands (`NOT_YET` in tests/table_format.py).
+It goes over all of a table again with each line, and keeps nothing but what was read.
 """
 from table_items import BLANK, NEWLINE, TAB
 from table_format import cut
@@ -124,6 +123,8 @@ class Model:
             self.stop_beyond("width", picture.width, table)
         table.end_format(self.line)
         self.tell_all(table)
+        for _ in range(picture.lines.cut if picture else 0):
+            self.tell(self.line, b"entry cut")
         self.pictures, self.passed = self.pictures + (not table.is_bad), self.passed + table.is_bad
         self.give(read if table.is_bad else picture.written())
         self.give(last)

@@ -37,4 +37,4 @@ def table(cells, number):
 
 
 TABLES = [table(cells, shape * TIMES + time)
-          for shape, cells in enumerate(table_shapes.shapes(True)) for time in range(TIMES)]
+          for shape, cells in enumerate(table_shapes.SHAPES) for time in range(TIMES)]

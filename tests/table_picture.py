@@ -1,5 +1,7 @@
 """The picture of a table: separations, widths, and where columns, entries and bars stand (part of
 the model of tests/tables.py)."""
+import functools
+
 from table_cells import cells_of
 from table_lines import Lines
 from table_reading import Row
@@ -25,10 +27,12 @@ class Picture:
         for row in table.elements:
             if isinstance(row, Row):
                 self.rows.append(cells_of(row, self.rows, self.count, self.measure))
-        # The cells with entries, by rows and from the left, and those of each column alone.
+        # The cells with entries that need their width, by rows and from the left, and those of each
+        # column alone.
         self.entries = [
             cell for number, cells in enumerate(self.rows) for column, cell in enumerate(cells)
-            if (cell.row, cell.columns[0]) == (number, column) and cell.has_entry()]
+            if (cell.row, cell.columns[0]) == (number, column) and cell.has_entry()
+            and not cell.is_widthless]
         self.alone = [[cell for cell in self.entries if cell.columns == range(column, column + 1)]
                       for column in range(self.count)]
         self.widths = [self.width_of(column) for column in range(self.count)]
@@ -94,16 +98,42 @@ class Picture:
         return sum(self.widths[first:last + 1]) + sum(self.apart[first:last])
 
     def place(self, cell):
-        """Where a cell's entry stands."""
+        """Where its key puts a cell's entry."""
         column, key, width = cell.columns[0], cell.placed_by(), self.width_over(cell.columns)
         start, spare = self.start_of(column), width - cell.entry.columns
         if key == b"a":
-            strip = max(other.entry.columns for other in self.alone[column] if other.key == b"a")
+            strip = max((other.entry.columns for other in self.alone[column] if other.key == b"a"),
+                        default=0)
             return start + max(1, (width - strip) // 2)
         if cell.entry.left is not None:
             left, right = self.parts(column)
             return start + (width - left - right) // 2 + left - cell.entry.left
         return start + {b"l": 0, b"r": spare, b"c": spare // 2, b"n": spare // 2}[key]
+
+    def end_of(self, columns):
+        """The first place behind these columns."""
+        return self.start_of(columns[0]) + self.width_over(columns)
+
+    def runs_on(self, cell):
+        """Whether a cell's entry has no width, and its key would put it over an end of its
+        columns."""
+        if not cell.is_widthless:
+            return False
+        first = self.place(cell)
+        end = first + cell.entry.columns
+        return not self.start_of(cell.columns[0]) <= first <= end <= self.end_of(cell.columns)
+
+    def place_of_text(self, cell):
+        """Where a cell's entry stands: one that runs on begins at the first place of its
+        columns."""
+        return self.start_of(cell.columns[0]) if self.runs_on(cell) else self.place(cell)
+
+    def next_used(self, cell):
+        """Where the next column begins that isn't empty in one of a cell's rows, or the picture
+        ends."""
+        return min((self.start_of(column) for column in range(cell.columns[-1] + 1, self.count)
+                    for row in self.rows[cell.row:cell.last + 1] if not row[column].is_empty()),
+                   default=self.width)
 
     def drawn(self, cell):
         """The places over which a cell's rule or repeated byte is drawn. A rule as wide as a text
@@ -127,8 +157,13 @@ class Picture:
         first = self.start_of(boundary) - apart + (apart - bars) // 2
         return set(range(first, first + bars))
 
+    @functools.cached_property
+    def lines(self):
+        """What it shows, line by line. Where it is wider than the limit allows it isn't drawn."""
+        return Lines(self)
+
     def written(self):
         indent = max(0, self.length - self.width) // 2 if self.table.is_centred else 0
         around = [b".in +%dn\n" % indent, b".in -%dn\n" % indent] if indent else [b"", b""]
-        body = b"".join(line + b"\n" for line in Lines(self).written())
+        body = b"".join(line + b"\n" for line in self.lines.written())
         return b".nr TF \\n(.u\n.nf\n" + around[0] + body + around[1] + b".if \\n(TF .fi\n"

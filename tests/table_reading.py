@@ -1,6 +1,6 @@
 """What the lines of a table say, and above all those of its data (part of the model of tests/tables.py)."""
 import table_items
-from table_format import NOT_YET, RULES, Bad, Format, cut
+from table_format import RULES, Bad, Format, cut
 from table_items import BACKSLASH, BLANK, DOT, TAB
 
 
@@ -11,6 +11,7 @@ class Row:
 
     def __init__(self, format_row, columns):
         self.keys, self.bars, self.sides = format_row.keys, format_row.bars, format_row.sides
+        self.widthless = format_row.widthless
         self.fields, self.told = [], False
         self.taking = [column for column in range(columns) if self.key(column) != b"s"]
 
@@ -40,6 +41,10 @@ class Row:
         bottom, and else in their middle."""
         sides = [self.sides[column] for column in columns if column in self.sides]
         return sides[-1] if sides else None
+
+    def is_widthless(self, columns):
+        """Whether an entry over these columns has no width: one of their keys has a `z`."""
+        return any(column in self.widthless for column in columns)
 
 
 def kind_of(field):
@@ -146,11 +151,6 @@ class Table(Format):
         self.next += 1
         return self.formats[min(self.next - 1, last)]
 
-    def refuse(self, number, is_counted=True):
-        """A row that isn't laid out."""
-        self.count += is_counted and not self.is_closing
-        raise Bad(number)
-
     def line_of_block(self, line, numbers):
         if line[:1] == DOT:
             self.tell(numbers[0], b"request in text block")
@@ -173,8 +173,6 @@ class Table(Format):
         for field in fields[:len(fields) - opens]:
             place = len(self.row.fields)
             if self.row.keeps(place):
-                if kind_of(field) in NOT_YET["fields"]:
-                    self.refuse(numbers[at], not opens)
                 if kind_of(field) is None:
                     self.notes(field, numbers, at)
             elif place >= len(self.row.taking) and surplus is None:

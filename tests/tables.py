@@ -8,13 +8,10 @@
     tests/tables.py [OPTIONS] --meetings            # lines of every kind between two rows, in each box
     tests/tables.py [OPTIONS] --lengths             # tables on lines of each length up to 80
 
-With `--program PROGRAM` this one is compared, and else crates/roff/out/roff. With `--built KEYS`
-the spans of these keys are laid out, of `s^`, and else those of `BUILT` in tests/table_format.py.
-The model (tests/table_model.py) is `roff tbl`: output, messages and status must be the same, also
+With `--program PROGRAM` this one is compared, and else crates/roff/out/roff. The model (tests/table_model.py) is `roff tbl`: output, messages and status must be the same, also
 within small limits. `roff both` must be what `roff nroff` makes of the model's output. A document
 is the same in each run, by its number; in the tables of document N the byte N mod 256 may be the
-separator. Most documents ask for nothing that isn't laid out yet (`NOT_YET` in
-tests/table_format.py). The exit status is 1 if something differs.
+separator. The exit status is 1 if something differs.
 """
 import concurrent.futures
 import os
@@ -28,9 +25,8 @@ sys.dont_write_bytecode = True
 import table_meetings
 import table_narrow
 import table_shapes
-from table_format import NOT_YET, not_yet
 from table_model import Model
-from table_reading import kind_of, kind_of_line
+from table_reading import kind_of
 
 TOP = pathlib.Path(__file__).resolve().parent.parent
 PROGRAM = TOP / "crates" / "roff" / "out" / "roff"
@@ -69,6 +65,9 @@ BARS = [b"|", b"|", b"||", b" | ", b" || ", b"| |", b"\t|", b"|\t|", b"|| "]
 # Texts that are wider than some columns together, and blocks.
 WIDE = [b"wider than both", b"wider than three columns are", b"1234567.125", b"12345\\&67890",
         b"ab\\&", b"\\fBa heading\\fR over", b"x\\(em\\(emy and z", b"  between  ", b"longer-word-than-all"]
+# What stands in many fields where entries have no width: nothing, so that others run on over it, and what they may lose or not.
+BESIDE = 22 * [b""] + 2 * WIDE + [b"abc   ", b"ab\\(em\\&\\fRc", b"\\&\\fBab", b"a\\ \\(14", b"\xc3\xa9\xc3\xa9\xc3\xa9", b"a\x01b\x02c",
+                                  b"   a", b"\\&\\c", b"\x01", b"\\fB"]
 LINES = [b"text\n", b".TS x\n", b".TSx\n", b".TE\n", b".ts\n", b" .TS\n", b".TS", b"\n", b".nf\n", b".\n", b"\\&.TS\n"]
 ENDS = 12 * [b".TE\n"] + [b".TE", b".TE \n", b".TE\tx\n", b".TEx\n.TE\n", b".T", b".", b"", b".TE .TS\n"]
 
@@ -82,22 +81,9 @@ AROUND = (b".TS\nl%.\na\n.TE\n", b".TS\n%l.\na\n.TE\n", b".TS\nl % r.\na\tb\n.TE
           b"%a:b\nx%y:%:z\n%T{\na%b c\nT}:%\n\\R%:%\n%\n.TE\n",
           b".TS\nallbox tab(:);l l%l,^%s|^%\n^%l ^.\n"
           b"a%b:b:c\n\\^%:\\^\n%:\\%^:%\n\\^:\\^:%T{\n%\nT}\n%\n\\^%:\\^:\\^\n.TE\n",
+          b".TS\ntab(:);lz l%,rz|^%z l.\nab%cd::x\n%abcdef::%\nT{\na%bc\n%\nT}:\\^:x%\nabc%::\n.TE\n",
+          b".TS\nallbox tab(:);n%sz lz\n^ s aZ%.\n1.%5 and more::\n\\^:%a b%\nab%\\&cd:\\%:c%\n.TE\n",
           b".TS\nbox tab(:);_%|_,l|l\n=%l%,_l.\na:b\n%:c%\n%T{\n%\n.%\nT}%:x:%\n.TE\n", b".TS\n%_%,|%|l||%.\na%b\nT{\n%a\nT}\tc\n.TE\n")
-
-
-def is_laid_out(piece):
-    """Whether a piece of the data can be laid out."""
-    return kind_of_line(piece) not in NOT_YET["lines"] and kind_of(piece) not in NOT_YET["fields"]
-
-
-def is_asked(piece):
-    """Whether a piece of options or of a format can be laid out."""
-    return piece.lower() not in NOT_YET["options"] and piece[:1].lower() not in NOT_YET["keys"] + NOT_YET["letters"]
-
-
-def some(chance, pieces, fits=is_laid_out):
-    """Of these pieces those that the document may have."""
-    return list(filter(fits, pieces)) if chance.is_plain else pieces
 
 
 def joined(chance, text):
@@ -110,15 +96,17 @@ def joined(chance, text):
 
 def field(chance, kinds):
     kind = chance.random()
+    if chance.random() < chance.widthless:
+        return chance.choice(BESIDE)
     if kind < chance.odd:
-        return chance.choice(some(chance, ODD_FIELDS))
+        return chance.choice(ODD_FIELDS)
     if kind < chance.odd + chance.spans / 2:
-        return chance.choice(some(chance, WIDE + 4 * [b"\\^"]))
+        return chance.choice(WIDE + 4 * [b"\\^"])
     if kind < 0.45:
-        return chance.choice(some(chance, kinds))
+        return chance.choice(kinds)
     if kind < 0.7:
-        return chance.choice(some(chance, NUMBERS))
-    return b"".join(chance.choices(some(chance, PLAIN[:4] + NUMBERS[:4] + 2 * ESCAPES), k=chance.randint(1, 4)))
+        return chance.choice(NUMBERS)
+    return b"".join(chance.choices(PLAIN[:4] + NUMBERS[:4] + 2 * ESCAPES, k=chance.randint(1, 4)))
 
 
 def block(chance):
@@ -148,10 +136,10 @@ def data_line(chance, columns, separator, blocks):
     if kind < 0.86:
         return row(chance, columns, separator, blocks)
     if kind < 0.93:
-        return joined(chance, chance.choice(some(chance, LINES_OF_DATA if chance.random() < 0.4 else LINES_OF_DATA[:7])))
+        return joined(chance, chance.choice(LINES_OF_DATA if chance.random() < 0.4 else LINES_OF_DATA[:7]))
     if kind < 0.96:
         return b".T&" + chance.choice([b"", b" x", b"\t"]) + b"\n" + formats(chance, columns)
-    return b"".join(chance.choices(some(chance, PIECES), k=chance.randint(0, 6)))
+    return b"".join(chance.choices(PIECES, k=chance.randint(0, 6)))
 
 
 def rows_of_keys(chance):
@@ -170,13 +158,15 @@ def keys_of_row(chance, columns, is_of_rules, is_first):
         count = chance.randint(1, columns + 1)
     keys, rules = [], chance.choice([KEYS_OF_RULES, KEYS_OF_RULES[:1], KEYS_OF_RULES[-1:]])
     for column in range(max(1, count)):
-        letters = chance.choices(some(chance, LETTERS, is_asked), k=chance.choice([0, 0, 0, 1, 1, 2]))
+        letters = chance.choices(LETTERS, k=chance.choice([0, 0, 0, 1, 1, 2]))
         if chance.random() < 0.012:
             letters.append(chance.choice(ODD_LETTERS))
+        if chance.random() < chance.widthless:
+            letters.insert(chance.randint(0, len(letters)), chance.choice([b"z", b"z", b"Z"]))
         is_rule = is_of_rules or column in chance.ruled or chance.random() < chance.rules / 8
-        kinds = rules if is_rule else some(chance, KEYS, is_asked)
+        kinds = rules if is_rule else KEYS
         if chance.random() < (chance.spans / 8 if is_rule else 0.9):
-            kinds = some(chance, spans_here(chance, column, is_first), is_asked) or kinds
+            kinds = spans_here(chance, column, is_first) or kinds
         keys.append(chance.choice(kinds) + b"".join(letters))
     return keys
 
@@ -208,7 +198,7 @@ def table(chance, separator_tried):
     out, separator = chance.choice(6 * [b".TS\n"] + [b".TS \n", b".TS\tH\n"]), b"\t"
     if chance.random() < 0.8:
         kinds = PLAIN_OPTIONS if chance.random() < 0.93 else OPTIONS
-        options = chance.choices(some(chance, kinds, is_asked), k=chance.choice([0, 1, 1, 2, 3]))
+        options = chance.choices(kinds, k=chance.choice([0, 1, 1, 2, 3]))
         if chance.random() < 0.3:
             options.append(b"tab(%c)" % separator_tried)
         elif chance.random() < 0.5:
@@ -233,11 +223,13 @@ def table(chance, separator_tried):
 
 def document(chance, separator_tried):
     """One to three tables, with lines around them; this byte is tried as a separator."""
-    parts, chance.is_plain = [], chance.random() < 0.7
+    parts = []
     # In some documents many fields are rules, many boundaries have bars, and many keys are those of rules.
     chance.odd, chance.bars = chance.choice([0.03, 0.03, 0.4]), chance.choice([0, 0.1, 0.4, 0.8])
     chance.rules = chance.choice([0, 0.1, 0.4, 0.7])
     chance.spans = chance.choice([0, 0.2, 0.5, 0.8])
+    # How many entries have no width.
+    chance.widthless = chance.choice([0, 0.1, 0.4, 0.7])
     for _ in range(chance.choice([1, 1, 2, 3])):
         parts += chance.choices(LINES[:6] if chance.random() < 0.5 else LINES, k=chance.choice([0, 0, 1, 2]))
         parts.append(table(chance, separator_tried))
@@ -314,8 +306,8 @@ def check_byte(folder, number):
 def check_shape(folder, number):
     """A document with a table whose cells have one of all shapes, in one of all kinds."""
     place, kind = divmod(number, len(table_shapes.KINDS))
-    cells = table_shapes.shapes(b"^" not in NOT_YET["keys"])[place]
-    source = table_shapes.table(cells, place + kind)
+    kinds = table_shapes.KINDS[(place + kind) % len(table_shapes.KINDS)]
+    source = table_shapes.table(table_shapes.SHAPES[place], place + kind, kinds)
     return compared(folder / str(number), "kind %d of shape %d" % (kind, place), source, {}, 30)
 
 
@@ -338,19 +330,14 @@ def check_length(folder, number):
 def main():
     global PROGRAM
     words = sys.argv[1:]
-    while words[:1] in (["--program"], ["--built"]):
-        if words[0] == "--program":
-            PROGRAM = pathlib.Path(words[1]).resolve()
-        else:
-            NOT_YET.update(not_yet(words[1].encode()))
-        words = words[2:]
+    if words[:1] == ["--program"]:
+        PROGRAM, words = pathlib.Path(words[1]).resolve(), words[2:]
     if not PROGRAM.exists():
         raise SystemExit("tests/tables.py: %s is missing; ./roff --version builds it" % PROGRAM)
     if words == ["--bytes"]:
         numbers, checked = range(256 * len(AROUND)), check_byte
     elif words == ["--shapes"]:
-        shapes = table_shapes.shapes(b"^" not in NOT_YET["keys"])
-        numbers, checked = range(len(shapes) * len(table_shapes.KINDS)), check_shape
+        numbers, checked = range(len(table_shapes.SHAPES) * len(table_shapes.KINDS)), check_shape
     elif words == ["--narrow"]:
         numbers, checked = range(len(table_narrow.TABLES)), check_narrow
     elif words == ["--meetings"]:

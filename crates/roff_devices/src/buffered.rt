@@ -92,6 +92,8 @@ impl<W: BlockWrite + Drop> Buffered<W> {
     }
 
     /// Writes out what is held back.
+    // It is seldom done, so that what holds back stays short.
+    #[inline(never)]
     fn write_out(&mut self) -> Result<(), SinkFault>
         ensures given { KeepsGiven W.sunk self.old self.new }
         ensures ok { OnOk result (held_by self.new ≡ []) }

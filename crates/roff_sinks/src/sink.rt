@@ -58,6 +58,8 @@ impl<W: BlockWrite + Drop> WriteSink<W> {
 impl<W: BlockWrite + Drop> ByteSink for WriteSink<W> {
     ghost sunk = { λ s. s };
 
+    // Pieces are short, and most are held back.
+    #[inline(always)]
     fn put(&mut self, piece: &[u8]) -> Result<(), SinkFault> {
         let mut rest = piece;
         while !rest.is_empty() {

@@ -19,11 +19,12 @@ use Rattle.tbl_core.specs.Machine.{Now, Place, Outside, RestOfStart, Inside, Sta
 use Rattle.tbl_options.specs.Messages.{told_item, told_items}
 use Rattle.tbl_core.specs.NotesLeft.{most_behind, most_here, noted, notes_left}
 use Rattle.tbl_table.specs.Reading.{Reading, begun, byte_read, bytes_read, given_at_end, last_read, limit_at_end, line_ended, told_behind}
-use Rattle.tbl_table.specs.MayTell.{may_tell}
+use Rattle.tbl_table.specs.MayTell.{may_cut, may_tell}
 use Rattle.tbl_table.specs.Table.{TableRead, closed, is_bad, line_read, notes, told_at_cut}
 use Rattle.tbl_core.specs.Tables.{TablesState, IsGiven, byte_step, ending_step, handed}
 use Rattle.tbl_core.specs.Yields.{behind_step}
 use Rattle.tbl_table.proofs.FewNotes.{few_at_cut, few_at_end, few_behind_line, few_closed, one_at_first}
+use Rattle.tbl_table.proofs.FewTexts.{cut_behind_line, none_at_first}
 
 -- messages among items
 noted-append : (xs ys : List Item) → noted (xs ++ ys) ≡ noted xs + noted ys
@@ -66,7 +67,7 @@ name_most false = omega arith
 
 -- at a table's end
 few_ended : (l : TblLimits) (limit : Option Limit) (count : Count) (t : TableRead) (line_length : ℕ) (bytes : List ℕ) (front : Front) (more : ℕ)
-    → may_tell t + 3 ≤ more
+    → may_tell t + may_cut t + 3 ≤ more
     → IsFew (5 * (l.bytes - count.taken) + more) l (record {
       out = told_items (told_behind limit count.line line_length t) ++ told_items (own_told l count.line limit) ++ map OneByte bytes;
       behind = standing_behind limit (record { count = count; place = Outside front });
@@ -80,8 +81,8 @@ few_ended l (Some limit) count t line_length bytes front more few =
 
 -- behind a byte of a table
 few_reading : (t : Bool) (line b : ℕ) (front : Front) (r : Reading)
-    → most_here (Inside front (if t then line_ended line r else byte_read b r)) ≤ most_here (Inside front r) + 1
-few_reading true line b front r = let few = few_behind_line line r.line r.table in omega (arith, few)
+    → most_here (Inside front (if t then line_ended line r else byte_read b r)) ≤ most_here (Inside front r) + 2
+few_reading true line b front r = omega (arith, few_behind_line line r.line r.table, cut_behind_line line r.line r.table)
 few_reading false line b front r = let more = length-append r.line (b ∷ []) in omega (arith, more)
 
 few_inside : (l : TblLimits) (limit : Option Limit) (b : ℕ) (count : Count) (front : Front) (r : Reading)
@@ -91,7 +92,7 @@ few_inside l (Some limit) b count front r = few_stops _ l limit count.line (told
 
 -- outside tables
 few_at_start : (t : Bool) → most_here (if t then Inside Nothing begun else RestOfStart) ≤ 5
-few_at_start true = omega (arith, one_at_first)
+few_at_start true = omega (arith, one_at_first, none_at_first)
 few_at_start false = omega arith
 
 few_outside : (t : Bool) (front : Front) (b : ℕ) → most_here (if t then on_start_line b else Outside (front_behind start_letter front b)) ≤ 5

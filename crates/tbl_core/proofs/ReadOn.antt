@@ -24,7 +24,7 @@ use Rattle.tbl_core.specs.Yields.{At, Continues, MayGive, yields_from}
 use Rattle.tbl_core.proofs.Ready.{line-few}
 use Rattle.tbl_core.proofs.Turning.{at_of}
 use Rattle.tbl_table.specs.Reading.{Reading, byte_read, bytes_read, line_ended}
-use Rattle.tbl_table.specs.MayTell.{may_tell}
+use Rattle.tbl_table.specs.MayTell.{may_cut, may_tell}
 use Rattle.tbl_table.specs.Table.{columns_at}
 use Rattle.tbl_data.specs.declared.phase.Phase.TheVariants.{InData}
 use Rattle.tbl_table.proofs.RowsBehind.{columns-in}
@@ -165,8 +165,9 @@ module _ (l : TblLimits) (line_length : ℕ) where
   line_few s bytes known =
       let r = known.reading in
       let told = may_tell r.table in
-      let before : most_behind l s ≡ 5 * (l.bytes - known.count.taken) + (told + length r.line + 4) + 1 = ap (most_behind l) known.is in
-      let behind : most_behind l (line_read bytes s) ≡ 5 * (l.bytes - (known.count.taken + length bytes)) + (told + length (r.line ++ bytes) + 4) + 1 =
+      let cut = may_cut r.table in
+      let before : most_behind l s ≡ 5 * (l.bytes - known.count.taken) + (told + cut + 2 * length r.line + 4) + 1 = ap (most_behind l) known.is in
+      let behind : most_behind l (line_read bytes s) ≡ 5 * (l.bytes - (known.count.taken + length bytes)) + (told + cut + 2 * length (r.line ++ bytes) + 4) + 1 =
       ap (λ (x : Standing). most_behind l (line_read bytes x)) known.is in
       omega (arith, before, behind, known.room.bytes, length-append r.line bytes)
 

@@ -4,7 +4,7 @@ use Rattle.roff_source.specs.Tape.{Item, OneByte, OneNote, Answer, Gives, Ends}
 use Rattle.tbl_format.specs.declared.limits.TblLimits.{TblLimits}
 use Rattle.tbl_core.specs.Lines.{is_name}
 use Rattle.tbl_core.specs.Machine.{Place, Outside, RestOfStart, Inside, Standing, Reads, Over}
-use Rattle.tbl_table.specs.MayTell.{may_tell}
+use Rattle.tbl_table.specs.MayTell.{may_cut, may_tell}
 use Rattle.tbl_core.specs.Tables.{TablesState}
 
 -- how many messages are among these items
@@ -23,7 +23,7 @@ gives_byte (Ends ending) = false
 abbrev pub most_here : Place → ℕ
 most_here (Outside front) = if is_name front then 1 else 0
 most_here RestOfStart = 1
-most_here (Inside front r) = may_tell r.table + length r.line + 4
+most_here (Inside front r) = may_tell r.table + may_cut r.table + 2 * length r.line + 4
 
 -- as many as may come: those here, those of the tables that fewer bytes than the limit have, and that of a limit
 abbrev pub most_behind : TblLimits → Standing → ℕ

@@ -6,7 +6,7 @@ use Rattle.tbl_data.specs.TableData.{ElementEnds, EndsBy, EntryEnds}
 use Rattle.tbl_data.specs.declared.table_data.TableData.{TableData}
 use Rattle.tbl_options.specs.Notes.{IsWithin, NotesWithin}
 use Rattle.tbl_options.specs.declared.notes.Cause.{Cause}
-use Rattle.tbl_options.specs.declared.notes.Cause.TheVariants.{BadFormat, LeftOut, NotMeasured, OptionIgnored, RequestInTextBlock, TooManyFields}
+use Rattle.tbl_options.specs.declared.notes.Cause.TheVariants.{BadFormat, EntryCut, LeftOut, NotMeasured, OptionIgnored, RequestInTextBlock, TooManyFields}
 use Rattle.tbl_options.specs.declared.notes.KeptNote.{KeptNote}
 use Rattle.tbl_kept.specs.Rows.{Command, KeptElement, Row, Rule, last_changed}
 use Rattle.tbl_kept.specs.TableNotes.{KeptNotes}
@@ -25,7 +25,7 @@ module _ (from to : ℕ) (order : from ≤ to) where
   entries-later (e ∷ entries) all = (omega (arith, order, all.0), entries-later entries all.1)
 
   element-later : (e : KeptElement) → ElementEnds from e → ElementEnds to e
-  element-later (Row keys rules height is_tall entries) ends = entries-later entries ends
+  element-later (Row keys rules height entries) ends = entries-later entries ends
   element-later (Rule sign) ends = tt
   element-later (Command at end) ends = omega (arith, order, ends)
 
@@ -40,6 +40,7 @@ module _ (from to : ℕ) (order : from ≤ to) where
   cause-later (LeftOut letter) within = tt
   cause-later (NotMeasured b) within = tt
   cause-later RequestInTextBlock within = tt
+  cause-later EntryCut within = tt
 
   notes-later : (notes : List KeptNote) → NotesWithin from notes → NotesWithin to notes
   notes-later [] all = tt

@@ -204,7 +204,7 @@ module _ (bytes : List ℕ) (d : TableData) where
 pub row-grows : (d : TableData) (next skipped keys rules : ℕ) (format : FormatRow)
     → Grows 0 1 d (record d { keys = next; rules = skipped; rows = row_kept keys rules format d.rows; «open» = Nothing })
 row-grows d next skipped keys rules format =
-    let row : List KeptElement = Row keys rules 1 false d.rows.row ∷ [] in
+    let row : List KeptElement = Row keys rules 1 d.rows.row ∷ [] in
     record {
       entries = omega (arith, entries_in-append d.rows.elements row);
       elements = omega (arith, length-append d.rows.elements row);
@@ -216,7 +216,7 @@ row-grows d next skipped keys rules format =
 pub row-settled : (d : TableData) (next skipped keys rules : ℕ) (format : FormatRow) (place : ℕ) → EndsBy place d
     → EndsBy place (record d { keys = next; rules = skipped; rows = row_kept keys rules format d.rows; «open» = Nothing })
 row-settled d next skipped keys rules format place ends =
-    record { elements = all-append (ElementEnds place) d.rows.elements (Row keys rules 1 false d.rows.row) ends.elements ends.row; row = tt; notes = ends.notes }
+    record { elements = all-append (ElementEnds place) d.rows.elements (Row keys rules 1 d.rows.row) ends.elements ends.row; row = tt; notes = ends.notes }
 
 -- a row of which the keys are known is that one
 pub row-by : (keys rules : ℕ) (row : FormatRow) (ks : List FormatKey) (k new : KeptRows) → ks ≡ row.keys

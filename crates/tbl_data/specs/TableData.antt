@@ -129,7 +129,7 @@ abbrev pub EntryEnds : ℕ → Entry → Type 0
 EntryEnds place e = e.to ≤ place
 
 abbrev pub ElementEnds : ℕ → KeptElement → Type 0
-ElementEnds place (Row keys rules height is_tall entries) = AllByRecursion (EntryEnds place) entries
+ElementEnds place (Row keys rules height entries) = AllByRecursion (EntryEnds place) entries
 ElementEnds place (Rule sign) = Unit {0}
 ElementEnds place (Command from to) = to ≤ place
 

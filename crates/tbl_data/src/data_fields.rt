@@ -15,7 +15,6 @@ ghost use Rattle.tbl_kept.specs.Rows.{entries_of};
 ghost use Rattle.tbl_kept.specs.RowsLaying.{AreOpened};
 ghost use Rattle.tbl_kept.specs.TableText.{KeptText, block_of};
 ghost use Rattle.tbl_layout.specs.DataLines.{kind_under};
-ghost use Rattle.tbl_layout.specs.Entries.{is_number};
 ghost use Rattle.tbl_layout.specs.declared.data_lines.FieldKind.TheVariants.{Text as OneText};
 
 use crate::data_line::{DataLine, tell_items, tell_surplus};
@@ -26,7 +25,7 @@ use tbl_kept::rows::key_at;
 use tbl_kept::table_text::TableText;
 use tbl_layout::data::field_len;
 use tbl_layout::data_lines::{FieldKind, ends_in_block, kind_under, opens_block};
-use tbl_layout::entry::{Entry, kept_kind};
+use tbl_layout::entry::{Entry, is_number, kept_kind};
 use tbl_layout::rule_keys::kind_of_key;
 use tbl_text::measure::measure;
 
@@ -242,11 +241,4 @@ impl TableData {
             self.rules = 0;
         }
     }
-}
-
-/// Whether texts under a key are numbers.
-fn is_number(key: Key) -> bool
-    ensures { result ≡ is_number key }
-{
-    matches!(key, Key::Numeric)
 }

@@ -2,9 +2,8 @@
 use Rattle.std.proofs.Common.{◌≡◌, ℕ, ◌+◌, ◌<◌, ◌≤◌, Bool, true, false, List, [], ◌∷◌, ◌++◌, Option, Some, None, length, map, take, drop, get_or, refl, sym, ap, ◌∙◌, arith, append_assoc, length-append, if◌then◌else◌}
 use Rattle.std.proofs.lemmas.List.{at_drop_more, map-append, take_more}
 use Rattle.roff_source.specs.Bytes.{newline}
-use Rattle.tbl_format.specs.Format.{Format, format_byte, format_read, if_letter, last_does, left_out, left_out_at, left_out_behind, letters_left_out}
+use Rattle.tbl_format.specs.Format.{Format, format_byte, format_read, if_letter, left_out, left_out_at, left_out_behind, letters_left_out}
 use Rattle.tbl_format.specs.FormatSteps.{again, step, step_of, widening, width_of}
-use Rattle.tbl_format.specs.LaidOut.{is_laid_out}
 use Rattle.tbl_options.specs.Notes.{left_out_message, left_out_note, told_at, told_of_all}
 use Rattle.tbl_format.specs.declared.format.FormatPlace.{FormatPlace}
 use Rattle.tbl_format.specs.declared.format.FormatPlace.TheVariants.{AtEnd, AtFault, InRows}
@@ -62,11 +61,6 @@ unfolding step
 newline-none true s front none = refl
 newline-none false s front none = none
 
-laid_out-none : (t : Bool) (s : FormatStep) (front : List ℕ) → left_out s.does ≡ None
-    → left_out (last_does (if t then s else record { place = AtFault; does = s.does; is_again = false }) front newline) ≡ None
-laid_out-none true s front none = newline-none s.is_again s front none
-laid_out-none false s front none = none
-
 width-none : (asked : Option ℕ) → left_out (widening again asked).does ≡ None
 width-none None = refl
 width-none (Some n) = refl
@@ -91,7 +85,7 @@ step-none Sized front = refl
 place-none : (place : FormatPlace) (front : List ℕ) → left_out_at place front newline ≡ None
 unfolding step
 place-none (InRows part) front =
-    let s = step_of part front newline in laid_out-none (is_laid_out s.does) s front (step-none part front)
+    let s = step_of part front newline in newline-none s.is_again s front (step-none part front)
 place-none AtEnd front = refl
 place-none AtFault front = refl
 

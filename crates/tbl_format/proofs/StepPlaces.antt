@@ -5,7 +5,6 @@ use Rattle.tbl_format.specs.Format.{Format, asking_for_bars, done, fault_if, for
 use Rattle.tbl_format.specs.FormatSteps.{again, among_keys, among_keys_by, among_others, at_closing, behind, between, fault, greatest_number, step, step_of, to, widening, width_of}
 use Rattle.tbl_format.specs.KeyCounts.{IsOnLine, StandsOnLine}
 use Rattle.tbl_format.specs.Keys.{is_between, is_one_of, key_of, separates_rows}
-use Rattle.tbl_format.specs.LaidOut.{is_laid_out}
 use Rattle.tbl_options.specs.Options.{closing, opening}
 use Rattle.tbl_format.specs.declared.format.FormatPlace.{FormatPlace}
 use Rattle.tbl_format.specs.declared.format.FormatPlace.TheVariants.{AtEnd, AtFault, InRows}
@@ -60,10 +59,6 @@ module _ (len : ℕ) where
 
   again-nothing : IsStep len (again Nothing)
   again-nothing = record { stands = tt; ends = tt; is_end = tt }
-
-  laid_out : (t : Bool) (s : FormatStep) → IsStep len s → IsStep len (if t then s else record { place = AtFault; does = s.does; is_again = false })
-  laid_out true s is = is
-  laid_out false s is = record { stands = tt; ends = tt; is_end = tt }
 
   others : (b : ℕ) → IsStep len (among_others b)
   others b =
@@ -180,9 +175,7 @@ on_line-is Sized more = tt
 
 step-within : (most : ℕ) (part : RowPart) (front : List ℕ) (b : ℕ) → length front ≤ most → IsOnLine most part → IsStep (most + 1) (step part front b)
 unfolding step
-step-within most part front b few on =
-    let s = step_of part front b in
-    laid_out (most + 1) (is_laid_out s.does) s (step_of-is most part front b few on)
+step-within most part front b few on = step_of-is most part front b few on
 
 pub step-is : (part : RowPart) (front : List ℕ) (b : ℕ) → IsOnLine (length front) part → IsStep (length front + 1) (step part front b)
 step-is part front b on = step-within (length front) part front b (omega arith) on
@@ -264,11 +257,8 @@ read-stands front f (b ∷ bytes) on =
     (read-stands (front ++ b ∷ []) (format_byte front f b) bytes here)
 
 -- behind a newline nothing is half read
-place_laid_out : (t : Bool) (s : FormatStep) → StandsOnLine 0 s.place → StandsOnLine 0 (if t then s else record { place = AtFault; does = s.does; is_again = false }).place
-place_laid_out true s stands = stands
-place_laid_out false s stands = tt
-
-newline-step : (part : RowPart) (front : List ℕ) → StandsOnLine 0 (step_of part front newline).place
+newline-step : (part : RowPart) (front : List ℕ) → StandsOnLine 0 (step part front newline).place
+unfolding step
 newline-step AtKeys front = tt
 newline-step BehindKey front = tt
 newline-step (Number n) front = tt
@@ -285,22 +275,16 @@ newline-step AtSize front = tt
 newline-step Signed front = tt
 newline-step Sized front = tt
 
-newline-laid_out : (part : RowPart) (front : List ℕ) → StandsOnLine 0 (step part front newline).place
-unfolding step
-newline-laid_out part front =
-    let s = step_of part front newline in
-    place_laid_out (is_laid_out s.does) s (newline-step part front)
-
 newline-again : (t : Bool) (front : List ℕ) (f : Format) → StandsOnLine 0 f.place → StandsOnLine 0 (looked_again t front newline f).place
 newline-again false front f stands = stands
 newline-again true front f stands =
     let s = step BehindKey front newline in
-    done-stands 0 s.does (record f { place = s.place }) (newline-laid_out BehindKey front)
+    done-stands 0 s.does (record f { place = s.place }) (newline-step BehindKey front)
 
 newline-at : (place : FormatPlace) (front : List ℕ) (f : Format) → place ≡ f.place → StandsOnLine 0 (format_byte_at place front f newline).place
 newline-at (InRows part) front f same =
     let s = step part front newline in
-    newline-again s.is_again front (stepped s f) (done-stands 0 s.does (record f { place = s.place }) (newline-laid_out part front))
+    newline-again s.is_again front (stepped s f) (done-stands 0 s.does (record f { place = s.place }) (newline-step part front))
 newline-at AtEnd front f same = subst (StandsOnLine 0) same tt
 newline-at AtFault front f same = subst (StandsOnLine 0) same tt
 

@@ -7,7 +7,6 @@ use Rattle.roff_num.specs.declared.num.NumFault.{NumFault}
 use Rattle.roff_num.specs.declared.num.Scale.TheVariants.{Columns}
 use Rattle.roff_source.specs.Bytes.{newline, dot, is_digit}
 use Rattle.tbl_format.specs.Keys.{is_between, is_one_of, key_of, separates_rows}
-use Rattle.tbl_format.specs.LaidOut.{is_laid_out}
 use Rattle.tbl_options.specs.Options.{closing, opening}
 use Rattle.tbl_format.specs.declared.format.FormatPlace.TheVariants.{AtEnd, AtFault, InRows}
 use Rattle.tbl_format.specs.declared.format.Key.{Key}
@@ -165,9 +164,5 @@ step_of AtSize front b = at_size b
 step_of Signed front b = signed b
 step_of Sized front b = sized b
 
--- a step, if what it does is laid out
-abbrev pub if_laid_out : FormatStep → FormatStep
-if_laid_out s = if is_laid_out s.does then s else record { place = AtFault; does = s.does; is_again = false }
-
 unfoldable pub step : RowPart → List ℕ → ℕ → FormatStep
-step part front b = if_laid_out (step_of part front b)
+step part front b = step_of part front b

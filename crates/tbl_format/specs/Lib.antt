@@ -1,6 +1,5 @@
 pub mod TblLimits
 pub mod Keys
-pub mod LaidOut
 pub mod FormatSteps
 pub mod Format
 pub mod Cells

@@ -5,9 +5,8 @@ ghost use Rattle.std.specs.Prelude.{◌≡◌, length};
 ghost use Rattle.tbl_format.specs.FormatSteps.{again, among_keys};
 ghost use Rattle.tbl_format.specs.FormatSteps.{at_font, at_macro, at_size, at_width, behind};
 ghost use Rattle.tbl_format.specs.FormatSteps.{behind_font, behind_key, behind_macro, between};
-ghost use Rattle.tbl_format.specs.FormatSteps.{fault, if_laid_out, in_brackets, in_font};
-ghost use Rattle.tbl_format.specs.FormatSteps.{in_macro, in_number, in_width_digits, signed, sized};
-ghost use Rattle.tbl_format.specs.FormatSteps.{step, step_of, to};
+ghost use Rattle.tbl_format.specs.FormatSteps.{fault, in_brackets, in_font, in_macro, in_number};
+ghost use Rattle.tbl_format.specs.FormatSteps.{in_width_digits, signed, sized, step, to};
 ghost use Rattle.tbl_format.specs.Format.{asked_by, greater, left_out, most_bars, said_by};
 ghost use Rattle.tbl_format.specs.KeyCounts.{IsOnLine};
 
@@ -16,7 +15,6 @@ use crate::format_parts::{
     among_keys, at_font, at_macro, at_size, at_width, behind_font, behind_key, behind_macro,
     in_brackets, in_font, in_macro, in_number, in_width_digits, signed, sized,
 };
-use crate::laid_out::is_laid_out;
 
 /// What a byte of a format does.
 #[derive(Clone, Copy)]
@@ -62,14 +60,6 @@ pub struct FormatStep {
 pub fn step(part: RowPart, front: &[u8], byte: u8) -> FormatStep
     requires { IsOnLine (length front.now) part }
     ensures { result ≡ step part front.now byte }
-{
-    step_of(part, front, byte).if_laid_out()
-}
-
-/// What it does, whether that is laid out or not.
-fn step_of(part: RowPart, front: &[u8], byte: u8) -> FormatStep
-    requires { IsOnLine (length front.now) part }
-    ensures { result ≡ step_of part front.now byte }
 {
     match part {
         RowPart::AtKeys => among_keys(byte),
@@ -268,20 +258,6 @@ impl FormatStep {
         FormatStep {
             place: FormatPlace::AtFault,
             does: Does::Nothing,
-            is_again: false,
-        }
-    }
-
-    /// The step, if what it does is laid out, and else a fault.
-    pub(crate) fn if_laid_out(self) -> FormatStep
-        ensures { result ≡ if_laid_out self }
-    {
-        if is_laid_out(self.does) {
-            return self;
-        }
-        FormatStep {
-            place: FormatPlace::AtFault,
-            does: self.does,
             is_again: false,
         }
     }

@@ -9,7 +9,6 @@ mod format_parts;
 pub mod format_rows;
 pub mod format_step;
 pub mod key_count;
-pub mod laid_out;
 pub mod laws;
 pub mod left_out;
 pub mod limits;

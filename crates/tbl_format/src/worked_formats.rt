@@ -135,17 +135,17 @@ pub fn cells()
         ≡ nothing_asked ∷ nothing_asked ∷ [] }
 {}
 
-/// What is read of them today, where not all is laid out.
+/// What is read of them, and what is left out.
 #[tactic(auto, unfolding(crate::specs::FormatSteps::step))]
 pub fn readings()
-    ensures laid_out { (format_read no_format (codes "l xR3,cen,a.")).place ≡ AtEnd }
+    ensures letters { (format_read no_format (codes "l xR3,cen,a.")).place ≡ AtEnd }
     ensures left_out { letters_left_out no_format (codes "lxmabr X,c.") ≡ 120 ∷ 109 ∷ 88 ∷ [] }
-    ensures behind_a_fault { letters_left_out no_format (codes "lx,^z x,c.") ≡ 120 ∷ [] }
+    ensures behind_a_fault { letters_left_out no_format (codes "lx,^q x,c.") ≡ 120 ∷ [] }
     ensures rule { (format_read no_format (codes "l_,=.")).place ≡ AtEnd }
     ensures above { (format_read no_format (codes "l,^.")).place ≡ AtEnd }
-    ensures width { (format_read no_format (codes "l,^z.")).place ≡ AtFault }
+    ensures width { (format_read no_format (codes "l,^z.")).place ≡ AtEnd }
     ensures counted { (format_read no_format (codes "l,c^z=.")).asked
-        ≡ nothing_asked ∷ nothing_asked ∷ [] }
+        ≡ nothing_asked ∷ nothing_asked ∷ nothing_asked ∷ [] }
     ensures spanned { (format_read no_format (codes "l s,s.")).place ≡ AtFault }
 {}
 

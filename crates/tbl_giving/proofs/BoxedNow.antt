@@ -1,5 +1,5 @@
 -- What is to come of a picture by what is kept: its elements, with the rules that the box adds, and the heights of their rows.
-use Rattle.std.proofs.Common.{◌≡◌, ℕ, suc, ◌+◌, ◌-◌, Bool, true, false, ◌&&◌, List, [], ◌∷◌, ◌++◌, refl, sym, ap, ◌∙◌, arith, if◌then◌else◌, ◌==◌}
+use Rattle.std.proofs.Common.{◌≡◌, ℕ, suc, ◌-◌, Bool, true, false, ◌&&◌, List, [], ◌∷◌, ◌++◌, refl, sym, ap, ◌∙◌, arith, if◌then◌else◌, ◌==◌}
 use Rattle.std.specs.List.{slice_range}
 use Rattle.tbl_format.specs.Format.{FormatRow}
 use Rattle.tbl_format.specs.RowsServed.{row_at}
@@ -26,7 +26,7 @@ none-and false = refl
 
 pub kept-heights : (elements : List KeptElement) → heights_kept elements ≡ heights_of elements
 kept-heights [] = refl
-kept-heights (Row keys rules height is_tall entries ∷ elements) = ap (λ (hs : List ℕ). height ∷ hs) (kept-heights elements)
+kept-heights (Row keys rules height entries ∷ elements) = ap (λ (hs : List ℕ). height ∷ hs) (kept-heights elements)
 kept-heights (Rule sign ∷ elements) = kept-heights elements
 kept-heights (Command from to ∷ elements) = kept-heights elements
 
@@ -60,7 +60,7 @@ module _ (boxing : Boxing) (bytes : List ℕ) (formats : List FormatRow) where
   pub fresh : (behind : Bool) (kept : List KeptElement)
       → as-now (boxed_from boxing behind (elements_of bytes formats kept)) kept ≡ boxed_from boxing behind (elements_of bytes formats kept)
   fresh behind [] = sym (boxed-none boxing behind (boxing.bars == 0) refl)
-  fresh behind (Row keys rules height is_tall entries ∷ elements) =
+  fresh behind (Row keys rules height entries ∷ elements) =
       let fields = fields_of bytes (row_at formats keys) entries in
       let all = elements_of bytes formats elements in
       fresh-row behind (rows_in_front formats keys rules) (row_at formats keys) fields all
@@ -89,7 +89,7 @@ module _ (boxing : Boxing) (bytes : List ℕ) (formats : List FormatRow) where
   pub fresh-heights : (behind : Bool) (kept : List KeptElement)
       → heights_now (next_height (heights_of kept) (boxed_from boxing behind (elements_of bytes formats kept))) kept ≡ heights_of kept
   fresh-heights behind [] = refl
-  fresh-heights behind (Row keys rules height is_tall entries ∷ elements) =
+  fresh-heights behind (Row keys rules height entries ∷ elements) =
       let fields = fields_of bytes (row_at formats keys) entries in
       let all = elements_of bytes formats elements in
       ap (λ (n : ℕ). n ∷ heights_of elements)

@@ -1,6 +1,6 @@
 -- The line that comes in a picture with cells of several rows can be laid.
 use Rattle.std.specs.List.{AllByRecursion}
-use Rattle.std.proofs.Common.{ℕ, List, [], ◌∷◌, drop, Option, refl, subst, sym}
+use Rattle.std.proofs.Common.{ℕ, List, [], ◌∷◌, drop, Option, subst, sym}
 use Rattle.tbl_format.specs.Format.{FormatRow}
 use Rattle.tbl_format.specs.RowsServed.{row_at}
 use Rattle.tbl_kept.specs.Rows.{Command, KeptElement, KeptRows, Row, Rule, elements_of, heights_of}
@@ -14,7 +14,8 @@ use Rattle.tbl_giving.proofs.RulesIn.{AllRules, OfLine, boxed-rules, coming-rule
 use Rattle.tbl_giving.specs.LinesWalked.{HasCome, IsRowOf, KeptLineByLine, RulesPlaced, SignTold, all_boxed, coming, parts_left, sheet_by}
 use Rattle.tbl_giving.specs.declared.line_by_line.Place.TheVariants.{OnRow, OnRule}
 use Rattle.tbl_giving.specs.declared.line_by_line.RuleAt.{RuleAt}
-use Rattle.tbl_tall.specs.TallRows.{CanLayRow, CanLayRule, LineIsNext, RuleIsNext}
+use Rattle.tbl_tall.specs.LinesNext.{CanLayRow, CanLayRule}
+use Rattle.tbl_tall.specs.TallRows.{LineIsNext, RuleIsNext}
 
 module _ (bytes : List ℕ) (formats : List FormatRow) (rows : KeptRows) (g : KeptLineByLine) (room : ℕ) where
   pub rule-is-next : (at : RuleAt) → HasCome bytes formats rows (record g { place = OnRule at }) room → RuleIsNext bytes formats g.tall
@@ -31,19 +32,6 @@ module _ (bytes : List ℕ) (formats : List FormatRow) (rows : KeptRows) (g : Ke
     places = come.drawn.places;
   }
 
-  pub can-lay-rule : (at : RuleAt) (whole : Option RuleSign) → HasCome bytes formats rows (record g { place = OnRule at }) room
-      → SignTold whole bytes formats rows (record g { place = OnRule at })
-      → CanLayRule formats g.tall g.bars g.width rows.columns whole
-  unfolding rule-is-next
-  can-lay-rule at whole come told = record {
-    bytes = bytes;
-    next = rule-is-next at come;
-    sheet = refl;
-    sign = told come.stands.line come.stands.rest come.stands.rule;
-    narrow = come.drawn.narrow;
-    wide = come.drawn.wide;
-  }
-
   pub line-is-next : HasCome bytes formats rows (record g { place = OnRow }) room → LineIsNext bytes g.tall
   line-is-next come = let x = coming bytes formats rows (record g { place = OnRow }) in record {
     s = sheet_by rows g;
@@ -57,7 +45,7 @@ module _ (bytes : List ℕ) (formats : List FormatRow) (rows : KeptRows) (g : Ke
   placed-by : (kept : List KeptElement) (format : FormatRow) → IsRowOf formats format kept
       → ((keys : ℕ) → HasPlaces g.bars.front rows.columns (row_at formats keys)) → HasPlaces g.bars.front rows.columns format
   placed-by [] format row all = absurd row
-  placed-by (Row keys others height is_tall entries ∷ kept) format row all =
+  placed-by (Row keys others height entries ∷ kept) format row all =
       subst (λ (f : FormatRow). HasPlaces g.bars.front rows.columns f) (sym row) (all keys)
   placed-by (Rule sign ∷ kept) format row all = absurd row
   placed-by (Command from to ∷ kept) format row all = absurd row
@@ -66,17 +54,14 @@ module _ (bytes : List ℕ) (formats : List FormatRow) (rows : KeptRows) (g : Ke
   row-places come = placed-by (drop g.element rows.elements) come.stands.format come.stands.row
       (λ keys. row-placed g.bars.front rows.columns formats keys come.drawn.places.rows)
 
-  pub can-lay-row : HasCome bytes formats rows (record g { place = OnRow }) room → CanLayRow g.tall g.bars.boxing g.width rows.columns
-  unfolding line-is-next
+  pub can-lay-row : HasCome bytes formats rows (record g { place = OnRow }) room → CanLayRow bytes (sheet_by rows g) g.tall
   can-lay-row come = record {
-    bytes = bytes;
-    bars = g.bars;
-    boxed = refl;
-    next = line-is-next come;
-    sheet = refl;
-    places = row-places come;
-    order = come.drawn.places.order;
+    format = come.stands.format;
+    cells = (coming bytes formats rows (record g { place = OnRow })).cells;
+    more = come.stands.more;
+    stands = come.stands.stands;
     narrow = come.drawn.narrow;
+    wide = come.drawn.wide;
   }
 
   -- all rows have places for their bars, and so have those to come
@@ -84,7 +69,7 @@ module _ (bytes : List ℕ) (formats : List FormatRow) (rows : KeptRows) (g : Ke
       → AllByRecursion (HasPlaces s.bars.front s.columns) formats
       → AllRules (λ (f : FormatRow). HasLinePlaces s (OfKeys f)) (HasPlaces s.bars.front s.columns) (elements_of bytes formats elements)
   rules-kept s [] all places = tt
-  rules-kept s (Row keys rules height is_tall entries ∷ elements) all places =
+  rules-kept s (Row keys rules height entries ∷ elements) all places =
       (all.0, row-placed s.bars.front s.columns formats keys places, rules-kept s elements all.1 places)
   rules-kept s (Rule sign ∷ elements) all places = rules-kept s elements all.1 places
   rules-kept s (Command from to ∷ elements) all places = rules-kept s elements all.1 places
@@ -127,3 +112,21 @@ module _ (bytes : List ℕ) (formats : List FormatRow) (rows : KeptRows) (g : Ke
       → NextPlaces (sheet_by rows g) (coming bytes formats rows (record g { place = OnRule at })).elements
   next-placed at come =
       places-by (sheet_by rows g) (coming bytes formats rows (record g { place = OnRule at })).elements (coming-placed at come)
+
+  pub can-lay-rule : (at : RuleAt) (whole : Option RuleSign) → HasCome bytes formats rows (record g { place = OnRule at }) room
+      → SignTold whole bytes formats rows (record g { place = OnRule at }) → CanLayRule bytes formats (sheet_by rows g) g.tall whole
+  can-lay-rule at whole come told = let x = coming bytes formats rows (record g { place = OnRule at }) in record {
+    heights = x.heights;
+    cells = x.cells;
+    above = x.above;
+    elements = x.elements;
+    line = come.stands.line;
+    rest = come.stands.rest;
+    comes = come.stands.front.comes;
+    rule = come.stands.rule;
+    sign = told come.stands.line come.stands.rest come.stands.rule;
+    places = come.drawn.places;
+    next = next-placed at come;
+    narrow = come.drawn.narrow;
+    wide = come.drawn.wide;
+  }

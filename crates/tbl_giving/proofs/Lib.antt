@@ -16,3 +16,10 @@ pub mod RowLinesEnded
 pub mod StepsOffLines
 pub mod RulesIn
 pub mod RowsRuled
+pub mod RowsWide
+pub mod FewTexts
+pub mod UncutTables
+pub mod CutsCounted
+pub mod CutsOnRows
+pub mod CutsInFront
+pub mod CutsAtElements

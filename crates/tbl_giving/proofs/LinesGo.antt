@@ -1,5 +1,5 @@
 -- A walk over the lines of a picture with cells of several rows goes on behind a part.
-use Rattle.std.proofs.Common.{◌≡◌, ℕ, suc, ◌+◌, ◌-◌, ◌≤◌, Bool, true, false, List, [], ◌∷◌, ◌++◌, length, refl, sym, ap, subst, ◌∙◌, arith, if◌then◌else◌, ◌==◌}
+use Rattle.std.proofs.Common.{◌≡◌, ℕ, suc, ◌-◌, ◌≤◌, Bool, true, false, List, [], ◌∷◌, ◌++◌, length, refl, sym, ap, subst, ◌∙◌, arith, if◌then◌else◌, ◌==◌}
 use Rattle.tbl_format.specs.Format.{FormatRow}
 use Rattle.tbl_format.specs.RowsServed.{row_at}
 use Rattle.tbl_kept.specs.Rows.{KeptElement, KeptRows, Row, elements_of, fields_of, heights_of}
@@ -105,52 +105,52 @@ module _ (boxing : Boxing) (bytes : List ℕ) (formats : List FormatRow) where
       ap (λ (n : ℕ). now n new_rules kept) fewer ∙ ap (λ (rs : List FormatRow). now (wholes - 1) rs kept) same ∙ sym rest_is
 
   -- behind one in front of a row: of rule keys, or that of the box
-  row-now : (wholes : ℕ) (rules : List FormatRow) (keys others height : ℕ) (is_tall : Bool) (entries : List Entry) (kept : List KeptElement)
+  row-now : (wholes : ℕ) (rules : List FormatRow) (keys others height : ℕ) (entries : List Entry) (kept : List KeptElement)
       (rest : List Element)
       → rest ≡ OneRow rules (row_at formats keys) (fields_of bytes (row_at formats keys) entries) ∷ boxed_from boxing true (elements_of bytes formats kept)
       → (new_rules : List FormatRow) → wholes ≡ wholes_in_front rest → new_rules ≡ keys_in_front rest
-      → now wholes new_rules (Row keys others height is_tall entries ∷ kept) ≡ rest
-  row-now wholes rules keys others height is_tall entries kept rest is new_rules wholes_is rules_is =
+      → now wholes new_rules (Row keys others height entries ∷ kept) ≡ rest
+  row-now wholes rules keys others height entries kept rest is new_rules wholes_is rules_is =
       let none : wholes ≡ 0 = wholes_is ∙ ap (λ (es : List Element). wholes_in_front es) is in
       let same : new_rules ≡ rules = rules_is ∙ ap (λ (es : List Element). keys_in_front es) is in
-      ap (λ (n : ℕ). now n new_rules (Row keys others height is_tall entries ∷ kept)) none
-      ∙ ap (λ (rs : List FormatRow). now 0 rs (Row keys others height is_tall entries ∷ kept)) same ∙ sym is
+      ap (λ (n : ℕ). now n new_rules (Row keys others height entries ∷ kept)) none
+      ∙ ap (λ (rs : List FormatRow). now 0 rs (Row keys others height entries ∷ kept)) same ∙ sym is
 
-  behind-keys-now : (rules : List FormatRow) (keys others height : ℕ) (is_tall : Bool) (entries : List Entry) (kept : List KeptElement)
+  behind-keys-now : (rules : List FormatRow) (keys others height : ℕ) (entries : List Entry) (kept : List KeptElement)
       (rest : List Element) (line : RuleLine)
       → RuleComes (OneRow rules (row_at formats keys) (fields_of bytes (row_at formats keys) entries) ∷ boxed_from boxing true (elements_of bytes formats kept)) line rest
       → (wholes : ℕ) (new_rules : List FormatRow) → wholes ≡ wholes_in_front rest → new_rules ≡ keys_in_front rest
-      → now wholes new_rules (Row keys others height is_tall entries ∷ kept) ≡ rest
-  behind-keys-now [] keys others height is_tall entries kept rest line comes wholes new_rules wholes_is rules_is =
+      → now wholes new_rules (Row keys others height entries ∷ kept) ≡ rest
+  behind-keys-now [] keys others height entries kept rest line comes wholes new_rules wholes_is rules_is =
       absurd (rule-of (OneRow [] (row_at formats keys) (fields_of bytes (row_at formats keys) entries) ∷ boxed_from boxing true (elements_of bytes formats kept)) rest line comes)
-  behind-keys-now (rule ∷ rules) keys others height is_tall entries kept rest line comes wholes new_rules wholes_is rules_is =
-      row-now wholes rules keys others height is_tall entries kept rest
+  behind-keys-now (rule ∷ rules) keys others height entries kept rest line comes wholes new_rules wholes_is rules_is =
+      row-now wholes rules keys others height entries kept rest
       (rule-of (OneRow (rule ∷ rules) (row_at formats keys) (fields_of bytes (row_at formats keys) entries) ∷ boxed_from boxing true (elements_of bytes formats kept)) rest line comes).1
       new_rules wholes_is rules_is
 
   -- a row that comes, by whether a rule stands in front of it
-  pub row-split : (t : Bool) (wholes : ℕ) → (wholes == 0) ≡ t → (rules : List FormatRow) (keys others height : ℕ) (is_tall : Bool) (entries : List Entry)
-      (kept : List KeptElement) → now wholes rules (Row keys others height is_tall entries ∷ kept)
+  pub row-split : (t : Bool) (wholes : ℕ) → (wholes == 0) ≡ t → (rules : List FormatRow) (keys others height : ℕ) (entries : List Entry)
+      (kept : List KeptElement) → now wholes rules (Row keys others height entries ∷ kept)
       ≡ (if t then [] else OneRule Single ∷ [])
       ++ OneRow rules (row_at formats keys) (fields_of bytes (row_at formats keys) entries) ∷ boxed_from boxing true (elements_of bytes formats kept)
-  row-split t wholes is rules keys others height is_tall entries kept =
+  row-split t wholes is rules keys others height entries kept =
       ap (λ (u : Bool). (if u then [] else OneRule Single ∷ [])
       ++ OneRow rules (row_at formats keys) (fields_of bytes (row_at formats keys) entries) ∷ boxed_from boxing true (elements_of bytes formats kept)) is
 
-  pub behind-in-front : (t : Bool) (wholes : ℕ) → (wholes == 0) ≡ t → (rules : List FormatRow) (keys others height : ℕ) (is_tall : Bool)
+  pub behind-in-front : (t : Bool) (wholes : ℕ) → (wholes == 0) ≡ t → (rules : List FormatRow) (keys others height : ℕ)
       (entries : List Entry) (kept : List KeptElement) (rest : List Element) (line : RuleLine)
-      → RuleComes (now wholes rules (Row keys others height is_tall entries ∷ kept)) line rest
+      → RuleComes (now wholes rules (Row keys others height entries ∷ kept)) line rest
       → (new_wholes : ℕ) (new_rules : List FormatRow) → new_wholes ≡ wholes_in_front rest → new_rules ≡ keys_in_front rest
-      → now new_wholes new_rules (Row keys others height is_tall entries ∷ kept) ≡ rest
-  behind-in-front true wholes is rules keys others height is_tall entries kept rest line comes new_wholes new_rules wholes_is rules_is =
-      behind-keys-now rules keys others height is_tall entries kept rest line
-      (subst (λ (es : List Element). RuleComes es line rest) (row-split true wholes is rules keys others height is_tall entries kept) comes)
+      → now new_wholes new_rules (Row keys others height entries ∷ kept) ≡ rest
+  behind-in-front true wholes is rules keys others height entries kept rest line comes new_wholes new_rules wholes_is rules_is =
+      behind-keys-now rules keys others height entries kept rest line
+      (subst (λ (es : List Element). RuleComes es line rest) (row-split true wholes is rules keys others height entries kept) comes)
       new_wholes new_rules wholes_is rules_is
-  behind-in-front false wholes is rules keys others height is_tall entries kept rest line comes new_wholes new_rules wholes_is rules_is =
+  behind-in-front false wholes is rules keys others height entries kept rest line comes new_wholes new_rules wholes_is rules_is =
       let row = OneRow rules (row_at formats keys) (fields_of bytes (row_at formats keys) entries) in
-      row-now new_wholes rules keys others height is_tall entries kept rest
+      row-now new_wholes rules keys others height entries kept rest
       (rule-of (OneRule Single ∷ row ∷ boxed_from boxing true (elements_of bytes formats kept)) rest line
-      (subst (λ (es : List Element). RuleComes es line rest) (row-split false wholes is rules keys others height is_tall entries kept) comes)).1
+      (subst (λ (es : List Element). RuleComes es line rest) (row-split false wholes is rules keys others height entries kept) comes)).1
       new_rules wholes_is rules_is
 
   -- behind the last rule

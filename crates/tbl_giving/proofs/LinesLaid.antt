@@ -1,17 +1,15 @@
 -- A line of a picture with cells of several rows is laid and begins, as a row of one line.
-use Rattle.std.proofs.Common.{◌≡◌, ℕ, suc, ◌+◌, ◌-◌, ◌≤◌, ◌<◌, Bool, true, List, [], ◌∷◌, ◌++◌, drop, get_or, length, Option, refl, sym, ap, subst, ◌∙◌, arith}
+use Rattle.std.proofs.Common.{◌≡◌, ℕ, suc, ◌≤◌, ◌<◌, Bool, true, List, [], ◌∷◌, ◌++◌, drop, get_or, length, Option, refl, sym, ap, subst, ◌∙◌, arith}
 use Rattle.std.proofs.lemmas.List.{append-nil, length-map}
 use Rattle.tbl_format.specs.Format.{FormatRow}
 use Rattle.tbl_kept.specs.Rows.{Command, KeptElement, KeptRows, Row, Rule, heights_of}
 use Rattle.tbl_layout.specs.Entries.{Element}
 use Rattle.tbl_layout.specs.declared.bars.Bars.{Bars}
-use Rattle.tbl_layout.specs.LayoutLaws.{StandInOrder}
 use Rattle.tbl_layout.specs.declared.columns.Column.{Column}
 use Rattle.tbl_layout.specs.declared.data_lines.RuleSign.{RuleSign}
 use Rattle.tbl_lines.specs.CellsLeft.{Left, bars_at_end}
 use Rattle.tbl_lines.specs.LinesLeft.{Beside, row_line, rule_line_left}
-use Rattle.tbl_lines.specs.RulePlaces.{HasPlaces, HavePlaces}
-use Rattle.tbl_options.specs.declared.options.Boxing.{Boxing}
+use Rattle.tbl_lines.specs.RulePlaces.{HavePlaces}
 use Rattle.tbl_lines.specs.PictureLines.{RuleLine, Sheet}
 use Rattle.tbl_lines.specs.RowsLeft.{cell_of_front}
 use Rattle.tbl_giving.proofs.PartsCome.{part-first, rule-has, rule-part}
@@ -124,19 +122,18 @@ module _ (bytes : List ℕ) (formats : List FormatRow) (rows : KeptRows) (g : Ke
       }
 
 -- the line that comes is drawn, whatever it is
-abbrev pub LaysRule : List FormatRow → Bars → ℕ → Option RuleSign → KeptTall → KeptTall → List Column → Type 0
-LaysRule formats bars width whole old new columns = (bytes : List ℕ) (heights : List ℕ) (cells : List Left) (above : Beside) (elements rest : List Element)
+abbrev pub LaysRule : List ℕ → List FormatRow → Bars → ℕ → Option RuleSign → KeptTall → KeptTall → List Column → Type 0
+LaysRule bytes formats bars width whole old new columns = (heights : List ℕ) (cells : List Left) (above : Beside) (elements rest : List Element)
     (line : RuleLine)
     → let s : Sheet = record { bars = bars; width = width; columns = columns } in
     HavePlaces formats s → NextPlaces s elements → Comes bytes formats s old heights cells above elements → RuleComes elements line rest
     → SignIs whole line
     → Draws bytes (record bars { has_any = true }) width new.line (rule_line_left s line cells above (below_rule s line cells rest))
 
-abbrev pub LaysRow : Boxing → ℕ → KeptTall → KeptTall → List Column → Type 0
-LaysRow boxing width old new columns = (bytes : List ℕ) (s : Sheet) (format : FormatRow) (cells : List Left) (lines : ℕ) → s.columns ≡ columns
-    → s.bars.boxing ≡ boxing → s.width ≡ width → HasPlaces s.bars.front s.columns format → StandInOrder s.bars s.width s.columns
-    → RowStands bytes s old format cells lines
-    → Draws bytes s.bars width new.line (row_line s (bars_at_end (length s.columns) format) cells)
+abbrev pub LaysRow : List ℕ → Bars → ℕ → KeptTall → KeptTall → List Column → Type 0
+LaysRow bytes bars width old new columns = (format : FormatRow) (cells : List Left) (lines : ℕ)
+    → let s : Sheet = record { bars = bars; width = width; columns = columns } in
+    RowStands bytes s old format cells lines → Draws bytes bars width new.line (row_line s (bars_at_end (length s.columns) format) cells)
 
 -- what was given stands behind a line that is laid
 module _ (bytes : List ℕ) (formats : List FormatRow) (rows : KeptRows) (g : KeptLineByLine) (room : ℕ) (tall : KeptTall) (ended : tall.come ≡ g.tall.come)
@@ -183,7 +180,7 @@ module _ (bytes : List ℕ) (formats : List FormatRow) (rows : KeptRows) (g : Ke
   row-kept [] is format row x elements heights some = absurd row
   row-kept (Rule sign ∷ kept) is format row x elements heights some = absurd row
   row-kept (Command from to ∷ kept) is format row x elements heights some = absurd row
-  row-kept (Row keys rules height is_tall entries ∷ kept) is format row x elements heights some =
+  row-kept (Row keys rules height entries ∷ kept) is format row x elements heights some =
       let s = sheet_by rows g in
       let lines = g.tall.lines_left ∷ heights_of kept in
       let first : 0 < get_or x.heights 0 0 = subst (λ (hs : List ℕ). 0 < get_or hs 0 0) (sym heights) some in (

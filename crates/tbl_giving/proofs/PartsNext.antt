@@ -116,8 +116,8 @@ module _ (bytes : List ℕ) (formats : List FormatRow) (rows : KeptRows) (g : Ke
   end-next some none come = end-by (g.bars.boxing.bars == 0) refl some none come
 
   -- in front of a row
-  module _ (keys others height : ℕ) (is_tall : Bool) (entries : List Entry) (kept : List KeptElement)
-      (is : drop g.element rows.elements ≡ Row keys others height is_tall entries ∷ kept) (come : HasCome bytes formats rows (at_place AtElement) room) where
+  module _ (keys others height : ℕ) (entries : List Entry) (kept : List KeptElement)
+      (is : drop g.element rows.elements ≡ Row keys others height entries ∷ kept) (come : HasCome bytes formats rows (at_place AtElement) room) where
     abbrev row-of : List FormatRow → Element
     row-of rules = OneRow rules (row_at formats keys) (fields_of bytes (row_at formats keys) entries)
 
@@ -128,7 +128,7 @@ module _ (bytes : List ℕ) (formats : List FormatRow) (rows : KeptRows) (g : Ke
         ≡ (if t then [] else OneRule Single ∷ []) ++ row-of (keys_left formats g.tall.band) ∷ behind
     row-left t none =
         ap (λ (es : List KeptElement). boxed_now g.bars.boxing bytes formats (wholes_left g.tall.band) (keys_left formats g.tall.band) es) is
-        ∙ row-split g.bars.boxing bytes formats t (wholes_left g.tall.band) none (keys_left formats g.tall.band) keys others height is_tall entries kept
+        ∙ row-split g.bars.boxing bytes formats t (wholes_left g.tall.band) none (keys_left formats g.tall.band) keys others height entries kept
 
     pub whole-next : (wholes_left g.tall.band == 0) ≡ false → RuleNext bytes formats rows g AtElement InFront (Some Single) room
     whole-next some =
@@ -172,7 +172,7 @@ module _ (bytes : List ℕ) (formats : List FormatRow) (rows : KeptRows) (g : Ke
         ap (λ (es : List KeptElement). boxed_now g.bars.boxing bytes formats 0 [] es) is in
         let heights : g.tall.lines_left ∷ heights_of kept ≡ height ∷ heights_of kept =
         ap (λ (es : List KeptElement). heights_now g.tall.lines_left es) (sym is) ∙ front.whole ∙ ap (λ (es : List KeptElement). heights_of es) is in
-        let high : 0 < height = each-at IsHigh rows.elements g.element (Row keys others height is_tall entries) kept come.drawn.high is in
+        let high : 0 < height = each-at IsHigh rows.elements g.element (Row keys others height entries) kept come.drawn.high is in
         let lines : g.tall.lines_left ≡ height = ap (λ (hs : List ℕ). get_or hs 0 0) heights in
         let comes = subst (λ (es : List Element). Comes bytes formats s g.tall x.heights x.cells x.above es) elements front.comes in
         still-come bytes formats rows (at_place AtElement) room OnRow g.tall come refl refl (left ∙ sym elements) (sym come.heights)

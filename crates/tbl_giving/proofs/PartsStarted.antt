@@ -1,5 +1,5 @@
 -- A picture with cells of several rows, of which nothing was given.
-use Rattle.std.proofs.Common.{◌≡◌, ℕ, zero, suc, ◌+◌, ◌-◌, ◌≤◌, ◌<◌, max, Bool, true, false, List, [], ◌∷◌, ◌++◌, drop, get_or, length, map, refl, sym, ap, subst, ◌∙◌, arith, if◌then◌else◌, ◌==◌}
+use Rattle.std.proofs.Common.{◌≡◌, ℕ, zero, suc, ◌-◌, ◌≤◌, ◌<◌, max, Bool, true, false, List, [], ◌∷◌, ◌++◌, drop, get_or, length, map, refl, sym, ap, subst, ◌∙◌, arith, if◌then◌else◌, ◌==◌}
 use Rattle.std.specs.List.{AllByRecursion}
 use Rattle.tbl_format.specs.Format.{FormatRow}
 use Rattle.tbl_format.specs.RowsServed.{row_at}
@@ -31,7 +31,7 @@ high-behind : (bytes : List ℕ) (formats : List FormatRow) (is_inside : Bool) (
     (kept : List KeptElement) → heights_of kept ≡ heights_behind is_inside columns above left rules (elements_of bytes formats kept)
     → AllByRecursion IsHigh kept
 high-behind bytes formats is_inside columns above left rules [] is = tt
-high-behind bytes formats is_inside columns above left rules (Row keys others height is_tall entries ∷ kept) is =
+high-behind bytes formats is_inside columns above left rules (Row keys others height entries ∷ kept) is =
     let format = row_at formats keys in
     let fields = fields_of bytes format entries in
     let all = elements_of bytes formats kept in
@@ -45,6 +45,11 @@ high-behind bytes formats is_inside columns above left rules (Rule sign ∷ kept
     (tt, high-behind bytes formats is_inside columns above left (suc rules) kept is)
 high-behind bytes formats is_inside columns above left rules (Command from to ∷ kept) is =
     (tt, high-behind bytes formats is_inside columns above left rules kept is)
+
+pub all-high : (bytes : List ℕ) (formats : List FormatRow) (is_inside : Bool) (rows : KeptRows) → RowsLaid bytes formats is_inside rows
+    → AllByRecursion IsHigh rows.elements
+all-high bytes formats is_inside rows laid =
+    high-behind bytes formats is_inside (length rows.columns) [] [] 0 rows.elements laid.heights
 
 module _ (bytes : List ℕ) (formats : List FormatRow) (rows : KeptRows) (bars : Bars) (width : ℕ) (tall : KeptTall) where
   abbrev s : Sheet
@@ -143,7 +148,7 @@ module _ (bytes : List ℕ) (formats : List FormatRow) (rows : KeptRows) (bars :
         drawn = record {
           laid = laid;
           lie = lie;
-          high = high-behind bytes formats bars.boxing.is_inside (length rows.columns) [] [] 0 rows.elements laid.heights;
+          high = all-high bytes formats bars.boxing.is_inside rows laid;
           narrow = narrow;
           wide = wide;
           places = places;

@@ -1,5 +1,5 @@
 -- Behind a line of a row: another one begins, or the next row comes.
-use Rattle.std.proofs.Common.{◌≡◌, ℕ, suc, ◌+◌, ◌-◌, ◌<◌, Bool, List, [], ◌∷◌, drop, length, map, refl, sym, ap, subst, ◌∙◌, arith}
+use Rattle.std.proofs.Common.{◌≡◌, ℕ, suc, ◌+◌, ◌-◌, ◌<◌, List, [], ◌∷◌, drop, length, map, refl, sym, ap, subst, ◌∙◌, arith}
 use Rattle.tbl_format.specs.Format.{FormatRow}
 use Rattle.tbl_format.specs.RowsServed.{row_at}
 use Rattle.tbl_kept.specs.Rows.{Command, KeptElement, KeptRows, Row, Rule}
@@ -21,19 +21,17 @@ record FirstRow (formats : List FormatRow) (format : FormatRow) (all : List Kept
   pub keys : ℕ
   pub others : ℕ
   pub height : ℕ
-  pub is_tall : Bool
   pub entries : List Entry
   pub kept : List KeptElement
-  pub is : all ≡ Row keys others height is_tall entries ∷ kept
+  pub is : all ≡ Row keys others height entries ∷ kept
   pub serves : format ≡ row_at formats keys
 
 first-row : (formats : List FormatRow) (format : FormatRow) (all : List KeptElement) → IsRowOf formats format all → FirstRow formats format all
 first-row formats format [] row = absurd row
-first-row formats format (Row keys others height is_tall entries ∷ kept) row = record {
+first-row formats format (Row keys others height entries ∷ kept) row = record {
   keys = keys;
   others = others;
   height = height;
-  is_tall = is_tall;
   entries = entries;
   kept = kept;
   is = refl;
@@ -54,14 +52,14 @@ module _ (bytes : List ℕ) (formats : List FormatRow) (rows : KeptRows) (g : Ke
   first = first-row formats come.stands.format (drop g.element rows.elements) come.stands.row
 
   pub row-within : g.element < length rows.elements
-  row-within = drop-within g.element rows.elements (Row first.keys first.others first.height first.is_tall first.entries) first.kept first.is
+  row-within = drop-within g.element rows.elements (Row first.keys first.others first.height first.entries) first.kept first.is
 
   pub line-another : (tall : KeptTall) → RowStands bytes (sheet_by rows g) tall come.stands.format (map behind_line x.cells) come.stands.more
       → 0 < tall.lines_left → tall.come ≡ g.tall.come → tall.room ≡ g.tall.room
       → PartCame bytes formats rows on (record g { place = OnRow; tall = tall }) room
   line-another tall stands some ended same =
       let more : come.stands.more ≡ suc (come.stands.more - 1) = omega (arith, some, stands.height) in
-      another bytes formats rows g room come first.keys first.others first.height first.is_tall first.entries first.kept first.is tall (come.stands.more - 1)
+      another bytes formats rows g room come first.keys first.others first.height first.entries first.kept first.is tall (come.stands.more - 1)
       more ended same
       (subst (λ (n : ℕ). RowStands bytes (sheet_by rows g) tall come.stands.format (map behind_line x.cells) n) more stands)
 
@@ -75,7 +73,7 @@ module _ (bytes : List ℕ) (formats : List FormatRow) (rows : KeptRows) (g : Ke
   line-last mid tall stands none ends hands ended same =
       let more : come.stands.more ≡ 0 = sym stands.height ∙ none in
       let one = subst (λ (n : ℕ). RowStands bytes (sheet_by rows g) g.tall come.stands.format x.cells (suc n)) more come.stands.stands in
-      row-ended bytes formats rows g room come first.keys first.others first.height first.is_tall first.entries first.kept first.is mid tall more hands
+      row-ended bytes formats rows g room come first.keys first.others first.height first.entries first.kept first.is mid tall more hands
       (subst (λ (f : FormatRow). RowEnded bytes (sheet_by rows g) mid (map behind_line x.cells) (OfRow x.cells (bars_at_end (length rows.columns) f))) first.serves (ends one))
       ended same
 

@@ -1,5 +1,5 @@
 -- Behind a line of a row of a picture with cells of several rows.
-use Rattle.std.proofs.Common.{◌≡◌, ℕ, zero, suc, ◌+◌, ◌-◌, ◌<◌, Bool, true, List, [], ◌∷◌, drop, get_or, length, map, sym, ap, subst, ◌∙◌, arith}
+use Rattle.std.proofs.Common.{◌≡◌, ℕ, zero, suc, ◌+◌, ◌-◌, ◌<◌, true, List, [], ◌∷◌, drop, get_or, length, map, sym, ap, subst, ◌∙◌, arith}
 use Rattle.tbl_format.specs.Format.{FormatRow}
 use Rattle.tbl_format.specs.RowsServed.{row_at}
 use Rattle.tbl_kept.specs.Rows.{Command, KeptElement, KeptRows, Row, elements_of, fields_of, heights_of}
@@ -28,8 +28,8 @@ drop-at (suc n) (y ∷ xs) x rest d is = drop-at n xs x rest d is
 
 -- the row behind one that has ended comes
 abbrev pub HandsOn : List ℕ → List FormatRow → KeptRows → ℕ → KeptTall → KeptTall → Sheet → Type 0
-HandsOn bytes formats rows element old new s = (cells : List Left) (above : Beside) (keys rules height : ℕ) (is_tall : Bool) (entries : List Entry)
-    → element_at rows.elements element ≡ Row keys rules height is_tall entries → RowEnded bytes s old cells above
+HandsOn bytes formats rows element old new s = (cells : List Left) (above : Beside) (keys rules height : ℕ) (entries : List Entry)
+    → element_at rows.elements element ≡ Row keys rules height entries → RowEnded bytes s old cells above
     → let more = drop (suc element) rows.elements in
     let rest = boxed_from s.bars.boxing true (elements_of bytes formats more) in
     Comes bytes formats s new (heights_kept more) (cells_next (length s.columns) (row_at formats keys).keys cells (heights_kept more) rest) above rest
@@ -41,8 +41,8 @@ module _ (bytes : List ℕ) (formats : List FormatRow) (rows : KeptRows) (g : Ke
   abbrev s : Sheet
   s = sheet_by rows g
 
-  module _ (come : HasCome bytes formats rows on room) (keys others height : ℕ) (is_tall : Bool) (entries : List Entry) (kept : List KeptElement)
-      (is : drop g.element rows.elements ≡ Row keys others height is_tall entries ∷ kept) where
+  module _ (come : HasCome bytes formats rows on room) (keys others height : ℕ) (entries : List Entry) (kept : List KeptElement)
+      (is : drop g.element rows.elements ≡ Row keys others height entries ∷ kept) where
     abbrev x : ToCome
     x = coming bytes formats rows on
 
@@ -95,10 +95,10 @@ module _ (bytes : List ℕ) (formats : List FormatRow) (rows : KeptRows) (g : Ke
     row-ended mid tall none hands ended come_more same =
         let new = record g { element = suc g.element; place = AtElement; tall = tall } in
         let boxing = g.bars.boxing in
-        let next : drop (suc g.element) rows.elements ≡ kept = drop-next g.element rows.elements (Row keys others height is_tall entries) kept is in
+        let next : drop (suc g.element) rows.elements ≡ kept = drop-next g.element rows.elements (Row keys others height entries) kept is in
         let above = OfRow x.cells (bars_at_end (length rows.columns) (row_at formats keys)) in
-        let at = drop-at g.element rows.elements (Row keys others height is_tall entries) kept (Command 0 0) is in
-        let comes = hands (map behind_line x.cells) above keys others height is_tall entries at ended in
+        let at = drop-at g.element rows.elements (Row keys others height entries) kept (Command 0 0) is in
+        let comes = hands (map behind_line x.cells) above keys others height entries at ended in
         let comes_kept = subst (λ (es : List KeptElement). let all = boxed_from boxing true (elements_of bytes formats es) in
         Comes bytes formats s tall (heights_kept es) (cells_next (length s.columns) (row_at formats keys).keys (map behind_line x.cells) (heights_kept es) all) above all)
         next comes in
@@ -110,7 +110,7 @@ module _ (bytes : List ℕ) (formats : List FormatRow) (rows : KeptRows) (g : Ke
         ap (λ (es : List KeptElement). heights_now tall.lines_left es) next
         ∙ ap (λ (n : ℕ). heights_now n kept) front.height ∙ fresh-heights boxing bytes formats true kept in
         part-came bytes formats rows on room (suc g.element) AtElement tall come has
-        (drop-within g.element rows.elements (Row keys others height is_tall entries) kept is) (omega (arith, come_more, come.ended)) same
+        (drop-within g.element rows.elements (Row keys others height entries) kept is) (omega (arith, come_more, come.ended)) same
         (ap (λ (es : List KeptElement). boxed_now boxing bytes formats (wholes_left tall.band) (keys_left formats tall.band) es) next
         ∙ ap (λ (n : ℕ). boxed_now boxing bytes formats n (keys_left formats tall.band) kept) front.wholes
         ∙ ap (λ (rs : List FormatRow). boxed_now boxing bytes formats (wholes_in_front rest) rs kept) front.rules

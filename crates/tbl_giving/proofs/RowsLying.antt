@@ -8,7 +8,7 @@ use Rattle.tbl_tall.specs.TallRows.{ElementLies, RowsLie}
 all-lie : (bytes : List ℕ) (formats : List FormatRow) (columns : ℕ) (elements : List KeptElement) → AllByRecursion (ElementLaid bytes formats columns) elements
     → AllByRecursion (ElementLies formats columns) elements
 all-lie bytes formats columns [] laid = tt
-all-lie bytes formats columns (Row keys rules height is_tall entries ∷ elements) laid =
+all-lie bytes formats columns (Row keys rules height entries ∷ elements) laid =
     (record { serves = laid.0.serves; in_front = laid.0.in_front; cells = laid.0.cells }, all-lie bytes formats columns elements laid.1)
 all-lie bytes formats columns (Rule sign ∷ elements) laid = (tt, all-lie bytes formats columns elements laid.1)
 all-lie bytes formats columns (Command from to ∷ elements) laid = (tt, all-lie bytes formats columns elements laid.1)

@@ -36,7 +36,7 @@ module _ (s : Sheet) where
     pub rules-placed : (elements : List KeptElement) → AllByRecursion (ElementLaid bytes formats columns) elements
         → AllByRecursion (RulesPlaced formats s) elements
     rules-placed [] laid = tt
-    rules-placed (Row keys rules height is_tall entries ∷ elements) laid =
+    rules-placed (Row keys rules height entries ∷ elements) laid =
         let P : FormatRow → Type 0 = HasPlaces s.bars.front s.columns in (
           placed (rows_in_front formats keys rules) (each-take P rules (drop (keys - rules) formats) (each-drop P (keys - rules) formats all))
               (each-take HasCells rules (drop (keys - rules) formats) (each-drop HasCells (keys - rules) formats cells)) laid.0.ruled,

@@ -121,7 +121,7 @@ module _ (bytes : List ℕ) (formats : List FormatRow) (rows : KeptRows) (g : Ke
   element-by : (kept : List KeptElement) → drop g.element rows.elements ≡ kept → IsRuleFirst kept
       → HasCome bytes formats rows (record g { place = OnRule OfElement }) room → PartAt OfElement (suc g.element) AtElement
   element-by [] is first come = absurd first
-  element-by (Row keys rules height is_tall entries ∷ kept) is first come = absurd first
+  element-by (Row keys rules height entries ∷ kept) is first come = absurd first
   element-by (Command from to ∷ kept) is first come = absurd first
   element-by (Rule sign ∷ kept) is first come =
       let x = coming bytes formats rows (record g { place = OnRule OfElement }) in
@@ -149,7 +149,7 @@ module _ (bytes : List ℕ) (formats : List FormatRow) (rows : KeptRows) (g : Ke
   front-by [] is first come = absurd first
   front-by (Rule sign ∷ kept) is first come = absurd first
   front-by (Command from to ∷ kept) is first come = absurd first
-  front-by (Row keys others height is_tall entries ∷ kept) is first come =
+  front-by (Row keys others height entries ∷ kept) is first come =
       let x = coming bytes formats rows (record g { place = OnRule InFront }) in
       let next = new bytes formats rows g room InFront tall come passes ended same in
       let boxing = g.bars.boxing in
@@ -158,7 +158,7 @@ module _ (bytes : List ℕ) (formats : List FormatRow) (rows : KeptRows) (g : Ke
       let elements = come.elements ∙ ap (λ (es : List KeptElement). boxed_now boxing bytes formats wholes rules es) is in
       in-front bytes formats rows g room InFront tall come passes ended same g.element (omega arith) come.element
       (ap (λ (es : List KeptElement). boxed_now boxing bytes formats (wholes_left tall.band) (keys_left formats tall.band) es) is
-      ∙ behind-in-front boxing bytes formats (wholes == 0) wholes refl rules keys others height is_tall entries kept come.stands.rest come.stands.line
+      ∙ behind-in-front boxing bytes formats (wholes == 0) wholes refl rules keys others height entries kept come.stands.rest come.stands.line
       (subst (λ (es : List Element). RuleComes es come.stands.line come.stands.rest) elements come.stands.rule)
       (wholes_left tall.band) (keys_left formats tall.band) next.wholes next.rules)
       refl refl

@@ -51,8 +51,8 @@ module _ (bytes : List ℕ) (formats : List FormatRow) (rows : KeptRows) (g : Ke
     whole-by [] kept_is row some = absurd row
     whole-by (Rule sign ∷ kept) kept_is row some = absurd row
     whole-by (Command from to ∷ kept) kept_is row some = absurd row
-    whole-by (Row keys others height is_tall entries ∷ kept) kept_is row some =
-        whole-next bytes formats rows g w.room keys others height is_tall entries kept kept_is here some
+    whole-by (Row keys others height entries ∷ kept) kept_is row some =
+        whole-next bytes formats rows g w.room keys others height entries kept kept_is here some
 
     pub whole-at : IsRow (drop g.element rows.elements) → (wholes_left g.tall.band == 0) ≡ false
         → RuleNext bytes formats rows g AtElement InFront (Some Single) w.room
@@ -63,8 +63,8 @@ module _ (bytes : List ℕ) (formats : List FormatRow) (rows : KeptRows) (g : Ke
     keys-by [] kept_is row none more = absurd row
     keys-by (Rule sign ∷ kept) kept_is row none more = absurd row
     keys-by (Command from to ∷ kept) kept_is row none more = absurd row
-    keys-by (Row keys others height is_tall entries ∷ kept) kept_is row none more =
-        rule-keys-next bytes formats rows g w.room keys others height is_tall entries kept kept_is here none more
+    keys-by (Row keys others height entries ∷ kept) kept_is row none more =
+        rule-keys-next bytes formats rows g w.room keys others height entries kept kept_is here none more
 
     pub keys-at : IsRow (drop g.element rows.elements) → wholes_left g.tall.band ≡ 0
         → nat_lt g.tall.band.at (g.tall.band.wholes + g.tall.band.count) ≡ true → RuleNext bytes formats rows g AtElement InFront None w.room
@@ -76,8 +76,8 @@ module _ (bytes : List ℕ) (formats : List FormatRow) (rows : KeptRows) (g : Ke
     line-by [] kept_is row none more = absurd row
     line-by (Rule sign ∷ kept) kept_is row none more = absurd row
     line-by (Command from to ∷ kept) kept_is row none more = absurd row
-    line-by (Row keys others height is_tall entries ∷ kept) kept_is row none more =
-        row-next bytes formats rows g w.room keys others height is_tall entries kept kept_is here none more
+    line-by (Row keys others height entries ∷ kept) kept_is row none more =
+        row-next bytes formats rows g w.room keys others height entries kept kept_is here none more
 
     pub line-at : IsRow (drop g.element rows.elements) → wholes_left g.tall.band ≡ 0
         → nat_lt g.tall.band.at (g.tall.band.wholes + g.tall.band.count) ≡ false

@@ -10,6 +10,7 @@ use Rattle.tbl_kept.specs.Joined.{RiseWithin, unjoined}
 use Rattle.tbl_kept.specs.Rows.{KeptRows, RowsLaid, elements_of}
 use Rattle.tbl_kept.specs.TableText.{KeptText, block_of}
 use Rattle.tbl_layout.specs.declared.bars.Bars.{Bars}
+use Rattle.tbl_lines.specs.CutEntries.{cut_entries}
 use Rattle.tbl_lines.specs.PictureLeft.{table_lines}
 use Rattle.tbl_pieces.specs.PieceQueue.{KeptPieces, bytes_left}
 use Rattle.tbl_pieces.specs.Pieces.{AreWithin}
@@ -56,6 +57,11 @@ pub record IsLaidOut (bars : Bars) (width : ℕ) (t : KeptText) (r : KeptRows) (
 abbrev pub lines_laid : Bars → ℕ → KeptText → KeptRows → KeptFormat → List ℕ
 lines_laid bars width t r k =
     table_lines (record { bars = bars; width = width; columns = r.columns }) (elements_of (block_of t) (all_rows k.format) r.elements)
+
+-- and how many of its entries are cut
+abbrev pub cuts_laid : Bars → ℕ → KeptText → KeptRows → KeptFormat → ℕ
+cuts_laid bars width t r k =
+    cut_entries (record { bars = bars; width = width; columns = r.columns }) (elements_of (block_of t) (all_rows k.format) r.elements)
 
 -- what the walk is to give, or that line by line
 abbrev pub lines_left : KeptText → KeptRows → KeptFormat → KeptWalk → List ℕ

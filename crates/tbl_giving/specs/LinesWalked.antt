@@ -3,12 +3,12 @@ use Rattle.std.specs.Prelude.{◌≡◌, ℕ, suc, ◌+◌, ◌-◌, ◌*◌, �
 use Rattle.std.specs.List.{AllByRecursion, slice_range}
 use Rattle.tbl_format.specs.Format.{FormatRow}
 use Rattle.tbl_format.specs.RowsServed.{row_at}
-use Rattle.tbl_kept.specs.Rows.{Command, KeptElement, KeptRows, Row, RowsLaid, Rule, elements_of, fields_of, heights_of, rows_in_front}
+use Rattle.tbl_kept.specs.Rows.{Command, KeptElement, KeptRows, Row, RowsLaid, Rule, elements_of, fields_of, heights_of}
 use Rattle.tbl_layout.specs.Entries.{Command as OneCommand, Element, Row as OneRow, Rule as OneRule}
 use Rattle.tbl_layout.specs.declared.bars.Bars.{Bars}
 use Rattle.tbl_layout.specs.declared.data_lines.RuleSign.{RuleSign}
 use Rattle.tbl_layout.specs.declared.data_lines.RuleSign.TheVariants.{Single}
-use Rattle.tbl_lines.specs.PictureLines.{OfKeys, RuleLine, Sheet, boxed, boxed_from, frame_rules, frame_sign}
+use Rattle.tbl_lines.specs.PictureLines.{RuleLine, Sheet, boxed, boxed_from, frame_rules, frame_sign}
 use Rattle.tbl_lines.specs.RowsWalked.{AreNarrow}
 use Rattle.tbl_lines.specs.RulePlaces.{HavePlaces}
 use Rattle.tbl_options.specs.declared.options.Boxing.{Boxing}
@@ -20,7 +20,7 @@ use Rattle.tbl_giving.specs.declared.line_by_line.RuleAt.{RuleAt}
 use Rattle.tbl_giving.specs.declared.line_by_line.RuleAt.TheVariants.{Element as OfElement, End as OfEnd, InFront, Top as OfTop}
 use Rattle.tbl_giving.specs.declared.line_by_line.Place.{Place}
 use Rattle.tbl_giving.specs.declared.line_by_line.Place.TheVariants.{AtElement, AtEnd, AtTop, OnRow, OnRule}
-use Rattle.tbl_tall.specs.BandLaws.{HasLinePlaces}
+pub use Rattle.tbl_giving.specs.CutsCounted.{IsHigh, RulesPlaced}
 use Rattle.tbl_tall.specs.Bands.{keys_left, wholes_left}
 use Rattle.tbl_line_cells.specs.LinesDrawn.{Draws, laid_row}
 use Rattle.tbl_tall.specs.TallRows.{Comes, KeptTall, RowStands, RowsLie, RuleComes, SignIs}
@@ -43,7 +43,7 @@ sheet_by rows g = record { bars = g.bars; width = g.width; columns = rows.column
 -- rows of rule keys
 abbrev pub boxed_now : Boxing → List ℕ → List FormatRow → ℕ → List FormatRow → List KeptElement → List Element
 boxed_now boxing bytes formats wholes rules [] = frame_rules boxing
-boxed_now boxing bytes formats wholes rules (Row keys others height is_tall entries ∷ elements) =
+boxed_now boxing bytes formats wholes rules (Row keys others height entries ∷ elements) =
     (if wholes == 0 then [] else OneRule Single ∷ [])
     ++ OneRow rules (row_at formats keys) (fields_of bytes (row_at formats keys) entries) ∷ boxed_from boxing true (elements_of bytes formats elements)
 boxed_now boxing bytes formats wholes rules (Rule sign ∷ elements) = OneRule sign ∷ boxed_now boxing bytes formats (wholes - 1) rules elements
@@ -53,7 +53,7 @@ boxed_now boxing bytes formats wholes rules (Command from to ∷ elements) =
 -- and their rows' heights, where the first row has so many lines still
 abbrev pub heights_now : ℕ → List KeptElement → List ℕ
 heights_now lines [] = []
-heights_now lines (Row keys rules height is_tall entries ∷ elements) = lines ∷ heights_of elements
+heights_now lines (Row keys rules height entries ∷ elements) = lines ∷ heights_of elements
 heights_now lines (Rule sign ∷ elements) = heights_now lines elements
 heights_now lines (Command from to ∷ elements) = heights_now lines elements
 
@@ -130,19 +130,19 @@ lines_to_come bytes formats rows g w = lines_to_come_by (is_on_line g.place) byt
 -- the first element is a rule; is a row; or there is none
 abbrev pub IsRuleFirst : List KeptElement → Type 0
 IsRuleFirst [] = ⊥
-IsRuleFirst (Row keys rules height is_tall entries ∷ elements) = ⊥
+IsRuleFirst (Row keys rules height entries ∷ elements) = ⊥
 IsRuleFirst (Rule sign ∷ elements) = Unit {0}
 IsRuleFirst (Command from to ∷ elements) = ⊥
 
 abbrev pub IsRowOf : List FormatRow → FormatRow → List KeptElement → Type 0
 IsRowOf formats format [] = ⊥
-IsRowOf formats format (Row keys rules height is_tall entries ∷ elements) = format ≡ row_at formats keys
+IsRowOf formats format (Row keys rules height entries ∷ elements) = format ≡ row_at formats keys
 IsRowOf formats format (Rule sign ∷ elements) = ⊥
 IsRowOf formats format (Command from to ∷ elements) = ⊥
 
 abbrev pub IsRow : List KeptElement → Type 0
 IsRow [] = ⊥
-IsRow (Row keys rules height is_tall entries ∷ elements) = Unit {0}
+IsRow (Row keys rules height entries ∷ elements) = Unit {0}
 IsRow (Rule sign ∷ elements) = ⊥
 IsRow (Command from to ∷ elements) = ⊥
 
@@ -195,18 +195,6 @@ StandsNext AtEnd bytes formats rows g x = Unit {0}
 abbrev pub UnderWayIf : Bool → List ℕ → KeptLineByLine → KeptWalk → Type 0
 UnderWayIf false bytes g w = Unit {0}
 UnderWayIf true bytes g w = LineUnderWay bytes g w
-
--- each row has a line
-abbrev pub IsHigh : KeptElement → Type 0
-IsHigh (Row keys rules height is_tall entries) = 0 < height
-IsHigh (Rule sign) = Unit {0}
-IsHigh (Command from to) = Unit {0}
-
--- each row of rule keys in front of a row has places for its bars
-abbrev pub RulesPlaced : List FormatRow → Sheet → KeptElement → Type 0
-RulesPlaced formats s (Row keys rules height is_tall entries) = AllByRecursion (λ (f : FormatRow). HasLinePlaces s (OfKeys f)) (rows_in_front formats keys rules)
-RulesPlaced formats s (Rule sign) = Unit {0}
-RulesPlaced formats s (Command from to) = Unit {0}
 
 -- the rows of a table are laid out for a picture, with room for it
 pub record CanDraw (bytes : List ℕ) (formats : List FormatRow) (rows : KeptRows) (bars : Bars) (width columns_kept columns_walked : ℕ) : Type 0 where

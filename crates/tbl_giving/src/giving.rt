@@ -13,6 +13,7 @@ ghost use Rattle.tbl_giving.specs.declared.giving.Rest.TheVariants.{Lines};
 ghost use Rattle.tbl_kept.specs.Rows.{KeptRows};
 ghost use Rattle.tbl_kept.specs.TableText.{KeptText, block_of};
 
+mod cuts;
 mod refilling;
 
 use crate::frame::{FRAME, write_frame};

@@ -2,6 +2,7 @@
 //! were read (Lesk, "Tbl - A Program to Format Tables").
 #![tactic(auto)]
 
+pub mod cuts;
 pub mod frame;
 pub mod giving;
 pub mod line_by_line;

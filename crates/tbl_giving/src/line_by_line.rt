@@ -13,6 +13,7 @@ ghost use Rattle.tbl_lines.specs.PictureLines.{Sheet};
 
 mod on_lines;
 
+use crate::cuts::{Drawn, count_cut};
 use roff_escape::OpenEscapes;
 use std::alloc::{AllocError, Global};
 use std::marker::Model;
@@ -145,10 +146,10 @@ impl LineByLine {
         match self.place {
             Place::AtTop => {
                 let sign = frame_sign(self.bars.boxing.bars);
-                self.begin_rule(walk, bytes, rows, format, Some(sign), RuleAt::Top);
+                self.begin_rule(walk, escapes, bytes, rows, format, Some(sign), RuleAt::Top);
                 true
             }
-            Place::AtElement => self.step_at_element(walk, pieces, bytes, rows, format),
+            Place::AtElement => self.step_at_element(walk, pieces, escapes, bytes, rows, format),
             Place::OnRule(at) => {
                 self.step_on_rule(walk, pieces, escapes, bytes, rows, format, at);
                 true
@@ -165,6 +166,7 @@ impl LineByLine {
         &mut self,
         walk: &mut Walk,
         pieces: &mut PieceQueue,
+        escapes: &mut OpenEscapes,
         bytes: &[u8],
         rows: &TableRows,
         format: &FormatRows,
@@ -175,9 +177,10 @@ impl LineByLine {
         ensures step { (frame : List ℕ) → LineStepsIf result bytes.now frame
             (all_rows format.now.format) rows.now self.old self.new walk.old walk.new
             pieces.old pieces.new }
+        ensures escapes { escapes.new.room ≡ escapes.old.room }
     {
         if self.element >= rows.count() {
-            return self.step_behind_all(walk, bytes, rows, format);
+            return self.step_behind_all(walk, escapes, bytes, rows, format);
         }
         match rows.element(self.element) {
             Lent::Command(from, to) => {
@@ -187,11 +190,19 @@ impl LineByLine {
                 true
             }
             Lent::Rule(sign) => {
-                self.begin_rule(walk, bytes, rows, format, Some(sign), RuleAt::Element);
+                self.begin_rule(
+                    walk,
+                    escapes,
+                    bytes,
+                    rows,
+                    format,
+                    Some(sign),
+                    RuleAt::Element,
+                );
                 true
             }
-            Lent::Row(_, _, _, _, _) => {
-                self.step_at_row(walk, bytes, rows, format);
+            Lent::Row(_, _, _, _) => {
+                self.step_at_row(walk, escapes, bytes, rows, format);
                 true
             }
         }
@@ -201,6 +212,7 @@ impl LineByLine {
     fn step_behind_all(
         &mut self,
         walk: &mut Walk,
+        escapes: &mut OpenEscapes,
         bytes: &[u8],
         rows: &TableRows,
         format: &FormatRows,
@@ -208,71 +220,97 @@ impl LineByLine {
         requires place { self.old.place ≡ AtElement }
         requires can { CanGo bytes.now (all_rows format.now.format) rows.now self.old walk.old }
         requires none { drop self.old.element rows.now.elements ≡ [] }
-        ensures { (frame : List ℕ) (pieces : KeptPieces) → LineStepsIf result bytes.now frame
+        ensures step { (frame : List ℕ) (pieces : KeptPieces) → LineStepsIf result bytes.now frame
             (all_rows format.now.format) rows.now self.old self.new walk.old walk.new
             pieces pieces }
+        ensures escapes { escapes.new.room ≡ escapes.old.room }
     {
         let bars = self.bars.boxing.bars;
         if bars == 0 {
             return false;
         }
         let sign = frame_sign(bars);
-        self.begin_rule(walk, bytes, rows, format, Some(sign), RuleAt::End);
+        self.begin_rule(walk, escapes, bytes, rows, format, Some(sign), RuleAt::End);
         true
     }
 
     /// A row comes next, or a line of rules in front of it.
-    fn step_at_row(&mut self, walk: &mut Walk, bytes: &[u8], rows: &TableRows, format: &FormatRows)
+    fn step_at_row(
+        &mut self,
+        walk: &mut Walk,
+        escapes: &mut OpenEscapes,
+        bytes: &[u8],
+        rows: &TableRows,
+        format: &FormatRows,
+    )
         requires place { self.old.place ≡ AtElement }
         requires can { CanGo bytes.now (all_rows format.now.format) rows.now self.old walk.old }
         requires row { IsRow (drop self.old.element rows.now.elements) }
-        ensures { (frame : List ℕ) (pieces : KeptPieces) → LineSteps bytes.now frame
+        ensures step { (frame : List ℕ) (pieces : KeptPieces) → LineSteps bytes.now frame
             (all_rows format.now.format) rows.now self.old self.new walk.old walk.new
             pieces pieces }
+        ensures escapes { escapes.new.room ≡ escapes.old.room }
     {
         let wholes = self.tall.wholes_left();
         if wholes > 0 {
             let sign = Some(RuleSign::Single);
-            return self.begin_rule(walk, bytes, rows, format, sign, RuleAt::InFront);
+            return self.begin_rule(walk, escapes, bytes, rows, format, sign, RuleAt::InFront);
         }
-        self.step_at_keys(walk, bytes, rows, format);
+        self.step_at_keys(walk, escapes, bytes, rows, format);
     }
 
     /// A row comes next, or a line of rule keys in front of it.
-    fn step_at_keys(&mut self, walk: &mut Walk, bytes: &[u8], rows: &TableRows, format: &FormatRows)
+    fn step_at_keys(
+        &mut self,
+        walk: &mut Walk,
+        escapes: &mut OpenEscapes,
+        bytes: &[u8],
+        rows: &TableRows,
+        format: &FormatRows,
+    )
         requires place { self.old.place ≡ AtElement }
         requires can { CanGo bytes.now (all_rows format.now.format) rows.now self.old walk.old }
         requires row { IsRow (drop self.old.element rows.now.elements) }
         requires none { wholes_left self.old.tall.band ≡ 0 }
-        ensures { (frame : List ℕ) (pieces : KeptPieces) → LineSteps bytes.now frame
+        ensures step { (frame : List ℕ) (pieces : KeptPieces) → LineSteps bytes.now frame
             (all_rows format.now.format) rows.now self.old self.new walk.old walk.new
             pieces pieces }
+        ensures escapes { escapes.new.room ≡ escapes.old.room }
     {
         if self.tall.has_rule() {
-            return self.begin_rule(walk, bytes, rows, format, None, RuleAt::InFront);
+            return self.begin_rule(walk, escapes, bytes, rows, format, None, RuleAt::InFront);
         }
-        self.begin_row_line(walk, bytes, rows, format);
+        self.begin_row_line(walk, escapes, bytes, rows, format);
     }
 
     /// A line of rules is laid and begins, over the whole picture with a sign, or of rule keys.
     fn begin_rule(
         &mut self,
         walk: &mut Walk,
-        _bytes: &[u8],
+        escapes: &mut OpenEscapes,
+        bytes: &[u8],
         rows: &TableRows,
         format: &FormatRows,
         whole: Option<RuleSign>,
         at: RuleAt,
     )
-        requires come { HasCome _bytes.now (all_rows format.now.format) rows.now
+        requires come { HasCome bytes.now (all_rows format.now.format) rows.now
             (record self.old { place = OnRule at }) walk.old.room }
-        requires sign { SignTold whole _bytes.now (all_rows format.now.format) rows.now
+        requires sign { SignTold whole bytes.now (all_rows format.now.format) rows.now
             (record self.old { place = OnRule at }) }
-        ensures { LineBegins _bytes.now (all_rows format.now.format) rows.now
+        ensures begins { LineBegins bytes.now (all_rows format.now.format) rows.now
             (record self.old { place = OnRule at }) self.new walk.old walk.new }
+        ensures escapes { escapes.new.room ≡ escapes.old.room }
     {
-        self.tall
-            .lay_rule(format, rows.columns(), self.bars, whole, self.width);
+        self.tall.lay_rule(
+            escapes,
+            bytes,
+            format,
+            rows.columns(),
+            self.bars,
+            whole,
+            self.width,
+        );
         walk.begin_line_laid(self.tall.places());
         self.place = Place::OnRule(at);
     }
@@ -281,19 +319,57 @@ impl LineByLine {
     fn begin_row_line(
         &mut self,
         walk: &mut Walk,
-        _bytes: &[u8],
+        escapes: &mut OpenEscapes,
+        bytes: &[u8],
         rows: &TableRows,
         _format: &FormatRows,
     )
-        requires come { HasCome _bytes.now (all_rows _format.now.format) rows.now
+        requires come { HasCome bytes.now (all_rows _format.now.format) rows.now
             (record self.old { place = OnRow }) walk.old.room }
-        ensures { LineBegins _bytes.now (all_rows _format.now.format) rows.now
+        ensures begins { LineBegins bytes.now (all_rows _format.now.format) rows.now
             (record self.old { place = OnRow }) self.new walk.old walk.new }
+        ensures escapes { escapes.new.room ≡ escapes.old.room }
     {
         self.tall
-            .lay_row(rows.columns(), self.bars.boxing, self.width);
+            .lay_row(escapes, bytes, rows.columns(), self.bars, self.width);
         walk.begin_line_laid(self.tall.places());
         self.place = Place::OnRow;
+    }
+}
+
+impl LineByLine {
+    ghost use Rattle.tbl_giving.specs.CutsCounted.{CanCount};
+    ghost use Rattle.tbl_lines.specs.CutEntries.{cut_entries};
+
+    /// In how many entries of the picture something is cut, which has these bars and is so wide.
+    pub fn count_cut(
+        &mut self,
+        escapes: &mut OpenEscapes,
+        bytes: &[u8],
+        rows: &TableRows,
+        format: &FormatRows,
+        bars: Bars,
+        width: usize,
+    ) -> usize
+        requires { CanCount bytes.now (all_rows format.now.format)
+            (record { bars = bars; width = width; columns = rows.now.columns }) rows.now
+            self.old.tall.room }
+        ensures count { let s : Sheet = record {
+          bars = bars;
+          width = width;
+          columns = rows.now.columns;
+        } in
+            result ≡ cut_entries s (elements_of bytes.now (all_rows format.now.format)
+            rows.now.elements) }
+        ensures room { self.new.tall.room ≡ self.old.tall.room }
+    {
+        count_cut(
+            &mut self.tall,
+            escapes,
+            Drawn { bytes, bars, width },
+            rows,
+            format,
+        )
     }
 }
 

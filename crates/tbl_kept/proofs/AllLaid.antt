@@ -1,5 +1,6 @@
--- What stands in a row is laid out, also under keys for which it has no field.
-use Rattle.std.proofs.Common.{◌≡◌, ℕ, zero, suc, ◌+◌, ◌≤◌, Bool, true, false, List, [], ◌∷◌, ◌++◌, length, map, drop, get_or, max, refl, subst, arith}
+-- What stands in a row is laid out, also under keys for which it has no field; it is no more than the row has fields, or keys, and no higher.
+use Rattle.std.proofs.Common.{◌≡◌, ℕ, zero, suc, ◌+◌, ◌≤◌, Bool, true, false, List, [], ◌∷◌, ◌++◌, length, map, drop, get_or, max, refl, subst, arith, length-append}
+use Rattle.std.proofs.lemmas.List.{length-drop}
 use Rattle.std.specs.Prelude.{Option, Some, None}
 use Rattle.tbl_format.specs.Format.{FormatRow}
 use Rattle.tbl_format.specs.declared.format.FormatKey.{FormatKey}
@@ -10,7 +11,7 @@ use Rattle.tbl_layout.specs.RuleKeys.{in_front_of, kind_of_key, under_keys}
 use Rattle.tbl_layout.specs.declared.data_lines.FieldKind.{FieldKind}
 use Rattle.tbl_layout.specs.declared.data_lines.FieldKind.TheVariants.{Above, Repeated, Ruled, Short, Text}
 use Rattle.tbl_layout.specs.declared.entry.Entry.{Entry}
-use Rattle.tbl_kept.specs.Rows.{AreLaid}
+use Rattle.tbl_kept.specs.Rows.{AreLaid, height_of}
 
 -- what stands under keys for which a row has no fields
 abbrev pub under : List FormatKey → List Entry
@@ -68,6 +69,21 @@ module _ (bytes : List ℕ) (format : FormatRow) where
       subst (λ (n : ℕ). IsLaid bytes (key_at format n) (get_or (all_entries format entries) cell no_entry)) same
       (laid-from 0 (all_entries format entries) cell (all-laid entries laid))
 
+-- it is no more than the row has fields, or keys
+front-short : (kind : Option FieldKind) (entries : List Entry) → length (in_front_of said_by_key no_entry kind entries) ≤ suc (length entries)
+front-short (Some kind) entries = omega arith
+front-short None [] = omega arith
+front-short None (e ∷ entries) = omega arith
+
+under-short : (keys : List FormatKey) → length (under keys) ≤ length keys
+under-short [] = omega arith
+under-short (k ∷ keys) = omega (arith, front-short (kind_of_key k.key) (under keys), under-short keys)
+
+pub all-short : (format : FormatRow) (entries : List Entry) → length (all_entries format entries) ≤ max (length entries) (length format.keys)
+all-short format entries =
+    let keys = drop (length entries) format.keys in
+    omega (arith, length-append entries (under keys), under-short keys, length-drop (length entries) format.keys)
+
 -- and no higher than its fields
 abbrev pub highest : List Entry → ℕ
 highest entries = greatest (map (λ e. lines_by e.kind) entries)
@@ -103,3 +119,11 @@ pub highest_of-more : (count : ℕ) (entries more : List Entry) → length entri
 highest_of-more count [] more short low = omega (arith, highest_of-low count more low)
 highest_of-more zero (e ∷ entries) more short low = absurd (omega (arith, short))
 highest_of-more (suc count) (e ∷ entries) more short low = omega (arith, highest_of-more count entries more (omega (arith, short)) low)
+
+low-append : (entries more : List Entry) → highest more ≤ 1 → max 1 (highest (entries ++ more)) ≡ max 1 (highest entries)
+low-append [] more low = omega (arith, low)
+low-append (e ∷ entries) more low = omega (arith, low-append entries more low)
+
+pub all-high : (format : FormatRow) (entries : List Entry) → height_of (all_entries format entries) ≡ height_of entries
+all-high format entries =
+    let keys = drop (length entries) format.keys in low-append entries (under keys) (under-low keys)

@@ -9,7 +9,7 @@ use Rattle.tbl_format.specs.declared.format.Asked.{Asked}
 use Rattle.tbl_format.specs.declared.format.FormatKey.{FormatKey}
 use Rattle.tbl_format.specs.declared.format.Key.{Key}
 use Rattle.tbl_format.specs.declared.format.Key.TheVariants.{Left}
-use Rattle.tbl_layout.specs.Columns.{alone, columns_from, entries_of, in_strip, left_of, needing, needs_of, right_of, row_stands, split_width, stands, with_bars}
+use Rattle.tbl_layout.specs.Columns.{alone, columns_from, counted, entries_of, in_strip, left_of, needing, needs_of, right_of, row_stands, split_width, stands, with_bars}
 use Rattle.tbl_layout.specs.KeptEntries.{content_of, stands_by, stands_of}
 use Rattle.tbl_layout.specs.Spans.{measure_of}
 use Rattle.tbl_layout.specs.declared.bars.Bars.{Bars}
@@ -24,7 +24,7 @@ use Rattle.tbl_layout.specs.declared.entry.EntryKind.{EntryKind}
 use Rattle.tbl_layout.specs.declared.entry.EntryKind.TheVariants.{Above as AboveKind, Block as BlockKind, Repeated as RepeatedKind, Ruled as RuledKind, Short as ShortKind, Split as SplitKind, Text as TextKind}
 use Rattle.tbl_layout.proofs.RowStands.{stands-completed}
 use Rattle.tbl_kept.specs.Rows.{Command, ElementKept, KeptElement, Row, Rule, columns_holding, elements_of, fields_of, held_by, stands_in}
-use Rattle.tbl_kept.specs.RowsLaying.{AreOpened, IsOpenedKind, all_held, block_stands, block_stands_by, holding_blocks, laid_by, laid_element, laid_entries, laid_entry, laid_row}
+use Rattle.tbl_kept.specs.RowsLaying.{AreOpened, IsOpenedKind, all_held, block_stands, block_stands_by, counted_if, holding_blocks, laid_by, laid_element, laid_entries, laid_entry, laid_row}
 use Rattle.tbl_kept.proofs.ColumnsHeld.{get_or-rest, needing-nowhere, needs-same, rest-next}
 use Rattle.tbl_kept.proofs.KeptFields.{AreOpened-kept}
 use Rattle.tbl_kept.proofs.LaidStands.{row-laid-stands}
@@ -110,6 +110,10 @@ joins-many (suc count) firsts bs ss rest =
     joins-more Nowhere Nowhere Nowhere (replicate count Nowhere ++ firsts) (replicate count Nowhere ++ bs) (replicate count Nowhere ++ ss)
     (joins-first Nowhere) (joins-many count firsts bs ss rest)
 
+counted-joins : (free : Bool) (a b s : Stands) → Joins a b s → Joins (counted_if free a) (counted_if free b) (counted_if free s)
+counted-joins true a b s joins = joins-first Nowhere
+counted-joins false a b s joins = joins
+
 joins-by : (is_one : Bool) (count : ℕ) (a b s : Stands) (firsts bs ss : List Stands) → Joins a b s → AllJoin firsts bs ss
     → AllJoin ((if is_one then a ∷ [] else replicate count Nowhere) ++ firsts) ((if is_one then b ∷ [] else replicate count Nowhere) ++ bs)
     ((if is_one then s ∷ [] else replicate count Nowhere) ++ ss)
@@ -135,9 +139,11 @@ module _ (bytes : List ℕ) (bars : Bars) (line_length count : ℕ) where
   joins-row from (k ∷ keys) (asked ∷ cells) (e ∷ entries) short opened =
       let measure = measure_of bars line_length count asked in
       let new = laid_entry bytes measure e in
-      joins-by (k.end - from == 1) (k.end - from) (stands_of k.key e) (block_stands k.key new) (stands_of k.key new) (row_stands stands_of k.end keys entries)
-      (row_stands block_stands k.end keys (laid cells entries)) (row_stands stands_of k.end keys (laid cells entries))
-      (field-joins e.kind bytes measure k.key e refl opened.0)
+      joins-by (k.end - from == 1) (k.end - from) (counted k (stands_of k.key e)) (counted k (block_stands k.key new)) (counted k (stands_of k.key new))
+      (row_stands stands_of k.end keys entries) (row_stands block_stands k.end keys (laid cells entries))
+      (row_stands stands_of k.end keys (laid cells entries))
+      (counted-joins k.has_no_width (stands_of k.key e) (block_stands k.key new) (stands_of k.key new)
+      (field-joins e.kind bytes measure k.key e refl opened.0))
       (joins-row k.end keys cells entries (omega (arith, short)) opened.1)
 
 module _ (formats : List FormatRow) where
@@ -147,7 +153,7 @@ module _ (formats : List FormatRow) where
 
   abbrev blocks_in : ℕ → List KeptElement → List Stands
   blocks_in column [] = []
-  blocks_in column (Row keys rules height is_tall entries ∷ elements) = get_or (blocks_of keys entries) column Nowhere ∷ blocks_in column elements
+  blocks_in column (Row keys rules height entries ∷ elements) = get_or (blocks_of keys entries) column Nowhere ∷ blocks_in column elements
   blocks_in column (Rule sign ∷ elements) = blocks_in column elements
   blocks_in column (Command from to ∷ elements) = blocks_in column elements
 
@@ -161,25 +167,25 @@ module _ (formats : List FormatRow) where
   each_held-none column [] = refl
   each_held-none column (c ∷ columns) = ap (λ (cs : List Column). c ∷ cs) (each_held-none (suc column) columns)
 
-  module _ (keys rules height : ℕ) (is_tall : Bool) (entries : List Entry) (elements : List KeptElement) where
+  module _ (keys rules height : ℕ) (entries : List Entry) (elements : List KeptElement) where
     first-block : (c : Column) (column : ℕ) (rest : List Stands) → drop column (blocks_of keys entries) ≡ rest
         → with_all (needing c.needs (get_or rest 0 Nowhere)) (blocks_in column elements)
-        ≡ with_all c.needs (blocks_in column (Row keys rules height is_tall entries ∷ elements))
+        ≡ with_all c.needs (blocks_in column (Row keys rules height entries ∷ elements))
     first-block c column rest is =
         ap (λ (s : Stands). with_all (needing c.needs s) (blocks_in column elements)) (sym (get_or-rest (blocks_of keys entries) rest column is))
 
     each_held-row : (column : ℕ) (rest : List Stands) (columns : List Column) → drop column (blocks_of keys entries) ≡ rest
-        → each_held elements column (held_by rest columns) ≡ each_held (Row keys rules height is_tall entries ∷ elements) column columns
+        → each_held elements column (held_by rest columns) ≡ each_held (Row keys rules height entries ∷ elements) column columns
     each_held-row column [] [] is = refl
     each_held-row column (s ∷ rest) [] is = refl
     each_held-row column [] (c ∷ columns) is =
         ap (λ (n : Needs). record c { needs = n } ∷ each_held elements (suc column) columns)
         (ap (λ (n : Needs). with_all n (blocks_in column elements)) (sym (needing-nowhere c.needs)) ∙ first-block c column [] is)
-        ∙ ap (λ (cs : List Column). record c { needs = with_all c.needs (blocks_in column (Row keys rules height is_tall entries ∷ elements)) } ∷ cs)
+        ∙ ap (λ (cs : List Column). record c { needs = with_all c.needs (blocks_in column (Row keys rules height entries ∷ elements)) } ∷ cs)
         (each_held-row (suc column) [] columns (rest-next (blocks_of keys entries) [] column is))
     each_held-row column (s ∷ rest) (c ∷ columns) is =
         ap (λ (n : Needs). record c { needs = n } ∷ each_held elements (suc column) (held_by rest columns)) (first-block c column (s ∷ rest) is)
-        ∙ ap (λ (cs : List Column). record c { needs = with_all c.needs (blocks_in column (Row keys rules height is_tall entries ∷ elements)) } ∷ cs)
+        ∙ ap (λ (cs : List Column). record c { needs = with_all c.needs (blocks_in column (Row keys rules height entries ∷ elements)) } ∷ cs)
         (each_held-row (suc column) rest columns (rest-next (blocks_of keys entries) (s ∷ rest) column is))
 
   each_held-command : (from to : ℕ) (elements : List KeptElement) (column : ℕ) (columns : List Column)
@@ -198,9 +204,9 @@ module _ (formats : List FormatRow) where
 
   all_held-each : (elements : List KeptElement) (columns : List Column) → all_held formats elements columns ≡ each_held elements 0 columns
   all_held-each [] columns = each_held-none 0 columns
-  all_held-each (Row keys rules height is_tall entries ∷ elements) columns =
+  all_held-each (Row keys rules height entries ∷ elements) columns =
       all_held-each elements (holding_blocks (row_at formats keys).keys entries columns)
-      ∙ each_held-row keys rules height is_tall entries elements 0 (blocks_of keys entries) columns refl
+      ∙ each_held-row keys rules height entries elements 0 (blocks_of keys entries) columns refl
   all_held-each (Rule sign ∷ elements) columns = all_held-each elements columns ∙ each_held-rule sign elements 0 columns
   all_held-each (Command from to ∷ elements) columns = all_held-each elements columns ∙ each_held-command from to elements 0 columns
 
@@ -213,10 +219,10 @@ module _ (formats : List FormatRow) where
         → both (needs_of (stands_in formats column elements)) (needs_of (blocks_in column (laid_all elements)))
         ≡ needs_of (entries_of column (elements_of bytes formats (laid_all elements)))
     needs-all column [] kept = needs-same _ _ (omega arith) (omega arith) (omega arith) (omega arith) (omega arith)
-    needs-all column (Row keys rules height is_tall entries ∷ elements) kept =
+    needs-all column (Row keys rules height entries ∷ elements) kept =
         let format = row_at formats keys in
         let cells = by_cells 0 format.keys asked in
-        let short : length entries ≤ length cells = row-short bytes formats bars line_length asked keys rules height is_tall entries kept.0 in
+        let short : length entries ≤ length cells = row-short bytes formats bars line_length asked keys rules height entries kept.0 in
         let fields = laid_row bytes bars line_length asked format.keys entries in
         let same : get_or (row_stands stands_of 0 format.keys fields) column Nowhere
         ≡ get_or (row_stands stands 0 format.keys (fields_of bytes format fields)) column Nowhere =

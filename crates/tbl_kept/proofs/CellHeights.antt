@@ -1,5 +1,5 @@
 -- What is left of the cells of a row, by its fields as they are kept.
-use Rattle.std.proofs.Common.{◌≡◌, ℕ, zero, suc, ◌+◌, ◌-◌, ◌<◌, ◌≤◌, max, Bool, true, false, not, ◌||◌, List, [], ◌∷◌, ◌++◌, length, map, drop, get_or, refl, sym, ap, subst, ◌∙◌, arith, append_assoc}
+use Rattle.std.proofs.Common.{◌≡◌, ℕ, zero, suc, ◌+◌, ◌-◌, ◌<◌, max, Bool, true, false, not, List, [], ◌∷◌, ◌++◌, length, map, drop, get_or, refl, sym, ap, subst, ◌∙◌, arith, append_assoc}
 use Rattle.std.specs.Prelude.{if◌then◌else◌, Option, None, Some, is_some}
 use Rattle.std.specs.List.{slice_range}
 use Rattle.std.proofs.lemmas.List.{drop_more, length-map}
@@ -9,13 +9,13 @@ use Rattle.tbl_format.specs.declared.format.FormatKey.{FormatKey}
 use Rattle.tbl_format.specs.declared.format.Key.{Key}
 use Rattle.tbl_layout.specs.Entries.{Content, Text, block_line, field_at, is_number, key_at}
 use Rattle.tbl_layout.specs.Columns.{greatest}
-use Rattle.tbl_layout.specs.Heights.{cell_above, cell_below, ending_from, goes_down_from, goes_up_from, if_above, is_above, lefts_from, lines_in}
-use Rattle.tbl_layout.specs.KeptEntries.{IsLaid, IsLaidBy, all_entries, block_lines, content_by, content_of, lines_by, no_entry, text_entry}
+use Rattle.tbl_layout.specs.Heights.{cell_above, cell_below, ending_from, if_above, is_above, lefts_from, lines_in}
+use Rattle.tbl_layout.specs.KeptEntries.{IsLaid, IsLaidBy, all_entries, block_lines, content_by, content_of, lines_by, no_entry}
 use Rattle.tbl_layout.specs.declared.entry.Entry.{Entry}
 use Rattle.tbl_layout.specs.declared.entry.EntryKind.{EntryKind}
 use Rattle.tbl_layout.specs.declared.entry.EntryKind.TheVariants.{Above as AboveKind, Block as BlockKind, Repeated as RepeatedKind, Ruled as RuledKind, Short as ShortKind, Split as SplitKind, Text as TextKind}
-use Rattle.tbl_layout.specs.declared.entry.SplitEntry.{SplitEntry}
 use Rattle.tbl_layout.proofs.UnderKeys.{contents-completed}
+use Rattle.tbl_layout.proofs.UsedEntries.{split-some}
 use Rattle.tbl_text.specs.BlockLines.{lines_of}
 use Rattle.tbl_text.specs.BlockWords.{parts_of}
 use Rattle.tbl_kept.specs.KeptHeights.{cells_of, seen}
@@ -72,12 +72,6 @@ cell_below-by bytes bars keys below entries cell other kind same is =
 some-line : (key : Key) (text : List ℕ) → 0 < length text → 1 ≡ lines_in key (Text text)
 some-line key [] some = absurd (omega (arith, some))
 some-line key (b ∷ text) some = refl
-
--- a number that is split has a byte
-split-some : (is_number : Bool) (from : ℕ) (text : List ℕ) (s : SplitEntry) → SplitKind s ≡ (text_entry is_number from text).kind → 0 < length text
-split-some true from [] s is = absurd cc
-split-some false from [] s is = absurd cc
-split-some is_number from (b ∷ text) s is = omega arith
 
 -- those of all other fields
 abbrev pub is_text : EntryKind → Bool
@@ -141,39 +135,7 @@ module _ (above : List FormatKey) (left : List ℕ) (between : ℕ) (format : Fo
       ∙ ap (λ (xs : List ℕ). items ++ (xs ++ lefts_from above left between format fields (suc cell) n)) is
       ∙ ap (λ (m : ℕ). items ++ lefts_from above left between format fields cell m) all
 
-module _ (above keys : List FormatKey) (fields : List Content) where
-  pub goes_up-next : (cell count : ℕ) (t : Bool) → cell < count → is_some (cell_above above keys fields cell) ≡ t
-      → (t || goes_up_from above keys fields (cell + 1) (count - (cell + 1))) ≡ goes_up_from above keys fields cell (count - cell)
-  goes_up-next cell count t more is =
-      let n = count - (cell + 1) in
-      let next : cell + 1 ≡ suc cell = omega arith in
-      let all : suc n ≡ count - cell = omega (arith, more) in
-      ap (λ (m : ℕ). t || goes_up_from above keys fields m n) next
-      ∙ ap (λ (b : Bool). b || goes_up_from above keys fields (suc cell) n) (sym is)
-      ∙ ap (λ (m : ℕ). goes_up_from above keys fields cell m) all
-
-  pub goes_up-end : (cell count : ℕ) → count ≤ cell → false ≡ goes_up_from above keys fields cell (count - cell)
-  goes_up-end cell count end =
-      let none : 0 ≡ count - cell = omega (arith, end) in
-      ap (λ (m : ℕ). goes_up_from above keys fields cell m) none
-
-twice : (b : Bool) → b ≡ not (not b)
-twice true = refl
-twice false = refl
-
 module _ (bytes : List ℕ) (bars : ℕ) (keys below : List FormatKey) (entries : List Entry) where
-  pub goes_down-next : (cell count : ℕ) (t : Bool) → cell < count → is_some (cell_below keys below (cells_of bytes bars below entries) cell) ≡ t
-      → (t || goes_down_from keys (seen bytes bars below entries) (cell + 1) (count - (cell + 1)))
-      ≡ goes_down_from keys (seen bytes bars below entries) cell (count - cell)
-  goes_down-next cell count t more is =
-      let n = count - (cell + 1) in
-      let rest = seen bytes bars below entries in
-      let next : cell + 1 ≡ suc cell = omega arith in
-      let all : suc n ≡ count - cell = omega (arith, more) in
-      ap (λ (m : ℕ). t || goes_down_from keys rest m n) next
-      ∙ ap (λ (b : Bool). b || goes_down_from keys rest (suc cell) n) (sym is ∙ twice (is_some (cell_below keys below (cells_of bytes bars below entries) cell)))
-      ∙ ap (λ (m : ℕ). goes_down_from keys rest cell m) all
-
   pub high-next : (left : List ℕ) (cell height : ℕ) (found : Option ℕ) → cell < length left
       → found ≡ cell_below keys below (cells_of bytes bars below entries) cell
       → max (max height (if not (is_some found) then get_or left cell 0 else 0))

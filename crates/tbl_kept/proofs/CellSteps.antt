@@ -1,5 +1,5 @@
 -- The cells of a row, one after another: each begins where the one before it ends.
-use Rattle.std.proofs.Common.{◌≡◌, ℕ, zero, suc, ◌+◌, ◌-◌, ◌<◌, ◌≤◌, Bool, List, [], ◌∷◌, ◌++◌, length, map, take, drop, get_or, replicate, refl, sym, ap, subst, ◌∙◌, arith, length-append}
+use Rattle.std.proofs.Common.{◌≡◌, ℕ, zero, suc, ◌+◌, ◌-◌, ◌<◌, ◌≤◌, Bool, false, List, [], ◌∷◌, ◌++◌, length, map, take, drop, get_or, replicate, refl, sym, ap, subst, ◌∙◌, arith, length-append}
 use Rattle.std.specs.Prelude.{if◌then◌else◌}
 use Rattle.std.specs.List.{slice_range}
 use Rattle.std.proofs.lemmas.Bool.{ne_eqb}
@@ -14,6 +14,7 @@ use Rattle.tbl_format.specs.declared.format.Key.{Key}
 use Rattle.tbl_format.specs.declared.format.Key.TheVariants.{Left}
 use Rattle.tbl_layout.specs.Columns.{in_columns, row_stands}
 use Rattle.tbl_layout.specs.declared.columns.Stands.{Stands}
+use Rattle.tbl_kept.specs.RowsLaying.{counted_if}
 use Rattle.tbl_layout.specs.declared.columns.Stands.TheVariants.{Nowhere}
 use Rattle.tbl_kept.specs.declared.held_columns.Cell.{Cell}
 
@@ -26,6 +27,17 @@ first_key (k ∷ keys) = k.key
 abbrev pub first_end : ℕ → List FormatKey → ℕ
 first_end from [] = from + 1
 first_end from (k ∷ keys) = k.end
+
+-- and whether what stands under it counts for no width
+abbrev pub first_free : List FormatKey → Bool
+first_free [] = false
+first_free (k ∷ keys) = k.has_no_width
+
+first_free-at : (keys : List FormatKey) (at : ℕ) → get_or (map (λ (k : FormatKey). k.has_no_width) keys) at false ≡ first_free (drop at keys)
+first_free-at [] zero = refl
+first_free-at [] (suc at) = refl
+first_free-at (k ∷ keys) zero = refl
+first_free-at (k ∷ keys) (suc at) = first_free-at keys at
 
 pub first_key-at : (keys : List FormatKey) (at : ℕ) → get_or (map (λ (k : FormatKey). k.key) keys) at Left ≡ first_key (drop at keys)
 first_key-at [] zero = refl
@@ -44,11 +56,17 @@ pub record IsFirst (from : ℕ) (keys : List FormatKey) (cell : Cell) : Type 0 w
   pub key : cell.key ≡ first_key keys
   pub from_is : cell.from ≡ from
   pub end_is : cell.end ≡ first_end from keys
+  pub free : cell.has_no_width ≡ first_free keys
 
 pub is-first : (keys : List FormatKey) (at from : ℕ) (cell : Cell) → cell.key ≡ get_or (map (λ (k : FormatKey). k.key) keys) at Left → cell.from ≡ from
-    → cell.end ≡ get_or (map (λ (k : FormatKey). k.end) keys) at (from + 1) → IsFirst from (drop at keys) cell
-is-first keys at from cell key begins end =
-    record { key = key ∙ first_key-at keys at; from_is = begins; end_is = end ∙ first_end-at keys at from }
+    → cell.end ≡ get_or (map (λ (k : FormatKey). k.end) keys) at (from + 1)
+    → cell.has_no_width ≡ get_or (map (λ (k : FormatKey). k.has_no_width) keys) at false → IsFirst from (drop at keys) cell
+is-first keys at from cell key begins end free = record {
+  key = key ∙ first_key-at keys at;
+  from_is = begins;
+  end_is = end ∙ first_end-at keys at from;
+  free = free ∙ first_free-at keys at;
+}
 
 -- cells of these keys and such as `l`, the first of which begins behind so many columns, are in a table of so many: so many of them
 pub record CellsLeft (columns from : ℕ) (keys : List FormatKey) (count : ℕ) : Type 0 where
@@ -121,7 +139,8 @@ length-in_columns (suc (suc count)) entry =
 -- how the fields of a row stand in the columns behind the first one's cell
 pub row_stands-next : {A : Type 0} (entry_of : Key → A → Stands) (from : ℕ) (keys : List FormatKey) (field : A) (fields : List A)
     → row_stands entry_of from keys (field ∷ fields)
-    ≡ in_columns (first_end from keys - from) (entry_of (first_key keys) field) ++ row_stands entry_of (first_end from keys) (drop 1 keys) fields
+    ≡ in_columns (first_end from keys - from) (counted_if (first_free keys) (entry_of (first_key keys) field))
+    ++ row_stands entry_of (first_end from keys) (drop 1 keys) fields
 row_stands-next entry_of from [] field fields =
     let next : suc from ≡ from + 1 = omega arith in
     let one : 1 ≡ from + 1 - from = omega arith in
@@ -141,8 +160,9 @@ length-row_stands entry_of columns from keys (field ∷ fields) left =
     omega (
       arith,
       ap length (row_stands-next entry_of from keys field fields),
-      length-append (in_columns (end - from) (entry_of (first_key keys) field)) (row_stands entry_of end (drop 1 keys) fields),
-      length-in_columns (end - from) (entry_of (first_key keys) field),
+      length-append (in_columns (end - from) (counted_if (first_free keys) (entry_of (first_key keys) field)))
+          (row_stands entry_of end (drop 1 keys) fields),
+      length-in_columns (end - from) (counted_if (first_free keys) (entry_of (first_key keys) field)),
       within.order,
       length-row_stands entry_of columns end (drop 1 keys) fields next,
     )

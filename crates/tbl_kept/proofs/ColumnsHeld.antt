@@ -1,5 +1,5 @@
 -- What columns hold of the rows that are kept.
-use Rattle.std.proofs.Common.{◌≡◌, ℕ, zero, suc, ◌+◌, ◌<◌, ◌≤◌, max, Bool, List, [], ◌∷◌, ◌++◌, length, map, drop, get_or, replicate, refl, sym, ap, ◌∙◌, arith}
+use Rattle.std.proofs.Common.{◌≡◌, ℕ, zero, suc, ◌+◌, ◌<◌, ◌≤◌, max, List, [], ◌∷◌, ◌++◌, length, map, drop, get_or, replicate, refl, sym, ap, ◌∙◌, arith}
 use Rattle.std.specs.List.{AllByRecursion}
 use Rattle.std.proofs.lemmas.List.{drop-drop, get_or-drop}
 use Rattle.std.proofs.Math.ListN.{get_or-append}
@@ -64,45 +64,45 @@ module _ (formats : List FormatRow) where
   row_of keys entries = row_stands stands_of 0 (row_at formats keys).keys entries
 
   -- one row more
-  stands_in-row : (column : ℕ) (elements : List KeptElement) (keys rules height : ℕ) (is_tall : Bool) (entries : List Entry)
-      → stands_in formats column (elements ++ Row keys rules height is_tall entries ∷ [])
+  stands_in-row : (column : ℕ) (elements : List KeptElement) (keys rules height : ℕ) (entries : List Entry)
+      → stands_in formats column (elements ++ Row keys rules height entries ∷ [])
       ≡ stands_in formats column elements ++ get_or (row_of keys entries) column Nowhere ∷ []
-  stands_in-row column [] keys rules height is_tall entries = refl
-  stands_in-row column (Row other before high tall row ∷ elements) keys rules height is_tall entries =
-      ap (λ (rest : List Stands). get_or (row_of other row) column Nowhere ∷ rest) (stands_in-row column elements keys rules height is_tall entries)
-  stands_in-row column (Rule sign ∷ elements) keys rules height is_tall entries = stands_in-row column elements keys rules height is_tall entries
-  stands_in-row column (Command from to ∷ elements) keys rules height is_tall entries = stands_in-row column elements keys rules height is_tall entries
+  stands_in-row column [] keys rules height entries = refl
+  stands_in-row column (Row other before high row ∷ elements) keys rules height entries =
+      ap (λ (rest : List Stands). get_or (row_of other row) column Nowhere ∷ rest) (stands_in-row column elements keys rules height entries)
+  stands_in-row column (Rule sign ∷ elements) keys rules height entries = stands_in-row column elements keys rules height entries
+  stands_in-row column (Command from to ∷ elements) keys rules height entries = stands_in-row column elements keys rules height entries
 
-  module _ (elements : List KeptElement) (keys rules height : ℕ) (is_tall : Bool) (entries : List Entry) where
+  module _ (elements : List KeptElement) (keys rules height : ℕ) (entries : List Entry) where
     needs-row : (column : ℕ) (rest : List Stands) → drop column (row_of keys entries) ≡ rest
-        → needs_of (stands_in formats column (elements ++ Row keys rules height is_tall entries ∷ []))
+        → needs_of (stands_in formats column (elements ++ Row keys rules height entries ∷ []))
         ≡ needing (needs_of (stands_in formats column elements)) (get_or rest 0 Nowhere)
     needs-row column rest is =
-        ap needs_of (stands_in-row column elements keys rules height is_tall entries)
+        ap needs_of (stands_in-row column elements keys rules height entries)
         ∙ needs_of-last (stands_in formats column elements) (get_or (row_of keys entries) column Nowhere)
         ∙ ap (λ (s : Stands). needing (needs_of (stands_in formats column elements)) s) (get_or-rest (row_of keys entries) rest column is)
 
     pub holding-row : (count column : ℕ) (rest : List Stands) → drop column (row_of keys entries) ≡ rest
         → held_by rest (columns_holding formats elements column count)
-        ≡ columns_holding formats (elements ++ Row keys rules height is_tall entries ∷ []) column count
+        ≡ columns_holding formats (elements ++ Row keys rules height entries ∷ []) column count
     holding-row zero column [] is = refl
     holding-row zero column (s ∷ rest) is = refl
     holding-row (suc count) column [] is =
         ap (λ (n : Needs). record no_column { needs = n } ∷ columns_holding formats elements (suc column) count)
         (sym (needs-row column [] is ∙ needing-nowhere (needs_of (stands_in formats column elements))))
-        ∙ ap (λ (cs : List Column). record no_column { needs = needs_of (stands_in formats column (elements ++ Row keys rules height is_tall entries ∷ [])) } ∷ cs)
+        ∙ ap (λ (cs : List Column). record no_column { needs = needs_of (stands_in formats column (elements ++ Row keys rules height entries ∷ [])) } ∷ cs)
         (holding-row count (suc column) [] (rest-next (row_of keys entries) [] column is))
     holding-row (suc count) column (s ∷ rest) is =
         ap (λ (n : Needs). record no_column { needs = n } ∷ held_by rest (columns_holding formats elements (suc column) count))
         (sym (needs-row column (s ∷ rest) is))
-        ∙ ap (λ (cs : List Column). record no_column { needs = needs_of (stands_in formats column (elements ++ Row keys rules height is_tall entries ∷ [])) } ∷ cs)
+        ∙ ap (λ (cs : List Column). record no_column { needs = needs_of (stands_in formats column (elements ++ Row keys rules height entries ∷ [])) } ∷ cs)
         (holding-row count (suc column) rest (rest-next (row_of keys entries) (s ∷ rest) column is))
 
   -- a command stands in no column
   stands_in-command : (column : ℕ) (elements : List KeptElement) (from to : ℕ)
       → stands_in formats column (elements ++ Command from to ∷ []) ≡ stands_in formats column elements
   stands_in-command column [] from to = refl
-  stands_in-command column (Row keys rules height is_tall entries ∷ elements) from to =
+  stands_in-command column (Row keys rules height entries ∷ elements) from to =
       ap (λ (rest : List Stands). get_or (row_of keys entries) column Nowhere ∷ rest) (stands_in-command column elements from to)
   stands_in-command column (Rule sign ∷ elements) from to = stands_in-command column elements from to
   stands_in-command column (Command start end ∷ elements) from to = stands_in-command column elements from to
@@ -120,7 +120,7 @@ module _ (formats : List FormatRow) where
   stands_in-rule : (column : ℕ) (elements : List KeptElement) (sign : RuleSign)
       → stands_in formats column (elements ++ Rule sign ∷ []) ≡ stands_in formats column elements
   stands_in-rule column [] sign = refl
-  stands_in-rule column (Row keys rules height is_tall entries ∷ elements) sign =
+  stands_in-rule column (Row keys rules height entries ∷ elements) sign =
       ap (λ (rest : List Stands). get_or (row_of keys entries) column Nowhere ∷ rest) (stands_in-rule column elements sign)
   stands_in-rule column (Rule other ∷ elements) sign = stands_in-rule column elements sign
   stands_in-rule column (Command from to ∷ elements) sign = stands_in-rule column elements sign
@@ -158,7 +158,7 @@ module _ (formats : List FormatRow) where
     needs-behind : (column : ℕ) (elements : List KeptElement) → columns ≤ column → AllByRecursion (ElementKept bytes formats columns) elements
         → needs_of (stands_in formats column elements) ≡ needs_of []
     needs-behind column [] behind kept = refl
-    needs-behind column (Row keys rules height is_tall entries ∷ elements) behind kept =
+    needs-behind column (Row keys rules height entries ∷ elements) behind kept =
         ap (λ (s : Stands). needs_of (s ∷ stands_in formats column elements))
         (row_stands-past stands_of columns column (row_at formats keys).keys entries
         (cells-left columns (row_at formats keys).keys (length entries) kept.0.cells kept.0.short) behind)
@@ -182,7 +182,7 @@ module _ (bytes : List ℕ) (formats more : List FormatRow) (columns : ℕ) wher
   stands_in-formats : (column : ℕ) (elements : List KeptElement) → AllByRecursion (ElementKept bytes formats columns) elements
       → stands_in (formats ++ more) column elements ≡ stands_in formats column elements
   stands_in-formats column [] kept = refl
-  stands_in-formats column (Row keys rules height is_tall entries ∷ elements) kept =
+  stands_in-formats column (Row keys rules height entries ∷ elements) kept =
       ap (λ (row : FormatRow). get_or (row_stands stands_of 0 row.keys entries) column Nowhere ∷ stands_in (formats ++ more) column elements)
       (row_at-more keys kept.0.serves)
       ∙ ap (λ (rest : List Stands). get_or (row_of formats keys entries) column Nowhere ∷ rest) (stands_in-formats column elements kept.1)

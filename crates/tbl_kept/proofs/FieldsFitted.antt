@@ -10,7 +10,7 @@ use Rattle.tbl_format.specs.Format.{columns_of}
 use Rattle.tbl_format.specs.declared.format.Asked.{Asked}
 use Rattle.tbl_format.specs.declared.format.FormatKey.{FormatKey}
 use Rattle.tbl_format.specs.declared.format.Key.{Key}
-use Rattle.tbl_layout.specs.Columns.{alone}
+use Rattle.tbl_layout.specs.Columns.{alone, counted}
 use Rattle.tbl_layout.specs.KeptEntries.{stands_of}
 use Rattle.tbl_layout.specs.Spans.{Wide, all_fitted, fitted, if_wide, lacks, spread_over, wide_entries}
 use Rattle.tbl_layout.specs.declared.bars.Bars.{Bars}
@@ -19,7 +19,10 @@ use Rattle.tbl_layout.specs.declared.entry.Entry.{Entry}
 use Rattle.tbl_layout.proofs.Spreading.{all_fitted-append, fitted-none}
 use Rattle.tbl_kept.specs.declared.held_columns.Cell.{Cell}
 use Rattle.tbl_kept.proofs.CellSteps.{IsFirst, keys-next}
+use Rattle.tbl_kept.specs.RowsLaying.{counted_if}
 use Rattle.tbl_kept.proofs.RowsNext.{no_entry}
+use Rattle.tbl_layout.proofs.RowStands.{if_wide-none}
+use Rattle.tbl_layout.specs.declared.columns.Stands.{Stands}
 
 -- one of several columns is fitted, also where it has no width
 module _ (bars : Bars) (asked : List Asked) (from count : ℕ) (columns : List Column) where
@@ -54,25 +57,41 @@ module _ (bars : Bars) (asked : List Asked) (from count : ℕ) (columns : List C
       ∙ ap (λ (rest : List Column). take from columns ++ (spread_over more count 0 own ++ rest)) (drop-drop count from columns)
       ∙ sym (several-columns width many)
 
+-- an entry that counts for no width needs no room
+pub fitted-free : (bars : Bars) (asked : List Asked) (from count : ℕ) (columns : List Column) (free : Bool) (s : Stands) → free ≡ true
+    → columns ≡ all_fitted bars asked (if_wide from count (alone (counted_if free s))) columns
+fitted-free bars asked from count columns free s is =
+    sym (ap (λ (t : Bool). all_fitted bars asked (if_wide from count (alone (counted_if t s))) columns) is
+    ∙ ap (λ (ws : List Wide). all_fitted bars asked ws columns) (if_wide-none from count))
+
+pub fitted-counted : (bars : Bars) (asked : List Asked) (from count : ℕ) (columns : List Column) (free : Bool) (s : Stands) → free ≡ false
+    → all_fitted bars asked (if_wide from count (alone s)) columns ≡ all_fitted bars asked (if_wide from count (alone (counted_if free s))) columns
+fitted-counted bars asked from count columns free s is =
+    sym (ap (λ (t : Bool). all_fitted bars asked (if_wide from count (alone (counted_if t s))) columns) is)
+
 -- the entries of cells that are left: the first of them, and those behind it
 module _ (bars : Bars) (asked : List Asked) (from : ℕ) (keys : List FormatKey) (at : ℕ) where
   wide-first : (ks : List FormatKey) (cell : Cell) (e : Entry) (entries : List Entry) → IsFirst from ks cell → 0 < length ks
       → wide_entries stands_of from ks (e ∷ entries)
-      ≡ if_wide cell.from (cell.end - cell.from) (alone (stands_of cell.key e)) ++ wide_entries stands_of cell.end (drop 1 ks) entries
+      ≡ if_wide cell.from (cell.end - cell.from) (alone (counted_if cell.has_no_width (stands_of cell.key e)))
+      ++ wide_entries stands_of cell.end (drop 1 ks) entries
   wide-first [] cell e entries is some = absurd (omega (arith, some))
   wide-first (k ∷ ks) cell e entries is some =
-      ap (λ (key : Key). if_wide from (k.end - from) (alone (stands_of key e)) ++ wide_entries stands_of k.end ks entries) (sym is.key)
-      ∙ ap (λ (end : ℕ). if_wide from (end - from) (alone (stands_of cell.key e)) ++ wide_entries stands_of end ks entries) (sym is.end_is)
-      ∙ ap (λ (start : ℕ). if_wide start (cell.end - start) (alone (stands_of cell.key e)) ++ wide_entries stands_of cell.end ks entries) (sym is.from_is)
+      let own : Bool → Key → ℕ → ℕ → List Wide = λ free key start end. if_wide start (end - start) (alone (counted_if free (stands_of key e))) in
+      ap (λ (key : Key). own k.has_no_width key from k.end ++ wide_entries stands_of k.end ks entries) (sym is.key)
+      ∙ ap (λ (free : Bool). own free cell.key from k.end ++ wide_entries stands_of k.end ks entries) (sym is.free)
+      ∙ ap (λ (end : ℕ). own cell.has_no_width cell.key from end ++ wide_entries stands_of end ks entries) (sym is.end_is)
+      ∙ ap (λ (start : ℕ). own cell.has_no_width cell.key start cell.end ++ wide_entries stands_of cell.end ks entries) (sym is.from_is)
 
   pub next-fitted : (cell : Cell) (entries : List Entry) (columns new : List Column) → at < length entries → at < length keys → IsFirst from (drop at keys) cell
-      → new ≡ all_fitted bars asked (if_wide cell.from (cell.end - cell.from) (alone (stands_of cell.key (get_or entries at no_entry)))) columns
+      → new ≡ all_fitted bars asked
+      (if_wide cell.from (cell.end - cell.from) (alone (counted_if cell.has_no_width (stands_of cell.key (get_or entries at no_entry))))) columns
       → all_fitted bars asked (wide_entries stands_of cell.end (drop (at + 1) keys) (drop (at + 1) entries)) new
       ≡ all_fitted bars asked (wide_entries stands_of from (drop at keys) (drop at entries)) columns
   next-fitted cell entries columns new some more is made =
       let e = get_or entries at no_entry in
       let rest = drop (at + 1) entries in
-      let first = if_wide cell.from (cell.end - cell.from) (alone (stands_of cell.key e)) in
+      let first = if_wide cell.from (cell.end - cell.from) (alone (counted_if cell.has_no_width (stands_of cell.key e))) in
       let behind = wide_entries stands_of cell.end (drop (at + 1) keys) rest in
       ap (all_fitted bars asked behind) made
       ∙ sym (all_fitted-append bars asked first behind columns)
@@ -108,7 +127,8 @@ ones-wide from [] (e ∷ entries) cells ones = refl
 ones-wide from (k ∷ keys) (e ∷ entries) cells ones =
     let order = few-behind k.end keys cells.1 in
     let one : k.end - from ≡ 1 = omega (arith, ones, order, cells.0) in
-    ap (λ (is_one : Bool). (if is_one || alone (stands_of k.key e) == 0 then [] else record { from = from; count = k.end - from; width = alone (stands_of k.key e) } ∷ [])
+    let width = alone (counted k (stands_of k.key e)) in
+    ap (λ (is_one : Bool). (if is_one || width == 0 then [] else record { from = from; count = k.end - from; width = width } ∷ [])
     ++ wide_entries stands_of k.end keys entries) (eq-eqb (k.end - from) 1 one)
     ∙ ones-wide k.end keys entries cells.1 (omega (arith, ones, order, cells.0))
 

@@ -1,5 +1,5 @@
 -- The heights of rows, one row after another.
-use Rattle.std.proofs.Common.{◌≡◌, ℕ, zero, suc, ◌+◌, ◌-◌, ◌<◌, ◌≤◌, max, Bool, true, false, not, ◌||◌, List, [], ◌∷◌, ◌++◌, length, map, take, drop, get_or, set, refl, sym, ap, subst, ◌∙◌, arith, append_assoc, length-drop}
+use Rattle.std.proofs.Common.{◌≡◌, ℕ, zero, suc, ◌+◌, ◌-◌, ◌<◌, ◌≤◌, max, Bool, true, not, List, [], ◌∷◌, ◌++◌, length, map, take, drop, get_or, set, refl, sym, ap, subst, ◌∙◌, arith, append_assoc, length-drop}
 use Rattle.std.specs.Prelude.{if◌then◌else◌, Option, None, Some, is_some}
 use Rattle.std.specs.List.{AllByRecursion, slice_range}
 use Rattle.std.proofs.lemmas.List.{drop-set-lt, drop_all, drop_more, length-take-le, map-append, take_more_set}
@@ -11,9 +11,9 @@ use Rattle.tbl_format.proofs.CellColumns.{cells-few}
 use Rattle.tbl_format.specs.declared.format.FormatKey.{FormatKey}
 use Rattle.tbl_layout.specs.Columns.{greatest}
 use Rattle.tbl_layout.specs.Entries.{Element as OneElement}
-use Rattle.tbl_layout.specs.Heights.{ending_from, ends_in_front_of, goes_down_from, goes_up_from, height_in_front_of, if_above, is_tall_by, lefts_from, rules_between}
+use Rattle.tbl_layout.specs.Heights.{ending_from, ends_in_front_of, height_in_front_of, if_above, lefts_from, rules_between}
 use Rattle.tbl_layout.specs.declared.entry.Entry.{Entry}
-use Rattle.tbl_kept.specs.KeptHeights.{cells_of, first_row, raised_behind, seen}
+use Rattle.tbl_kept.specs.KeptHeights.{LeftBehind, cells_of, first_row, raised_behind, seen}
 use Rattle.tbl_kept.specs.Rows.{KeptElement, Row, elements_of, rows_in_front}
 use Rattle.tbl_kept.specs.RowsInside.{LieBetween, LiesIn, kept_in}
 use Rattle.tbl_kept.specs.RowsLaying.{ElementWithin}
@@ -42,61 +42,47 @@ module _ (keys : List FormatKey) (elements others : List OneElement) (same : (ce
   pub height-same : (left : List ℕ) → height_in_front_of keys elements left ≡ height_in_front_of keys others left
   height-same left = ap (λ (ns : List ℕ). max 1 (greatest ns)) (ending-same 0 left)
 
-  pub goes_down-same : (cell count : ℕ) → goes_down_from keys elements cell count ≡ goes_down_from keys others cell count
-  goes_down-same cell zero = refl
-  goes_down-same cell (suc count) =
-      ap (λ (t : Bool). not t || goes_down_from keys elements (suc cell) count) (same cell)
-      ∙ ap (λ (t : Bool). not (ends_in_front_of keys others cell) || t) (goes_down-same (suc cell) count)
-
--- what was found of a row: what is left of its cells, its height, and whether it is tall
-pub record RowFound (bytes : List ℕ) (columns : ℕ) (is_first : Bool) (above : List FormatKey) (left : List ℕ) (between bars : ℕ) (slice : List Entry) (rest : List OneElement) (here : List ℕ) (height : ℕ) (is_tall : Bool) (keys : List FormatKey) : Type 0 where
-  pub lefts : here ≡ lefts_from above left between (record { keys = keys; bars = bars }) (cells_of bytes bars keys slice) 0 (cell_count keys columns)
-  pub high : height ≡ height_in_front_of keys rest here
-  pub tall : is_tall ≡ is_tall_by is_first (goes_up_from above keys (cells_of bytes bars keys slice) 0 (cell_count keys columns))
-      (goes_down_from keys rest 0 (cell_count keys columns))
-
 -- as many rows stand in front of it as are counted
 pub length-in_front : (formats : List FormatRow) (keys rules : ℕ) → keys < length formats → rules ≤ keys → length (rows_in_front formats keys rules) ≡ rules
 length-in_front formats keys rules serves few =
     length-take-le rules (drop (keys - rules) formats) (omega (arith, serves, few, length-drop (keys - rules) formats))
 
-module _ (bytes : List ℕ) (formats : List FormatRow) (is_inside : Bool) (columns : ℕ) (is_first : Bool) (above : List FormatKey) (left : List ℕ) (rules : ℕ) where
+module _ (bytes : List ℕ) (formats : List FormatRow) (is_inside : Bool) (columns : ℕ) (above : List FormatKey) (left : List ℕ) (rules : ℕ) where
   abbrev all_of : List KeptElement → List OneElement
   all_of elements = elements_of bytes formats elements
 
-  row-raised : (keys front height0 : ℕ) (tall0 : Bool) (slice : List Entry) (rest : List KeptElement) (here : List ℕ) (height : ℕ) (is_tall : Bool)
+  abbrev lefts_under : List FormatKey → ℕ → ℕ → List Entry → List ℕ
+  lefts_under keys bars front slice =
+      lefts_from above left (rules_between is_inside rules front) (record { keys = keys; bars = bars }) (cells_of bytes bars keys slice) 0
+      (cell_count keys columns)
+
+  row-raised : (keys front height0 : ℕ) (slice : List Entry) (rest : List KeptElement) (height : ℕ) (after : List ℕ)
       → length (rows_in_front formats keys front) ≡ front
-      → RowFound bytes columns is_first above left (rules_between is_inside rules front) (row_at formats keys).bars slice (all_of rest) here height is_tall (row_at formats keys).keys
-      → Row keys front height is_tall slice
-      ∷ raised_behind bytes formats is_inside columns false (row_at formats keys).keys (map (λ (n : ℕ). n - height) here) 0 rest
-      ≡ raised_behind bytes formats is_inside columns is_first above left rules (Row keys front height0 tall0 slice ∷ rest)
-  row-raised keys front height0 tall0 slice rest here height is_tall count found =
+      → LeftBehind (lefts_under (row_at formats keys).keys (row_at formats keys).bars front slice) (row_at formats keys).keys (all_of rest) height after
+      → Row keys front height slice ∷ raised_behind bytes formats is_inside columns (row_at formats keys).keys after 0 rest
+      ≡ raised_behind bytes formats is_inside columns above left rules (Row keys front height0 slice ∷ rest)
+  row-raised keys front height0 slice rest height after count found =
       let format = row_at formats keys in
-      let lefts : ℕ → List ℕ = λ n. lefts_from above left (rules_between is_inside rules n) format (cells_of bytes format.bars format.keys slice) 0 (cell_count format.keys columns) in
-      let same : here ≡ lefts (length (rows_in_front formats keys front)) = found.lefts ∙ ap lefts (sym count) in
-      let made : List ℕ → ℕ → Bool → List KeptElement =
-      λ ns h t. Row keys front h t slice ∷ raised_behind bytes formats is_inside columns false format.keys (map (λ (n : ℕ). n - h) ns) 0 rest in
-      ap (λ (h : ℕ). made here h is_tall) found.high
-      ∙ ap (λ (ns : List ℕ). made ns (height_in_front_of format.keys (all_of rest) ns) is_tall) same
-      ∙ ap (λ (t : Bool). made (lefts (length (rows_in_front formats keys front))) (height_in_front_of format.keys (all_of rest) (lefts (length (rows_in_front formats keys front)))) t) found.tall
+      let lefts : ℕ → List ℕ = λ n. lefts_under format.keys format.bars n slice in
+      let made : List ℕ → ℕ → List KeptElement =
+      λ ns h. Row keys front h slice ∷ raised_behind bytes formats is_inside columns format.keys (map (λ (n : ℕ). n - h) ns) 0 rest in
+      ap (λ (ns : List ℕ). Row keys front height slice ∷ raised_behind bytes formats is_inside columns format.keys ns 0 rest) found.left
+      ∙ ap (λ (h : ℕ). made (lefts front) h) found.high
+      ∙ ap (λ (n : ℕ). made (lefts n) (height_in_front_of format.keys (all_of rest) (lefts n))) (sym count)
 
   -- by its keys as they are lent
-  pub row-raised-by : (row : KeptRow) (fields : List Entry) (rest : List KeptElement) (here after : List ℕ) (height : ℕ) (is_tall : Bool) (lent : List FormatKey)
+  pub row-raised-by : (row : KeptRow) (fields : List Entry) (rest : List KeptElement) (height : ℕ) (after : List ℕ) (lent : List FormatKey)
       → lent ≡ (row_at formats row.keys).keys
       → length (rows_in_front formats row.keys row.rules) ≡ row.rules
-      → RowFound bytes columns is_first above left (rules_between is_inside rules row.rules) (row_at formats row.keys).bars (slice_range fields row.from row.to) (all_of rest) here height is_tall lent
-      → after ≡ map (λ (n : ℕ). n - height) here
-      → kept_in fields (OneRow (record row { height = height; is_tall = is_tall })) ∷ raised_behind bytes formats is_inside columns false lent after 0 rest
-      ≡ raised_behind bytes formats is_inside columns is_first above left rules (kept_in fields (OneRow row) ∷ rest)
-  row-raised-by row fields rest here after height is_tall lent same count found behind =
+      → LeftBehind (lefts_under lent (row_at formats row.keys).bars row.rules (slice_range fields row.from row.to)) lent (all_of rest) height after
+      → kept_in fields (OneRow (record row { height = height })) ∷ raised_behind bytes formats is_inside columns lent after 0 rest
+      ≡ raised_behind bytes formats is_inside columns above left rules (kept_in fields (OneRow row) ∷ rest)
+  row-raised-by row fields rest height after lent same count found =
       let slice = slice_range fields row.from row.to in
-      let keys = (row_at formats row.keys).keys in
-      let new = kept_in fields (OneRow (record row { height = height; is_tall = is_tall })) in
-      let Found : List FormatKey → Type 0 =
-      RowFound bytes columns is_first above left (rules_between is_inside rules row.rules) (row_at formats row.keys).bars slice (all_of rest) here height is_tall in
-      ap (λ (ns : List ℕ). new ∷ raised_behind bytes formats is_inside columns false lent ns 0 rest) behind
-      ∙ ap (λ (ks : List FormatKey). new ∷ raised_behind bytes formats is_inside columns false ks (map (λ (n : ℕ). n - height) here) 0 rest) same
-      ∙ row-raised row.keys row.rules row.height row.is_tall slice rest here height is_tall count (subst Found same found)
+      let new = kept_in fields (OneRow (record row { height = height })) in
+      let Found : List FormatKey → Type 0 = λ ks. LeftBehind (lefts_under ks (row_at formats row.keys).bars row.rules slice) ks (all_of rest) height after in
+      ap (λ (ks : List FormatKey). new ∷ raised_behind bytes formats is_inside columns ks after 0 rest) same
+      ∙ row-raised row.keys row.rules row.height slice rest height after count (subst Found same found)
 
 -- one element, and all behind it
 module _ (K : Element → KeptElement) (before behind : List KeptElement → List KeptElement) (items : List Element) (at : ℕ) (none : Element) (more : at < length items) where

@@ -7,7 +7,7 @@ use Rattle.tbl_format.specs.declared.format.Asked.{Asked}
 use Rattle.tbl_format.specs.declared.format.FormatKey.{FormatKey}
 use Rattle.tbl_format.specs.declared.format.Key.{Key}
 use Rattle.tbl_format.specs.declared.format.Key.TheVariants.{Left}
-use Rattle.tbl_layout.specs.Columns.{alone, in_columns, row_stands, stands}
+use Rattle.tbl_layout.specs.Columns.{alone, counted, in_columns, row_stands, stands}
 use Rattle.tbl_layout.specs.Entries.{key_at}
 use Rattle.tbl_layout.specs.KeptEntries.{IsLaid, IsLaidBy, content_by, content_of, stands_by, stands_of}
 use Rattle.tbl_layout.specs.Spans.{Wide, all_fitted, all_wide, if_wide, wide_entries}
@@ -26,7 +26,7 @@ use Rattle.tbl_kept.proofs.CellSteps.{first_key, first_key-at}
 use Rattle.tbl_kept.proofs.ColumnsHeld.{rest-next}
 
 -- a field
-laid-stands : (kind : EntryKind) (bytes : List ℕ) (key : Key) (e : Entry) → kind ≡ e.kind → IsLaidBy kind bytes key e
+pub laid-stands : (kind : EntryKind) (bytes : List ℕ) (key : Key) (e : Entry) → kind ≡ e.kind → IsLaidBy kind bytes key e
     → stands_of key e ≡ stands key (content_by kind bytes e.from e.to)
 laid-stands (TextKind glyphs width) bytes key e is laid =
     ap (stands_of key) laid.is ∙ text-stands key e.from (slice_range bytes e.from e.to)
@@ -55,8 +55,9 @@ module _ (bytes : List ℕ) (format : FormatRow) where
       ∙ ap (λ (ss : List Stands). stands Left (content_of bytes e) ∷ ss)
       (rows-stand (suc from) (suc cell) [] entries (rest-next format.keys [] cell is) laid.1)
   rows-stand from cell (k ∷ keys) (e ∷ entries) is laid =
-      ap (λ (s : Stands). in_columns (k.end - from) s ++ row_stands stands_of k.end keys entries) (under-key cell (k ∷ keys) e is laid.0)
-      ∙ ap (λ (ss : List Stands). in_columns (k.end - from) (stands k.key (content_of bytes e)) ++ ss)
+      ap (λ (s : Stands). in_columns (k.end - from) (counted k s) ++ row_stands stands_of k.end keys entries)
+      (under-key cell (k ∷ keys) e is laid.0)
+      ∙ ap (λ (ss : List Stands). in_columns (k.end - from) (counted k (stands k.key (content_of bytes e))) ++ ss)
       (rows-stand k.end (suc cell) keys entries (rest-next format.keys (k ∷ keys) cell is) laid.1)
 
   pub row-laid-stands : (entries : List Entry) → AreLaid bytes format 0 entries
@@ -69,8 +70,9 @@ module _ (bytes : List ℕ) (format : FormatRow) where
   rows-wide from cell keys [] is laid = refl
   rows-wide from cell [] (e ∷ entries) is laid = refl
   rows-wide from cell (k ∷ keys) (e ∷ entries) is laid =
-      ap (λ (s : Stands). if_wide from (k.end - from) (alone s) ++ wide_entries stands_of k.end keys entries) (under-key cell (k ∷ keys) e is laid.0)
-      ∙ ap (λ (ws : List Wide). if_wide from (k.end - from) (alone (stands k.key (content_of bytes e))) ++ ws)
+      ap (λ (s : Stands). if_wide from (k.end - from) (alone (counted k s)) ++ wide_entries stands_of k.end keys entries)
+      (under-key cell (k ∷ keys) e is laid.0)
+      ∙ ap (λ (ws : List Wide). if_wide from (k.end - from) (alone (counted k (stands k.key (content_of bytes e)))) ++ ws)
       (rows-wide k.end (suc cell) keys entries (rest-next format.keys (k ∷ keys) cell is) laid.1)
 
 -- columns that have room for those of all rows
@@ -78,7 +80,7 @@ pub fitted-laid : (bytes : List ℕ) (formats : List FormatRow) (columns : ℕ) 
     → AllByRecursion (ElementLaid bytes formats columns) elements → (cs : List Column)
     → fitted_rows formats bars asked elements cs ≡ all_fitted bars asked (all_wide (elements_of bytes formats elements)) cs
 fitted-laid bytes formats columns bars asked [] laid cs = refl
-fitted-laid bytes formats columns bars asked (Row keys rules height is_tall entries ∷ elements) laid cs =
+fitted-laid bytes formats columns bars asked (Row keys rules height entries ∷ elements) laid cs =
     let format = row_at formats keys in
     let own = wide_entries stands 0 format.keys (map (content_of bytes) entries) in
     let more = all_wide (elements_of bytes formats elements) in

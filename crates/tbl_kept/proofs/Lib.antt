@@ -20,3 +20,4 @@ pub mod HeightSteps
 pub mod RowsRaised
 pub mod RowsAlone
 pub mod RowPassed
+pub mod KeptCells

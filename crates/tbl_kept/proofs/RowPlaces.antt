@@ -1,5 +1,5 @@
 -- Where the fields of rows lie, one row after another.
-use Rattle.std.proofs.Common.{◌≡◌, ℕ, zero, suc, ◌+◌, ◌-◌, ◌<◌, ◌≤◌, Bool, List, [], ◌∷◌, ◌++◌, length, map, take, drop, get_or, set, refl, sym, ap, subst, ◌∙◌, arith, length-append, length-drop}
+use Rattle.std.proofs.Common.{◌≡◌, ℕ, zero, suc, ◌+◌, ◌-◌, ◌<◌, ◌≤◌, List, [], ◌∷◌, ◌++◌, length, map, take, drop, get_or, set, refl, sym, ap, subst, ◌∙◌, arith, length-append, length-drop}
 use Rattle.std.specs.List.{AllByRecursion, slice_range}
 use Rattle.std.proofs.lemmas.List.{drop-drop, drop_at, length-take-le, take-take, take_at}
 use Rattle.tbl_format.specs.Format.{FormatRow}
@@ -63,8 +63,8 @@ module _ (fields : List Entry) where
         let last = LieBetween-order row.to to elements lie.2 in
         let front : take row.to fields ≡ take row.to others =
         sym (take-take row.to to fields last) ∙ ap (λ (es : List Entry). take row.to es) same ∙ take-take row.to to others last in
-        ap (λ (es : List Entry). Row row.keys row.rules row.height row.is_tall es ∷ map (kept_in fields) elements) (slice_range-front fields others row.from row.to front)
-        ∙ ap (λ (es : List KeptElement). Row row.keys row.rules row.height row.is_tall (slice_range others row.from row.to) ∷ es) (kept-front row.to to elements same lie.2)
+        ap (λ (es : List Entry). Row row.keys row.rules row.height es ∷ map (kept_in fields) elements) (slice_range-front fields others row.from row.to front)
+        ∙ ap (λ (es : List KeptElement). Row row.keys row.rules row.height (slice_range others row.from row.to) ∷ es) (kept-front row.to to elements same lie.2)
     kept-front from to (OneRule sign ∷ elements) same lie =
         ap (λ (es : List KeptElement). Rule sign ∷ es) (kept-front from to elements same lie)
     kept-front from to (OneCommand start end ∷ elements) same lie =
@@ -83,8 +83,8 @@ module _ (fields : List Entry) where
     kept-behind from to (OneRow row ∷ elements) same lie =
         let part : slice_range fields row.from row.to ≡ slice_range others row.from row.to =
         ap (λ (es : List Entry). take (row.to - row.from) es) (drop-further from row.from (omega (arith, lie.0)) same) in
-        ap (λ (es : List Entry). Row row.keys row.rules row.height row.is_tall es ∷ map (kept_in fields) elements) part
-        ∙ ap (λ (es : List KeptElement). Row row.keys row.rules row.height row.is_tall (slice_range others row.from row.to) ∷ es)
+        ap (λ (es : List Entry). Row row.keys row.rules row.height es ∷ map (kept_in fields) elements) part
+        ∙ ap (λ (es : List KeptElement). Row row.keys row.rules row.height (slice_range others row.from row.to) ∷ es)
         (kept-behind row.to to elements (drop-further from row.to (omega (arith, lie.1)) same) lie.2)
     kept-behind from to (OneRule sign ∷ elements) same lie =
         ap (λ (es : List KeptElement). Rule sign ∷ es) (kept-behind from to elements same lie)
@@ -120,13 +120,13 @@ pub record RowChanged (fields others part : List Entry) (from to : ℕ) : Type 0
   pub is : slice_range others from to ≡ part
   pub behind : drop to others ≡ drop to fields
 
-module _ (row : KeptRow) (height : ℕ) (is_tall : Bool) where
+module _ (row : KeptRow) (height : ℕ) where
   pub LieBetween-set : (from to at : ℕ) (elements : List Element) (none : Element) → at < length elements → get_or elements at none ≡ OneRow row
-      → LieBetween from elements to → LieBetween from (set elements at (OneRow (record row { height = height; is_tall = is_tall }))) to
+      → LieBetween from elements to → LieBetween from (set elements at (OneRow (record row { height = height }))) to
   LieBetween-set from to at [] none more is lie = absurd (omega (arith, more))
   LieBetween-set from to zero (OneRow first ∷ elements) none more is lie =
       let same : first ≡ row = cc in
-      subst (λ (r : KeptRow). LieBetween from (OneRow (record r { height = height; is_tall = is_tall }) ∷ elements) to) same lie
+      subst (λ (r : KeptRow). LieBetween from (OneRow (record r { height = height }) ∷ elements) to) same lie
   LieBetween-set from to zero (OneRule sign ∷ elements) none more is lie = absurd cc
   LieBetween-set from to zero (OneCommand start end ∷ elements) none more is lie = absurd cc
   LieBetween-set from to (suc at) (OneRow first ∷ elements) none more is lie =
@@ -138,21 +138,21 @@ module _ (row : KeptRow) (height : ℕ) (is_tall : Bool) where
 
   module _ (fields others part : List Entry) (is_changed : RowChanged fields others part row.from row.to) where
     first-changed : (first : KeptRow) (to : ℕ) (elements : List Element) → first ≡ row → LieBetween first.to elements to
-        → Row first.keys first.rules height is_tall (slice_range others first.from first.to) ∷ map (kept_in others) elements ≡ Row row.keys row.rules height is_tall part ∷ map (kept_in fields) elements
+        → Row first.keys first.rules height (slice_range others first.from first.to) ∷ map (kept_in others) elements ≡ Row row.keys row.rules height part ∷ map (kept_in fields) elements
     first-changed first to elements same lie =
         let behind : drop first.to others ≡ drop first.to fields = subst (λ (r : KeptRow). drop r.to others ≡ drop r.to fields) (sym same) is_changed.behind in
-        ap (λ (r : KeptRow). Row r.keys r.rules height is_tall (slice_range others r.from r.to) ∷ map (kept_in others) elements) same
-        ∙ ap (λ (es : List Entry). Row row.keys row.rules height is_tall es ∷ map (kept_in others) elements) is_changed.is
-        ∙ ap (λ (es : List KeptElement). Row row.keys row.rules height is_tall part ∷ es) (kept-behind others fields first.to to elements behind lie)
+        ap (λ (r : KeptRow). Row r.keys r.rules height (slice_range others r.from r.to) ∷ map (kept_in others) elements) same
+        ∙ ap (λ (es : List Entry). Row row.keys row.rules height es ∷ map (kept_in others) elements) is_changed.is
+        ∙ ap (λ (es : List KeptElement). Row row.keys row.rules height part ∷ es) (kept-behind others fields first.to to elements behind lie)
 
     pub kept-set : (from to at : ℕ) (elements : List Element) (none : Element) → at < length elements → get_or elements at none ≡ OneRow row
         → LieBetween from elements to
-        → map (kept_in others) (set elements at (OneRow (record row { height = height; is_tall = is_tall })))
-        ≡ set (map (kept_in fields) elements) at (Row row.keys row.rules height is_tall part)
+        → map (kept_in others) (set elements at (OneRow (record row { height = height })))
+        ≡ set (map (kept_in fields) elements) at (Row row.keys row.rules height part)
     kept-set from to at [] none more is lie = absurd (omega (arith, more))
     kept-set from to zero (OneRow first ∷ elements) none more is lie =
         let same : first ≡ row = cc in
-        ap (λ (r : KeptRow). Row r.keys r.rules height is_tall (slice_range others r.from r.to) ∷ map (kept_in others) elements) (sym same)
+        ap (λ (r : KeptRow). Row r.keys r.rules height (slice_range others r.from r.to) ∷ map (kept_in others) elements) (sym same)
         ∙ first-changed first to elements same lie.2
     kept-set from to zero (OneRule sign ∷ elements) none more is lie = absurd cc
     kept-set from to zero (OneCommand start end ∷ elements) none more is lie = absurd cc
@@ -162,9 +162,9 @@ module _ (row : KeptRow) (height : ℕ) (is_tall : Bool) where
         sym (take-take first.to row.from others rest.first)
         ∙ ap (λ (es : List Entry). take first.to es) is_changed.front
         ∙ take-take first.to row.from fields rest.first in
-        ap (λ (es : List Entry). Row first.keys first.rules first.height first.is_tall es ∷ map (kept_in others) (set elements at (OneRow (record row { height = height; is_tall = is_tall }))))
+        ap (λ (es : List Entry). Row first.keys first.rules first.height es ∷ map (kept_in others) (set elements at (OneRow (record row { height = height }))))
         (slice_range-front others fields first.from first.to front)
-        ∙ ap (λ (es : List KeptElement). Row first.keys first.rules first.height first.is_tall (slice_range fields first.from first.to) ∷ es)
+        ∙ ap (λ (es : List KeptElement). Row first.keys first.rules first.height (slice_range fields first.from first.to) ∷ es)
         (kept-set first.to to at elements none (omega (arith, more)) is lie.2)
     kept-set from to (suc at) (OneRule sign ∷ elements) none more is lie =
         ap (λ (es : List KeptElement). Rule sign ∷ es) (kept-set from to at elements none (omega (arith, more)) is lie)

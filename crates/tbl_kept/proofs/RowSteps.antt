@@ -1,5 +1,5 @@
 -- The rows of a table behind one step, by how they lie in lists.
-use Rattle.std.proofs.Common.{◌≡◌, ℕ, zero, suc, ◌+◌, ◌-◌, ◌≤◌, false, List, [], ◌∷◌, ◌++◌, length, map, take, drop, get_or, set, sym, ap, ◌∙◌, arith, length-drop}
+use Rattle.std.proofs.Common.{◌≡◌, ℕ, zero, suc, ◌+◌, ◌-◌, ◌≤◌, List, [], ◌∷◌, ◌++◌, length, map, take, drop, get_or, set, sym, ap, ◌∙◌, arith, length-drop}
 use Rattle.std.specs.List.{slice_range}
 use Rattle.std.proofs.lemmas.List.{drop-append-le, drop_all, map-append, take-append-le, take-set-le, take_all}
 use Rattle.tbl_format.specs.Format.{FormatRow}
@@ -59,7 +59,7 @@ module _ (fields : List Entry) (elements : List Element) (start : ℕ) where
 pub row-ended : (fields : List Entry) (elements : List Element) (start last end : ℕ) (columns new_columns : List Column) (entry_room element_room column_room keys rules : ℕ) (format : FormatRow)
     → last ≡ length fields → end ≡ length fields → new_columns ≡ holding format (drop start fields) columns
     → record {
-      elements = map (kept_in fields) (elements ++ OneRow (record { keys = keys; rules = rules; height = 1; is_tall = false; from = start; to = last }) ∷ []);
+      elements = map (kept_in fields) (elements ++ OneRow (record { keys = keys; rules = rules; height = 1; from = start; to = last }) ∷ []);
       row = drop end fields;
       columns = new_columns;
       entry_room = entry_room;
@@ -76,10 +76,10 @@ pub row-ended : (fields : List Entry) (elements : List Element) (start last end 
 row-ended fields elements start last end columns new_columns entry_room element_room column_room keys rules format whole done held =
     let rows_of : List KeptElement → List Entry → List Column → KeptRows =
     λ els r cs. record { elements = els; row = r; columns = cs; entry_room = entry_room; element_room = element_room; column_room = column_room } in
-    let row = OneRow (record { keys = keys; rules = rules; height = 1; is_tall = false; from = start; to = last }) in
+    let row = OneRow (record { keys = keys; rules = rules; height = 1; from = start; to = last }) in
     let kept = map (kept_in fields) elements in
     let part : slice_range fields start last ≡ drop start fields = take_all (last - start) (drop start fields) (omega (arith, whole, length-drop start fields)) in
     ap (λ (els : List KeptElement). rows_of els (drop end fields) new_columns) (map-append (kept_in fields) elements (row ∷ []))
-    ∙ ap (λ (es : List Entry). rows_of (kept ++ Row keys rules 1 false es ∷ []) (drop end fields) new_columns) part
-    ∙ ap (λ (r : List Entry). rows_of (kept ++ Row keys rules 1 false (drop start fields) ∷ []) r new_columns) (drop_all end fields (omega (arith, done)))
-    ∙ ap (λ (cs : List Column). rows_of (kept ++ Row keys rules 1 false (drop start fields) ∷ []) [] cs) held
+    ∙ ap (λ (es : List Entry). rows_of (kept ++ Row keys rules 1 es ∷ []) (drop end fields) new_columns) part
+    ∙ ap (λ (r : List Entry). rows_of (kept ++ Row keys rules 1 (drop start fields) ∷ []) r new_columns) (drop_all end fields (omega (arith, done)))
+    ∙ ap (λ (cs : List Column). rows_of (kept ++ Row keys rules 1 (drop start fields) ∷ []) [] cs) held

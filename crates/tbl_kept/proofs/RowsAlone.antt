@@ -1,4 +1,4 @@
--- Rows of which no cell goes on with one above it: each is as high as the most lines of its fields, and none is tall.
+-- Rows of which no cell goes on with one above it: each is as high as the most lines of its fields.
 use Rattle.std.proofs.Common.{◌≡◌, ℕ, zero, suc, ◌-◌, ◌≤◌, max, Bool, true, false, not, ◌||◌, List, [], ◌∷◌, ◌++◌, length, map, take, drop, get_or, refl, sym, ap, ◌∙◌, arith}
 use Rattle.std.specs.Prelude.{if◌then◌else◌, Option, None, Some, is_some}
 use Rattle.std.specs.List.{AllByRecursion, list_any, slice_range}
@@ -12,7 +12,7 @@ use Rattle.tbl_format.specs.declared.format.Key.{Key}
 use Rattle.tbl_format.specs.declared.format.Key.TheVariants.{Above, Alphabetic, Center, DoubleRule, Left, Numeric, Right, Rule as RuleKey, Spanned, WideNumeric}
 use Rattle.tbl_layout.specs.Columns.{greatest}
 use Rattle.tbl_layout.specs.Entries.{Command as SeenCommand, Content, Element as OneElement, Row as SeenRow, Rule as SeenRule, Text, field_at, key_at}
-use Rattle.tbl_layout.specs.Heights.{NoneAbove, cell_above, ending_from, ends_in_front_of, goes_down_from, goes_up_from, height_in_front_of, heights_behind, if_above, is_above, is_tall_by, left_of_cell, lefts, lefts_from, lines_in, rules_between}
+use Rattle.tbl_layout.specs.Heights.{NoneAbove, cell_above, ending_from, ends_in_front_of, height_in_front_of, heights_behind, if_above, is_above, left_of_cell, lefts, lefts_from, lines_in, rules_between}
 use Rattle.tbl_layout.specs.KeptEntries.{IsLaidBy, all_entries, content_by, lines_by, no_entry, said_by_key}
 use Rattle.tbl_layout.specs.RuleKeys.{in_front_of, kind_of_key}
 use Rattle.tbl_layout.specs.Spans.{measure_of}
@@ -26,7 +26,7 @@ use Rattle.tbl_kept.specs.Rows.{AreLaid, Command, ElementLaid, IsPlain, IsPlainT
 use Rattle.tbl_kept.specs.RowsInside.{kept_in}
 use Rattle.tbl_kept.specs.declared.rows.Element.{Element}
 use Rattle.tbl_kept.specs.declared.rows.Element.TheVariants.{Command as OneCommand, Row as OneRow, Rule as OneRule}
-use Rattle.tbl_kept.specs.RowsLaying.{IsAlone, NoFormatsGoOn, NoKeysGoOn, NoneGoOn, goes_on, is_above_key, laid_by, laid_entries, laid_row}
+use Rattle.tbl_kept.specs.RowsLaying.{AllCount, NoFormatsGoOn, NoKeysGoOn, NoneGoOn, goes_on, is_above_key, laid_by, laid_entries, laid_row}
 use Rattle.tbl_kept.proofs.AllLaid.{cell-laid, highest_of, highest_of-more, under, under-low}
 use Rattle.tbl_kept.proofs.CellHeights.{above-seen, field-seen, lines-laid}
 use Rattle.tbl_kept.proofs.ColumnsHeld.{rest-next}
@@ -116,7 +116,7 @@ module _ (bytes : List ℕ) (format : FormatRow) (entries : List Entry) (keys_no
 
 -- rows of which no cell goes on
 abbrev pub HasNoneGoOn : KeptElement → Type 0
-HasNoneGoOn (Row keys rules height is_tall entries) = NoneGoOn entries
+HasNoneGoOn (Row keys rules height entries) = NoneGoOn entries
 HasNoneGoOn (Rule sign) = Unit {0}
 HasNoneGoOn (Command from to) = Unit {0}
 
@@ -128,7 +128,7 @@ no-keys (row ∷ formats) (suc at) none = no-keys formats at none.1
 module _ (bytes : List ℕ) (formats : List FormatRow) (no_formats : NoFormatsGoOn formats) where
   pub none-above : (elements : List KeptElement) → AllByRecursion HasNoneGoOn elements → AllByRecursion NoneAbove (elements_of bytes formats elements)
   none-above [] none = tt
-  none-above (Row keys rules height is_tall entries ∷ elements) none =
+  none-above (Row keys rules height entries ∷ elements) none =
       (field-none bytes (row_at formats keys) entries (no-keys formats keys no_formats) none.0, none-above elements none.1)
   none-above (Rule sign ∷ elements) none = (tt, none-above elements none.1)
   none-above (Command from to ∷ elements) none = (tt, none-above elements none.1)
@@ -142,12 +142,6 @@ module _ (fields : List Content) (none : (cell : ℕ) → is_above (field_at fie
   if_above-none None = refl
   if_above-none (Some cell) = ap (λ (t : Bool). if t then Some cell else None) (none cell)
 
-  goes_up-none : (above keys : List FormatKey) (cell count : ℕ) → goes_up_from above keys fields cell count ≡ false
-  goes_up-none above keys cell zero = refl
-  goes_up-none above keys cell (suc count) =
-      ap (λ (o : Option ℕ). is_some o || goes_up_from above keys fields (suc cell) count) (cell_above-none above keys cell)
-      ∙ goes_up-none above keys (suc cell) count
-
 -- and none of those in front of such rows has one that goes on with it
 ends-always : (elements : List OneElement) → AllByRecursion NoneAbove elements → (keys : List FormatKey) (cell : ℕ) → ends_in_front_of keys elements cell ≡ true
 ends-always [] none keys cell = refl
@@ -155,13 +149,6 @@ ends-always (SeenRow rules format fields ∷ elements) none keys cell =
     ap (λ (o : Option ℕ). not (is_some o)) (if_above-none fields none.0 (same_cell format.keys keys cell))
 ends-always (SeenRule sign ∷ elements) none keys cell = ends-always elements none.1 keys cell
 ends-always (SeenCommand bytes ∷ elements) none keys cell = ends-always elements none.1 keys cell
-
-goes_down-none : (elements : List OneElement) → AllByRecursion NoneAbove elements → (keys : List FormatKey) (cell count : ℕ)
-    → goes_down_from keys elements cell count ≡ false
-goes_down-none elements none keys cell zero = refl
-goes_down-none elements none keys cell (suc count) =
-    ap (λ (t : Bool). not t || goes_down_from keys elements (suc cell) count) (ends-always elements none keys cell)
-    ∙ goes_down-none elements none keys (suc cell) count
 
 -- the lines of a field, and one line at least
 text-most : (key : Key) (text : List ℕ) → max 1 (lines_in key (Text text)) ≡ 1
@@ -215,10 +202,6 @@ module _ (bytes : List ℕ) (format : FormatRow) (entries : List Entry) (none : 
       cells-high 0 count (all_entries format entries) refl
       ∙ highest_of-more count entries (under (drop (length entries) format.keys)) short (under-low (drop (length entries) format.keys))
 
-tall-none : (is_first : Bool) → is_tall_by is_first false false ≡ false
-tall-none true = refl
-tall-none false = refl
-
 module _ (bytes : List ℕ) (formats : List FormatRow) (is_inside : Bool) (columns : ℕ) where
   abbrev here : ℕ → ℕ → List Entry → List FormatKey → List ℕ → ℕ → List ℕ
   here keys rules entries above left front =
@@ -229,13 +212,6 @@ module _ (bytes : List ℕ) (formats : List FormatRow) (is_inside : Bool) (colum
   high keys rules entries above left front elements =
       height_in_front_of (row_at formats keys).keys (elements_of bytes formats elements) (here keys rules entries above left front)
 
-  abbrev tall : ℕ → List Entry → Bool → List FormatKey → List KeptElement → Bool
-  tall keys entries is_first above elements =
-      let format = row_at formats keys in
-      let count = cell_count format.keys columns in
-      is_tall_by is_first (goes_up_from above format.keys (fields_of bytes format entries) 0 count)
-      (goes_down_from format.keys (elements_of bytes formats elements) 0 count)
-
   row-height : (keys rules : ℕ) (entries : List Entry) (above : List FormatKey) (left : List ℕ) (front : ℕ) (elements : List KeptElement)
       → ((cell : ℕ) → is_above (field_at (fields_of bytes (row_at formats keys) entries) cell) ≡ false) → RowLaid bytes formats columns keys rules entries
       → AllByRecursion NoneAbove (elements_of bytes formats elements) → high keys rules entries above left front elements ≡ height_of entries
@@ -243,40 +219,27 @@ module _ (bytes : List ℕ) (formats : List FormatRow) (is_inside : Bool) (colum
       row-high bytes (row_at formats keys) entries none laid.laid (elements_of bytes formats elements) rest above left
       (rules_between is_inside front (length (rows_in_front formats keys rules))) (cell_count (row_at formats keys).keys columns) laid.short
 
-  row-tall : (keys : ℕ) (entries : List Entry) (is_first : Bool) (above : List FormatKey) (elements : List KeptElement)
-      → ((cell : ℕ) → is_above (field_at (fields_of bytes (row_at formats keys) entries) cell) ≡ false)
-      → AllByRecursion NoneAbove (elements_of bytes formats elements) → tall keys entries is_first above elements ≡ false
-  row-tall keys entries is_first above elements none rest =
-      let format = row_at formats keys in
-      let fields = fields_of bytes format entries in
-      let all = elements_of bytes formats elements in
-      let count = cell_count format.keys columns in
-      ap (λ (t : Bool). is_tall_by is_first t (goes_down_from format.keys all 0 count)) (goes_up-none fields none above format.keys 0 count)
-      ∙ ap (λ (t : Bool). is_tall_by is_first false t) (goes_down-none all rest format.keys 0 count)
-      ∙ tall-none is_first
-
   -- so all rows have their heights already
-  pub raised-alone : (elements : List KeptElement) (is_first : Bool) (above : List FormatKey) (left : List ℕ) (front : ℕ)
+  pub raised-alone : (elements : List KeptElement) (above : List FormatKey) (left : List ℕ) (front : ℕ)
       → AllByRecursion NoneAbove (elements_of bytes formats elements) → AllByRecursion (ElementLaid bytes formats columns) elements
-      → AllByRecursion IsAlone elements → raised_behind bytes formats is_inside columns is_first above left front elements ≡ elements
-  raised-alone [] is_first above left front none laid alone = refl
-  raised-alone (Row keys rules height is_tall entries ∷ elements) is_first above left front none laid alone =
-      ap (λ (es : List KeptElement). Row keys rules (high keys rules entries above left front elements) (tall keys entries is_first above elements) entries ∷ es)
-      (raised-alone elements false (row_at formats keys).keys _ 0 none.1 laid.1 alone.1)
-      ∙ ap (λ (h : ℕ). Row keys rules h (tall keys entries is_first above elements) entries ∷ elements)
-      (row-height keys rules entries above left front elements none.0 laid.0 none.1 ∙ sym alone.0.0)
-      ∙ ap (λ (t : Bool). Row keys rules height t entries ∷ elements) (row-tall keys entries is_first above elements none.0 none.1 ∙ sym alone.0.1)
-  raised-alone (Rule sign ∷ elements) is_first above left front none laid alone =
-      ap (λ (es : List KeptElement). Rule sign ∷ es) (raised-alone elements is_first above left (suc front) none.1 laid.1 alone.1)
-  raised-alone (Command from to ∷ elements) is_first above left front none laid alone =
-      ap (λ (es : List KeptElement). Command from to ∷ es) (raised-alone elements is_first above left front none.1 laid.1 alone.1)
+      → AllByRecursion IsPlain elements → raised_behind bytes formats is_inside columns above left front elements ≡ elements
+  raised-alone [] above left front none laid alone = refl
+  raised-alone (Row keys rules height entries ∷ elements) above left front none laid alone =
+      ap (λ (es : List KeptElement). Row keys rules (high keys rules entries above left front elements) entries ∷ es)
+      (raised-alone elements (row_at formats keys).keys _ 0 none.1 laid.1 alone.1)
+      ∙ ap (λ (h : ℕ). Row keys rules h entries ∷ elements)
+      (row-height keys rules entries above left front elements none.0 laid.0 none.1 ∙ sym alone.0)
+  raised-alone (Rule sign ∷ elements) above left front none laid alone =
+      ap (λ (es : List KeptElement). Rule sign ∷ es) (raised-alone elements above left (suc front) none.1 laid.1 alone.1)
+  raised-alone (Command from to ∷ elements) above left front none laid alone =
+      ap (λ (es : List KeptElement). Command from to ∷ es) (raised-alone elements above left front none.1 laid.1 alone.1)
 
   -- and rows with the heights that they have in the table are as high as the most lines of their fields
   plain-behind : (elements : List KeptElement) (above : List FormatKey) (left : List ℕ) (front : ℕ)
       → AllByRecursion NoneAbove (elements_of bytes formats elements) → AllByRecursion (ElementLaid bytes formats columns) elements
       → heights_of elements ≡ heights_behind is_inside columns above left front (elements_of bytes formats elements) → AllByRecursion IsPlain elements
   plain-behind [] above left front none laid heights = tt
-  plain-behind (Row keys rules height is_tall entries ∷ elements) above left front none laid heights =
+  plain-behind (Row keys rules height entries ∷ elements) above left front none laid heights =
       let own : height ≡ high keys rules entries above left front elements = ap (λ (hs : List ℕ). get_or hs 0 0) heights in (
         own ∙ row-height keys rules entries above left front elements none.0 laid.0 none.1,
         plain-behind elements (row_at formats keys).keys
@@ -306,3 +269,9 @@ pub no_keys-any : (keys : List FormatKey) → list_any (λ (k : FormatKey). is_a
 no_keys-any [] none = tt
 no_keys-any (k ∷ keys) none =
     let parts = or-none (is_above_key k.key) (list_any (λ (x : FormatKey). is_above_key x.key) keys) none in (parts.0, no_keys-any keys parts.1)
+
+-- and keys under which all counts
+pub all_count-any : (keys : List FormatKey) → list_any (λ (k : FormatKey). k.has_no_width) keys ≡ false → AllCount keys
+all_count-any [] none = tt
+all_count-any (k ∷ keys) none =
+    let parts = or-none k.has_no_width (list_any (λ (x : FormatKey). x.has_no_width) keys) none in (parts.0, all_count-any keys parts.1)

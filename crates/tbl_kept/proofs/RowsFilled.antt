@@ -1,5 +1,5 @@
 -- The rows of a table, whose blocks are filled.
-use Rattle.std.proofs.Common.{◌≡◌, ℕ, suc, ◌+◌, ◌<◌, ◌≤◌, max, Bool, List, [], ◌∷◌, ◌++◌, length, map, take, set, refl, sym, ap, subst, ◌∙◌, arith}
+use Rattle.std.proofs.Common.{◌≡◌, ℕ, suc, ◌+◌, ◌<◌, ◌≤◌, max, List, [], ◌∷◌, ◌++◌, length, map, take, set, refl, sym, ap, subst, ◌∙◌, arith}
 use Rattle.std.specs.List.{AllByRecursion}
 use Rattle.std.proofs.lemmas.List.{take_more_set}
 use Rattle.tbl_format.proofs.CellColumns.{length-by_cells}
@@ -71,15 +71,15 @@ module _ (bytes : List ℕ) (bars : Bars) (line_length count : ℕ) where
 
 module _ (bytes : List ℕ) (formats : List FormatRow) (bars : Bars) (line_length : ℕ) (asked : List Asked) where
   -- all rows are laid out
-  pub row-short : (keys rules height : ℕ) (is_tall : Bool) (entries : List Entry) → ElementKept bytes formats (length asked) (Row keys rules height is_tall entries)
+  pub row-short : (keys rules height : ℕ) (entries : List Entry) → ElementKept bytes formats (length asked) (Row keys rules height entries)
       → length entries ≤ length (by_cells 0 (row_at formats keys).keys asked)
-  row-short keys rules height is_tall entries kept =
+  row-short keys rules height entries kept =
       omega (arith, kept.short, length-by_cells (row_at formats keys).keys asked kept.cells.cells kept.cells.short)
 
   pub all-laid : (elements : List KeptElement) → AllByRecursion (ElementKept bytes formats (length asked)) elements
       → AllByRecursion (ElementLaid bytes formats (length asked)) (map (laid_element bytes formats bars line_length asked) elements)
   all-laid [] kept = tt
-  all-laid (Row keys rules height is_tall entries ∷ elements) kept =
+  all-laid (Row keys rules height entries ∷ elements) kept =
       let format = row_at formats keys in
       let cells = by_cells 0 format.keys asked in
       let same = length-laid bytes bars line_length (length asked) cells entries in (
@@ -89,7 +89,7 @@ module _ (bytes : List ℕ) (formats : List FormatRow) (bars : Bars) (line_lengt
           ruled = kept.0.ruled;
           cells = record { cells = kept.0.cells.cells; short = kept.0.cells.short };
           short = omega (arith, kept.0.short, same);
-          laid = fields-laid bytes bars line_length (length asked) format 0 cells entries (row-short keys rules height is_tall entries kept.0) kept.0.kept;
+          laid = fields-laid bytes bars line_length (length asked) format 0 cells entries (row-short keys rules height entries kept.0) kept.0.kept;
         },
         all-laid elements kept.1,
       )
@@ -99,7 +99,7 @@ module _ (bytes : List ℕ) (formats : List FormatRow) (bars : Bars) (line_lengt
   -- and have the same texts, and the same blocks in their measures
   element_of-laid : (e : KeptElement)
       → element_of bytes formats (laid_element bytes formats bars line_length asked e) ≡ filled_element bars line_length asked (element_of bytes formats e)
-  element_of-laid (Row keys rules height is_tall entries) =
+  element_of-laid (Row keys rules height entries) =
       let format = row_at formats keys in
       let cells = by_cells 0 format.keys asked in
       ap (λ (fields : List Content). OneRow (rows_in_front formats keys rules) format (completed format fields))

@@ -8,7 +8,7 @@ use Rattle.tbl_format.specs.FormatRows.{AreWithin}
 use Rattle.tbl_format.specs.RowsServed.{row_at}
 use Rattle.tbl_layout.specs.Columns.{row_stands}
 use Rattle.tbl_layout.specs.Entries.{Command as OneCommand, Content, Element, Row as OneRow, Rule as OneRule, completed, key_at}
-use Rattle.tbl_layout.specs.Heights.{heights, talls}
+use Rattle.tbl_layout.specs.Heights.{heights}
 use Rattle.tbl_layout.specs.KeptEntries.{IsKept, content_of, stands_of, with_end}
 use Rattle.tbl_layout.specs.declared.columns.Column.{Column}
 use Rattle.tbl_layout.specs.declared.data_lines.RuleSign.{RuleSign}
@@ -38,7 +38,7 @@ RowsKept-none bytes formats entries elements columns = record { elements = tt; c
 -- bytes behind those of the table change no row
 module _ (bytes more : List ℕ) (formats : List FormatRow) where
   element-kept-more : (columns : ℕ) (e : KeptElement) → ElementKept bytes formats columns e → ElementKept (bytes ++ more) formats columns e
-  element-kept-more columns (Row keys rules height is_tall entries) kept = record {
+  element-kept-more columns (Row keys rules height entries) kept = record {
     serves = kept.serves;
     in_front = kept.in_front;
     ruled = kept.ruled;
@@ -46,14 +46,13 @@ module _ (bytes more : List ℕ) (formats : List FormatRow) where
     short = kept.short;
     kept = AreKept-more bytes more (row_at formats keys) 0 entries kept.kept;
     low = kept.low;
-    alone = kept.alone;
   }
   element-kept-more columns (Rule sign) kept = tt
   element-kept-more columns (Command from to) kept = record { order = kept.order; within = more-within bytes more to kept.within }
 
   element_of-more : (columns : ℕ) (e : KeptElement) → ElementKept bytes formats columns e
       → element_of (bytes ++ more) formats e ≡ element_of bytes formats e
-  element_of-more columns (Row keys rules height is_tall entries) kept =
+  element_of-more columns (Row keys rules height entries) kept =
       ap (λ (fields : List Content). OneRow (rows_in_front formats keys rules) (row_at formats keys) (completed (row_at formats keys) fields)) (contents-more bytes more (row_at formats keys) 0 entries kept.kept)
   element_of-more columns (Rule sign) kept = refl
   element_of-more columns (Command from to) kept = ap OneCommand (part-more bytes more from to kept.within)
@@ -93,7 +92,7 @@ module _ (bytes more : List ℕ) (formats : List FormatRow) where
       ∙ ap (λ (cs : List Content). content_of bytes e ∷ cs) (contents-laid-more format (suc cell) entries laid.1)
 
   element-laid-more : (columns : ℕ) (e : KeptElement) → ElementLaid bytes formats columns e → ElementLaid (bytes ++ more) formats columns e
-  element-laid-more columns (Row keys rules height is_tall entries) laid = record {
+  element-laid-more columns (Row keys rules height entries) laid = record {
     serves = laid.serves;
     in_front = laid.in_front;
     ruled = laid.ruled;
@@ -106,7 +105,7 @@ module _ (bytes more : List ℕ) (formats : List FormatRow) where
 
   element_of-laid-more : (columns : ℕ) (e : KeptElement) → ElementLaid bytes formats columns e
       → element_of (bytes ++ more) formats e ≡ element_of bytes formats e
-  element_of-laid-more columns (Row keys rules height is_tall entries) laid =
+  element_of-laid-more columns (Row keys rules height entries) laid =
       ap (λ (fields : List Content). OneRow (rows_in_front formats keys rules) (row_at formats keys) (completed (row_at formats keys) fields)) (contents-laid-more (row_at formats keys) 0 entries laid.laid)
   element_of-laid-more columns (Rule sign) laid = refl
   element_of-laid-more columns (Command from to) laid = ap OneCommand (part-more bytes more from to laid.within)
@@ -124,7 +123,6 @@ module _ (bytes more : List ℕ) (formats : List FormatRow) where
         elements = each (ElementLaid bytes formats (length k.columns)) (ElementLaid (bytes ++ more) formats (length k.columns))
             (element-laid-more (length k.columns)) k.elements laid.elements;
         heights = laid.heights ∙ ap (heights is_inside (length k.columns)) (sym same);
-        talls = laid.talls ∙ ap (talls (length k.columns)) (sym same);
       }
 
 -- rows of formats behind those that are known change no row
@@ -136,7 +134,7 @@ rows_in_front-more formats more keys rules serves few =
 
 module _ (bytes : List ℕ) (formats more : List FormatRow) where
   element-kept-formats : (columns : ℕ) (e : KeptElement) → ElementKept bytes formats columns e → ElementKept bytes (formats ++ more) columns e
-  element-kept-formats columns (Row keys rules height is_tall entries) kept = record {
+  element-kept-formats columns (Row keys rules height entries) kept = record {
     serves = omega (arith, kept.serves, length-append formats more);
     in_front = kept.in_front;
     ruled = subst (AllByRecursion IsRuleRow) (sym (rows_in_front-more formats more keys rules kept.serves kept.in_front)) kept.ruled;
@@ -144,14 +142,13 @@ module _ (bytes : List ℕ) (formats more : List FormatRow) where
     short = subst (λ (row : FormatRow). length entries ≤ cell_count row.keys columns) (sym (row_at-more bytes formats more columns keys kept.serves)) kept.short;
     kept = subst (λ (row : FormatRow). AreKept bytes row 0 entries) (sym (row_at-more bytes formats more columns keys kept.serves)) kept.kept;
     low = kept.low;
-    alone = kept.alone;
   }
   element-kept-formats columns (Rule sign) kept = tt
   element-kept-formats columns (Command from to) kept = record { order = kept.order; within = kept.within }
 
   element_of-formats : (columns : ℕ) (e : KeptElement) → ElementKept bytes formats columns e
       → element_of bytes (formats ++ more) e ≡ element_of bytes formats e
-  element_of-formats columns (Row keys rules height is_tall entries) kept =
+  element_of-formats columns (Row keys rules height entries) kept =
       ap (λ (row : FormatRow). OneRow (rows_in_front (formats ++ more) keys rules) row (fields_of bytes row entries))
       (row_at-more bytes formats more columns keys kept.serves)
       ∙ ap (λ (front : List FormatRow). OneRow front (row_at formats keys) (fields_of bytes (row_at formats keys) entries))
@@ -244,23 +241,23 @@ module _ (bytes : List ℕ) (formats : List FormatRow) (k : KeptRows) where
       → AreWithin (length k.columns) (row_at formats keys).keys → RowBegunKept bytes formats keys k → RowsKept bytes formats (with_row keys rules (row_at formats keys) k)
   RowsKept-row keys rules serves in_front ruled cells begun =
       let entries = row_stands stands_of 0 (row_at formats keys).keys k.row in
-      let columns : held_by entries k.columns ≡ columns_holding formats (k.elements ++ Row keys rules 1 false k.row ∷ []) 0 (length k.columns) =
+      let columns : held_by entries k.columns ≡ columns_holding formats (k.elements ++ Row keys rules 1 k.row ∷ []) 0 (length k.columns) =
       ap (λ (cs : List Column). held_by entries cs) begun.all.columns
-      ∙ holding-row formats k.elements keys rules 1 false k.row (length k.columns) 0 entries refl in
+      ∙ holding-row formats k.elements keys rules 1 k.row (length k.columns) 0 entries refl in
       let same : length (held_by entries k.columns) ≡ length k.columns =
-      ap length columns ∙ length-columns_holding formats (k.elements ++ Row keys rules 1 false k.row ∷ []) 0 (length k.columns) in
-      let all : AllByRecursion (ElementKept bytes formats (length k.columns)) (k.elements ++ Row keys rules 1 false k.row ∷ []) =
-      each-append (ElementKept bytes formats (length k.columns)) k.elements (Row keys rules 1 false k.row ∷ []) begun.all.elements
-      (record { serves = serves; in_front = in_front; ruled = ruled; cells = cells; short = begun.short; kept = begun.row; low = refl; alone = refl }, tt) in
+      ap length columns ∙ length-columns_holding formats (k.elements ++ Row keys rules 1 k.row ∷ []) 0 (length k.columns) in
+      let all : AllByRecursion (ElementKept bytes formats (length k.columns)) (k.elements ++ Row keys rules 1 k.row ∷ []) =
+      each-append (ElementKept bytes formats (length k.columns)) k.elements (Row keys rules 1 k.row ∷ []) begun.all.elements
+      (record { serves = serves; in_front = in_front; ruled = ruled; cells = cells; short = begun.short; kept = begun.row; low = refl }, tt) in
       record {
-        elements = subst (λ (n : ℕ). AllByRecursion (ElementKept bytes formats n) (k.elements ++ Row keys rules 1 false k.row ∷ [])) (sym same) all;
-        columns = columns ∙ ap (λ (n : ℕ). columns_holding formats (k.elements ++ Row keys rules 1 false k.row ∷ []) 0 n) (sym same);
+        elements = subst (λ (n : ℕ). AllByRecursion (ElementKept bytes formats n) (k.elements ++ Row keys rules 1 k.row ∷ [])) (sym same) all;
+        columns = columns ∙ ap (λ (n : ℕ). columns_holding formats (k.elements ++ Row keys rules 1 k.row ∷ []) 0 n) (sym same);
       }
 
   pub elements_of-row : (keys rules : ℕ) → elements_of bytes formats (with_row keys rules (row_at formats keys) k).elements
       ≡ elements_of bytes formats k.elements
       ++ OneRow (rows_in_front formats keys rules) (row_at formats keys) (fields_of bytes (row_at formats keys) k.row) ∷ []
-  elements_of-row keys rules = map-append (element_of bytes formats) k.elements (Row keys rules 1 false k.row ∷ [])
+  elements_of-row keys rules = map-append (element_of bytes formats) k.elements (Row keys rules 1 k.row ∷ [])
 
   -- a command
   pub RowsKept-command : (from to : ℕ) → from ≤ to → to ≤ length bytes → RowsKept bytes formats k
@@ -299,7 +296,7 @@ module _ (bytes : List ℕ) (formats : List FormatRow) (k : KeptRows) where
   length-columns count = omega (arith, length-append k.columns (replicate (count - length k.columns) no_column), length-replicate (count - length k.columns) no_column)
 
   element-wider : (few many : ℕ) → few ≤ many → (e : KeptElement) → ElementKept bytes formats few e → ElementKept bytes formats many e
-  element-wider few many less (Row keys rules height is_tall entries) kept =
+  element-wider few many less (Row keys rules height entries) kept =
       record {
         serves = kept.serves;
         in_front = kept.in_front;
@@ -308,7 +305,6 @@ module _ (bytes : List ℕ) (formats : List FormatRow) (k : KeptRows) where
         short = omega (arith, kept.short, less);
         kept = kept.kept;
         low = kept.low;
-        alone = kept.alone;
       }
   element-wider few many less (Rule sign) kept = tt
   element-wider few many less (Command from to) kept = record { order = kept.order; within = kept.within }

@@ -1,5 +1,5 @@
 -- The rows of a table, one laid out, and all.
-use Rattle.std.proofs.Common.{◌≡◌, ℕ, suc, ◌+◌, ◌<◌, Bool, false, List, [], ◌∷◌, length, map, drop, get_or, set, refl, sym, ap, subst, ◌∙◌}
+use Rattle.std.proofs.Common.{◌≡◌, ℕ, suc, ◌+◌, ◌<◌, Bool, List, [], ◌∷◌, length, map, drop, get_or, set, refl, sym, ap, subst, ◌∙◌}
 use Rattle.std.specs.List.{AllByRecursion, slice_range}
 use Rattle.std.proofs.lemmas.List.{length-map}
 use Rattle.tbl_format.specs.Format.{FormatRow}
@@ -7,7 +7,7 @@ use Rattle.tbl_format.specs.RowsServed.{row_at}
 use Rattle.tbl_format.specs.declared.format.Asked.{Asked}
 use Rattle.tbl_layout.specs.Columns.{columns_from, equalled, placed, row_stands, with_bars, with_equal, with_widths}
 use Rattle.tbl_layout.specs.Entries.{Element as OneElement}
-use Rattle.tbl_layout.specs.Heights.{heights, talls}
+use Rattle.tbl_layout.specs.Heights.{heights}
 use Rattle.tbl_layout.specs.Spans.{all_fitted, all_wide, columns_laid, filled}
 use Rattle.tbl_layout.specs.declared.bars.Bars.{Bars}
 use Rattle.tbl_layout.specs.declared.columns.Column.{Column}
@@ -15,9 +15,9 @@ use Rattle.tbl_layout.specs.declared.columns.Stands.{Stands}
 use Rattle.tbl_layout.specs.declared.entry.Entry.{Entry}
 use Rattle.tbl_layout.proofs.Spreading.{length-all_fitted}
 use Rattle.tbl_kept.specs.KeptHeights.{raised}
-use Rattle.tbl_kept.specs.Rows.{Command, ElementKept, ElementLaid, KeptElement, KeptRows, Row, RowsKept, RowsLaid, Rule, SameRoom, columns_holding, elements_of, height_of, held_by}
+use Rattle.tbl_kept.specs.Rows.{Command, ElementKept, ElementLaid, IsPlain, KeptElement, KeptRows, Row, RowsKept, RowsLaid, Rule, SameRoom, columns_holding, elements_of, height_of, held_by}
 use Rattle.tbl_kept.specs.RowsInside.{LieBetween, kept_in}
-use Rattle.tbl_kept.specs.RowsLaying.{ElementWithin, IsAlone, all_held, all_laid, block_stands, blocks_held, fitted_rows, holding_blocks, laid_at, laid_element, laid_row, wide_in}
+use Rattle.tbl_kept.specs.RowsLaying.{ElementWithin, all_held, all_laid, block_stands, blocks_held, fitted_rows, holding_blocks, laid_at, laid_element, laid_row, wide_in}
 use Rattle.tbl_kept.specs.declared.rows.Element.{Element}
 use Rattle.tbl_kept.specs.declared.rows.Element.TheVariants.{Row as OneRow}
 use Rattle.tbl_kept.specs.declared.rows.KeptRow.{KeptRow}
@@ -35,7 +35,7 @@ module _ (fields others part : List Entry) (elements : List Element) (start at :
       → part ≡ laid_row bytes bars line_length asked (row_at formats row.keys).keys (slice_range fields row.from row.to)
       → new_columns ≡ holding_blocks (row_at formats row.keys).keys part columns
       → record {
-        elements = map (kept_in others) (set elements at (OneRow (record row { height = height; is_tall = false })));
+        elements = map (kept_in others) (set elements at (OneRow (record row { height = height })));
         row = drop start others;
         columns = new_columns;
         entry_room = entry_room;
@@ -56,14 +56,14 @@ module _ (fields others part : List Entry) (elements : List Element) (start at :
       λ els r cs. record { elements = els; row = r; columns = cs; entry_room = entry_room; element_room = element_room; column_room = column_room } in
       let kept = map (kept_in fields) elements in
       let change : KeptElement → KeptElement = laid_element bytes formats bars line_length asked in
-      let same : get_or kept at (Command 0 0) ≡ Row row.keys row.rules row.height row.is_tall slice = kept-at fields elements at none (OneRow row) (Command 0 0) more is in
-      let element : Row row.keys row.rules height false part ≡ change (get_or kept at (Command 0 0)) =
-      ap (λ (h : ℕ). Row row.keys row.rules h false part) high
-      ∙ ap (λ (es : List Entry). Row row.keys row.rules (height_of es) false es) laid
+      let same : get_or kept at (Command 0 0) ≡ Row row.keys row.rules row.height slice = kept-at fields elements at none (OneRow row) (Command 0 0) more is in
+      let element : Row row.keys row.rules height part ≡ change (get_or kept at (Command 0 0)) =
+      ap (λ (h : ℕ). Row row.keys row.rules h part) high
+      ∙ ap (λ (es : List Entry). Row row.keys row.rules (height_of es) es) laid
       ∙ ap change (sym same) in
       let stands : new_columns ≡ blocks_held formats (change (get_or kept at (Command 0 0))) columns =
       held ∙ ap (λ (e : KeptElement). blocks_held formats e columns) element in
-      ap (λ (els : List KeptElement). rows_with els (drop start others) new_columns) (kept-set row height false fields others part changed 0 start at elements none more is lie
+      ap (λ (els : List KeptElement). rows_with els (drop start others) new_columns) (kept-set row height fields others part changed 0 start at elements none more is lie
       ∙ ap (λ (e : KeptElement). set kept at e) element)
       ∙ ap (λ (r : List Entry). rows_with (set kept at (change (get_or kept at (Command 0 0)))) r new_columns)
       (drop-further others fields row.to start between.last changed.behind)
@@ -97,7 +97,7 @@ length-held_by (s ∷ entries) (c ∷ columns) = ap (λ (n : ℕ). suc n) (lengt
 
 module _ (formats : List FormatRow) where
   pub length-blocks_held : (e : KeptElement) (columns : List Column) → length (blocks_held formats e columns) ≡ length columns
-  length-blocks_held (Row keys rules height is_tall entries) columns = length-held_by (row_stands block_stands 0 (row_at formats keys).keys entries) columns
+  length-blocks_held (Row keys rules height entries) columns = length-held_by (row_stands block_stands 0 (row_at formats keys).keys entries) columns
   length-blocks_held (Rule sign) columns = refl
   length-blocks_held (Command from to) columns = refl
 
@@ -117,14 +117,14 @@ module _ (bytes : List ℕ) (formats : List FormatRow) (bars : Bars) (line_lengt
   rows-within : (columns : ℕ) (elements : List KeptElement) → AllByRecursion (ElementKept bytes formats columns) elements
       → AllByRecursion (ElementWithin formats) (map (laid_element bytes formats bars line_length asked) elements)
   rows-within columns [] kept = tt
-  rows-within columns (Row keys rules height is_tall entries ∷ elements) kept = (kept.0.serves, rows-within columns elements kept.1)
+  rows-within columns (Row keys rules height entries ∷ elements) kept = (kept.0.serves, rows-within columns elements kept.1)
   rows-within columns (Rule sign ∷ elements) kept = (tt, rows-within columns elements kept.1)
   rows-within columns (Command from to ∷ elements) kept = (tt, rows-within columns elements kept.1)
 
   -- and each is as high as the most lines of its fields
-  rows-alone : (elements : List KeptElement) → AllByRecursion IsAlone (map (laid_element bytes formats bars line_length asked) elements)
+  rows-alone : (elements : List KeptElement) → AllByRecursion IsPlain (map (laid_element bytes formats bars line_length asked) elements)
   rows-alone [] = tt
-  rows-alone (Row keys rules height is_tall entries ∷ elements) = ((refl, refl), rows-alone elements)
+  rows-alone (Row keys rules height entries ∷ elements) = (refl, rows-alone elements)
   rows-alone (Rule sign ∷ elements) = (tt, rows-alone elements)
   rows-alone (Command from to ∷ elements) = (tt, rows-alone elements)
 
@@ -152,7 +152,7 @@ module _ (bytes : List ℕ) (formats : List FormatRow) (bars : Bars) (line_lengt
     pub length-needed : length (with_widths asked filled_rows.columns) ≡ length k.columns
     length-needed = length-with_widths asked filled_rows.columns ∙ length-filled
 
-    pub alone-filled : AllByRecursion IsAlone filled_rows.elements
+    pub alone-filled : AllByRecursion IsPlain filled_rows.elements
     alone-filled = rows-alone k.elements
 
     -- with the heights that they have in the table
@@ -163,7 +163,7 @@ module _ (bytes : List ℕ) (formats : List FormatRow) (bars : Bars) (line_lengt
 
     pub count-all : (is_inside : Bool) → length (raised_rows is_inside).elements ≡ length k.elements
     count-all is_inside =
-        length-with_heights _ _ filled_rows.elements ∙ length-map k.elements (laid_element bytes formats bars line_length asked)
+        length-with_heights _ filled_rows.elements ∙ length-map k.elements (laid_element bytes formats bars line_length asked)
 
     pub length-widened : length (widened filled_rows).columns ≡ length k.columns
     length-widened =
@@ -191,7 +191,7 @@ module _ (bytes : List ℕ) (formats : List FormatRow) (bars : Bars) (line_lengt
 
       pub elements_of-all : (is_inside : Bool)
           → elements_of bytes formats (raised_rows is_inside).elements ≡ filled bars line_length asked (elements_of bytes formats k.elements)
-      elements_of-all is_inside = with_heights-elements bytes formats _ _ filled_rows.elements ∙ elements_of-filled
+      elements_of-all is_inside = with_heights-elements bytes formats _ filled_rows.elements ∙ elements_of-filled
 
       held-all : filled_rows.columns ≡ columns_from (elements_of bytes formats filled_rows.elements) 0 asked
       held-all =
@@ -211,7 +211,6 @@ pub RowsLaid-as_many : (bytes : List ℕ) (formats : List FormatRow) (is_inside 
 RowsLaid-as_many bytes formats is_inside k columns same laid = record {
   elements = subst (λ (n : ℕ). AllByRecursion (ElementLaid bytes formats n) k.elements) same laid.elements;
   heights = laid.heights ∙ ap (λ (n : ℕ). heights is_inside n (elements_of bytes formats k.elements)) same;
-  talls = laid.talls ∙ ap (λ (n : ℕ). talls n (elements_of bytes formats k.elements)) same;
 }
 
 -- rows of which columns alone changed

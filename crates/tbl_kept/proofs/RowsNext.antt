@@ -1,5 +1,5 @@
 -- The fields of a row, one after another, and the columns that hold them.
-use Rattle.std.proofs.Common.{◌≡◌, ℕ, zero, suc, ◌+◌, ◌-◌, ◌<◌, ◌≤◌, List, [], ◌∷◌, ◌++◌, length, take, drop, get_or, replicate, set, refl, sym, ap, ◌∙◌, arith, append_assoc}
+use Rattle.std.proofs.Common.{◌≡◌, ℕ, zero, suc, ◌+◌, ◌-◌, ◌<◌, ◌≤◌, Bool, true, false, List, [], ◌∷◌, ◌++◌, length, take, drop, get_or, replicate, set, refl, sym, ap, ◌∙◌, arith, append_assoc}
 use Rattle.std.specs.List.{slice_range}
 use Rattle.std.proofs.lemmas.List.{drop-set-lt, drop_more, take-append-drop, take_more_set}
 use Rattle.tbl_format.specs.Cells.{by_cells}
@@ -16,9 +16,9 @@ use Rattle.tbl_layout.specs.declared.columns.Stands.TheVariants.{Nowhere}
 use Rattle.tbl_layout.specs.declared.entry.Entry.{Entry}
 use Rattle.tbl_layout.specs.declared.entry.EntryKind.TheVariants.{Text as TextKind}
 use Rattle.tbl_kept.specs.Rows.{held_by}
-use Rattle.tbl_kept.specs.RowsLaying.{held_at, laid_entries, laid_entry}
+use Rattle.tbl_kept.specs.RowsLaying.{counted_if, held_at, laid_entries, laid_entry}
 use Rattle.tbl_kept.specs.declared.held_columns.Cell.{Cell}
-use Rattle.tbl_kept.proofs.CellSteps.{CellIsWithin, CellsLeft, IsFirst, by_cells-next, first_end, first_key, in_columns-many, keys-next, length-in_columns, row_stands-next}
+use Rattle.tbl_kept.proofs.CellSteps.{CellIsWithin, CellsLeft, IsFirst, by_cells-next, first_end, first_free, first_key, in_columns-many, keys-next, length-in_columns, row_stands-next}
 use Rattle.tbl_kept.proofs.ColumnsHeld.{needing-nowhere}
 
 -- what is read behind the end
@@ -66,6 +66,22 @@ pub held_at-nowhere : (from count : ℕ) (columns : List Column) → columns ≡
 held_at-nowhere from count columns =
     sym (ap (λ (cs : List Column). take from columns ++ cs) (held_by-cell count (drop from columns)) ∙ take-append-drop from columns)
 
+-- what stands nowhere counts as nothing, and so does what counts for no width
+pub counted_if-nowhere : (free : Bool) (s : Stands) → s ≡ Nowhere → counted_if free s ≡ Nowhere
+counted_if-nowhere true s is = refl
+counted_if-nowhere false s is = is
+
+pub held_at-free : (from count : ℕ) (columns : List Column) (free : Bool) (s : Stands) → free ≡ true
+    → columns ≡ held_at from (in_columns count (counted_if free s)) columns
+held_at-free from count columns free s is =
+    held_at-nowhere from count columns
+    ∙ sym (ap (λ (t : Bool). held_at from (in_columns count (counted_if t s)) columns) is)
+
+pub held_at-counted : (from count : ℕ) (columns new : List Column) (free : Bool) (s : Stands) → free ≡ false
+    → new ≡ held_at from (in_columns count s) columns → new ≡ held_at from (in_columns count (counted_if free s)) columns
+held_at-counted from count columns new free s is held =
+    held ∙ sym (ap (λ (t : Bool). held_at from (in_columns count (counted_if t s)) columns) is)
+
 -- columns that hold the entries of one cell, and then those of the cells behind it, hold them all
 held-first : (entries more : List Stands) (end : ℕ) (columns : List Column) → length entries ≡ end → end ≤ length columns
     → take end (held_by entries columns) ++ held_by more (drop end (held_by entries columns)) ≡ held_by (entries ++ more) columns
@@ -89,20 +105,25 @@ held-behind entries more (suc from) (suc end) (c ∷ columns) is within =
 -- so the field of a cell is held, and then those of the cells behind it
 pub next-held : {A : Type 0} (entry_of : Key → A → Stands) (from : ℕ) (keys : List FormatKey) (at : ℕ) (cell : Cell) (field : A) (fields : List A)
     (columns new : List Column) → IsFirst from (drop at keys) cell → CellIsWithin (length columns) cell.from cell.end
-    → new ≡ held_at cell.from (in_columns (cell.end - cell.from) (entry_of cell.key field)) columns
+    → new ≡ held_at cell.from (in_columns (cell.end - cell.from) (counted_if cell.has_no_width (entry_of cell.key field))) columns
     → take cell.end new ++ held_by (row_stands entry_of cell.end (drop (at + 1) keys) fields) (drop cell.end new)
     ≡ take from columns ++ held_by (row_stands entry_of from (drop at keys) (field ∷ fields)) (drop from columns)
 next-held entry_of from keys at cell field fields columns new is within made =
-    let first = in_columns (cell.end - cell.from) (entry_of cell.key field) in
+    let own : Bool → Key → ℕ → ℕ → List Stands = λ free key start end. in_columns (end - start) (counted_if free (entry_of key field)) in
+    let first = own cell.has_no_width cell.key cell.from cell.end in
     let more = row_stands entry_of cell.end (drop (at + 1) keys) fields in
+    let ks = drop at keys in
     ap (λ (cs : List Column). take cell.end cs ++ held_by more (drop cell.end cs)) made
     ∙ held-behind first more cell.from cell.end columns
-    (omega (arith, within.order, length-in_columns (cell.end - cell.from) (entry_of cell.key field))) within.within
-    ∙ ap (λ (n : ℕ). take n columns ++ held_by (in_columns (cell.end - n) (entry_of cell.key field) ++ more) (drop n columns)) is.from_is
-    ∙ ap (λ (key : Key). take from columns ++ held_by (in_columns (cell.end - from) (entry_of key field) ++ more) (drop from columns)) is.key
-    ∙ ap (λ (ks : List FormatKey). take from columns ++ held_by (in_columns (cell.end - from) (entry_of (first_key (drop at keys)) field) ++ row_stands entry_of cell.end ks fields) (drop from columns)) (sym (keys-next keys at))
-    ∙ ap (λ (end : ℕ). take from columns ++ held_by (in_columns (end - from) (entry_of (first_key (drop at keys)) field) ++ row_stands entry_of end (drop 1 (drop at keys)) fields) (drop from columns)) is.end_is
-    ∙ ap (λ (ss : List Stands). take from columns ++ held_by ss (drop from columns)) (sym (row_stands-next entry_of from (drop at keys) field fields))
+    (omega (arith, within.order, length-in_columns (cell.end - cell.from) (counted_if cell.has_no_width (entry_of cell.key field)))) within.within
+    ∙ ap (λ (n : ℕ). take n columns ++ held_by (own cell.has_no_width cell.key n cell.end ++ more) (drop n columns)) is.from_is
+    ∙ ap (λ (key : Key). take from columns ++ held_by (own cell.has_no_width key from cell.end ++ more) (drop from columns)) is.key
+    ∙ ap (λ (free : Bool). take from columns ++ held_by (own free (first_key ks) from cell.end ++ more) (drop from columns)) is.free
+    ∙ ap (λ (rest : List FormatKey). take from columns
+    ++ held_by (own (first_free ks) (first_key ks) from cell.end ++ row_stands entry_of cell.end rest fields) (drop from columns)) (sym (keys-next keys at))
+    ∙ ap (λ (end : ℕ). take from columns
+    ++ held_by (own (first_free ks) (first_key ks) from end ++ row_stands entry_of end (drop 1 ks) fields) (drop from columns)) is.end_is
+    ∙ ap (λ (ss : List Stands). take from columns ++ held_by ss (drop from columns)) (sym (row_stands-next entry_of from ks field fields))
 
 -- an entry that is laid out in the place of another
 pub laid-set : (entries : List Entry) (at : ℕ) (new : Entry) (f : List Entry → List Entry) → at < length entries

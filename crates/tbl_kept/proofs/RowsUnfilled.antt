@@ -28,6 +28,7 @@ use Rattle.tbl_kept.specs.declared.rows.Element.{Element}
 use Rattle.tbl_kept.specs.declared.rows.Element.TheVariants.{Command as OneCommand, Row as OneRow, Rule as OneRule}
 use Rattle.tbl_kept.proofs.ColumnsHeld.{needing-nowhere}
 use Rattle.tbl_kept.proofs.RowsFilled.{block_stands-none, laid_by-none}
+use Rattle.tbl_kept.proofs.RowsNext.{counted_if-nowhere}
 
 -- what holds of each element of a list holds of each in a part of it
 module _ {A : Type 0} (P : A → Type 0) where
@@ -115,11 +116,11 @@ blocks-none from [] (e ∷ entries) none columns =
 blocks-none from (k ∷ keys) (e ∷ entries) none columns =
     cell-held (k.end - from == 1) (k.end - from) (row_stands block_stands k.end keys entries) (blocks-none k.end keys entries none.1) columns
     ∙ ap (λ (s : Stands). held_by (in_columns (k.end - from) s ++ row_stands block_stands k.end keys entries) columns)
-    (sym (block_stands-none e.kind k.key e (not-block e.kind none.0)))
+    (sym (counted_if-nowhere k.has_no_width (block_stands k.key e) (block_stands-none e.kind k.key e (not-block e.kind none.0))))
 
 -- rows that lie among fields without a block have none
 abbrev HasNoBlock : KeptElement → Type 0
-HasNoBlock (Row keys rules height is_tall entries) = NoBlocks entries
+HasNoBlock (Row keys rules height entries) = NoBlocks entries
 HasNoBlock (Rule sign) = Unit {0}
 HasNoBlock (Command from to) = Unit {0}
 
@@ -133,7 +134,7 @@ rows-none fields (OneCommand from to ∷ elements) none = (tt, rows-none fields 
 all_held-none : (formats : List FormatRow) (elements : List KeptElement) (columns : List Column) → AllByRecursion HasNoBlock elements
     → columns ≡ all_held formats elements columns
 all_held-none formats [] columns none = refl
-all_held-none formats (Row keys rules height is_tall entries ∷ elements) columns none =
+all_held-none formats (Row keys rules height entries ∷ elements) columns none =
     blocks-none 0 (row_at formats keys).keys entries none.0 columns
     ∙ all_held-none formats elements (holding_blocks (row_at formats keys).keys entries columns) none.1
 all_held-none formats (Rule sign ∷ elements) columns none = all_held-none formats elements columns none.1
@@ -141,10 +142,9 @@ all_held-none formats (Command from to ∷ elements) columns none = all_held-non
 
 module _ (bytes : List ℕ) (formats : List FormatRow) (bars : Bars) (line_length : ℕ) (asked : List Asked) (columns : ℕ) where
   element-none : (e : KeptElement) → HasNoBlock e → ElementKept bytes formats columns e → e ≡ laid_element bytes formats bars line_length asked e
-  element-none (Row keys rules height is_tall entries) none kept =
-      ap (λ (h : ℕ). Row keys rules h is_tall entries) (kept.low ∙ sym (height-none entries none))
-      ∙ ap (λ (t : Bool). Row keys rules (height_of entries) t entries) kept.alone
-      ∙ ap (λ (es : List Entry). Row keys rules (height_of es) false es)
+  element-none (Row keys rules height entries) none kept =
+      ap (λ (h : ℕ). Row keys rules h entries) (kept.low ∙ sym (height-none entries none))
+      ∙ ap (λ (es : List Entry). Row keys rules (height_of es) es)
       (laid-none bytes bars line_length (length asked) (by_cells 0 (row_at formats keys).keys asked) entries none)
   element-none (Rule sign) none kept = refl
   element-none (Command from to) none kept = refl

@@ -1,5 +1,5 @@
 -- The rows, rules and commands of a table, as they are kept: their texts lie in the table's bytes (Lesk, "Tbl": Data).
-use Rattle.std.specs.Prelude.{◌≡◌, ℕ, zero, suc, ◌+◌, ◌-◌, ◌≤◌, ◌<◌, max, Bool, false, true, List, [], ◌∷◌, ◌++◌, length, map, take, drop, replicate, get_or}
+use Rattle.std.specs.Prelude.{◌≡◌, ℕ, zero, suc, ◌+◌, ◌-◌, ◌≤◌, ◌<◌, max, Bool, true, List, [], ◌∷◌, ◌++◌, length, map, take, drop, replicate, get_or}
 use Rattle.std.specs.List.{slice_range, AllByRecursion}
 use Rattle.tbl_format.specs.Cells.{cell_count}
 use Rattle.tbl_format.specs.Format.{FormatRow}
@@ -8,7 +8,7 @@ use Rattle.tbl_format.specs.RowsServed.{row_at}
 use Rattle.tbl_layout.specs.Columns.{greatest, needing, needs_of, row_stands}
 use Rattle.tbl_layout.specs.Entries.{Command as OneCommand, Content, Element, Row as OneRow, Rule as OneRule, completed, key_at}
 use Rattle.tbl_layout.specs.RuleKeys.{is_rule_row}
-use Rattle.tbl_layout.specs.Heights.{heights, talls}
+use Rattle.tbl_layout.specs.Heights.{heights}
 use Rattle.tbl_layout.specs.KeptEntries.{IsKept, IsLaid, content_of, lines_by, stands_of, with_end}
 use Rattle.tbl_kept.specs.declared.rows.Lent.{Lent}
 use Rattle.tbl_kept.specs.declared.rows.Lent.TheVariants.{Command as LentCommand, Row as LentRow, Rule as LentRule}
@@ -18,11 +18,10 @@ use Rattle.tbl_layout.specs.declared.columns.Stands.TheVariants.{Nowhere}
 use Rattle.tbl_layout.specs.declared.data_lines.RuleSign.{RuleSign}
 use Rattle.tbl_layout.specs.declared.entry.Entry.{Entry}
 
--- a row by the place of the row of the formats that serves it, how many rows of rule keys stand in front of it, its lines, whether one of
--- its cells goes on with one above it, or one below it with its own, and its fields; a rule over the whole table; or a command by where
--- it lies
+-- a row by the place of the row of the formats that serves it, how many rows of rule keys stand in front of it, its lines, and its fields; a
+-- rule over the whole table; or a command by where it lies
 pub data KeptElement : Type 0 where
-  Row : (keys rules height : ℕ) (is_tall : Bool) (entries : List Entry) → KeptElement
+  Row : (keys rules height : ℕ) (entries : List Entry) → KeptElement
   Rule : (sign : RuleSign) → KeptElement
   Command : (from to : ℕ) → KeptElement
 
@@ -46,7 +45,7 @@ cleared k = no_rows k.entry_room k.element_room k.column_room
 
 -- how many fields they have, with those of the row that is begun
 abbrev pub len_of : KeptElement → ℕ
-len_of (Row keys rules height is_tall entries) = length entries
+len_of (Row keys rules height entries) = length entries
 len_of (Rule sign) = 0
 len_of (Command from to) = 0
 
@@ -92,7 +91,7 @@ holding format entries columns = held_by (row_stands stands_of 0 format.keys ent
 -- the row that is begun is whole, and this row of the formats serves it, in front of which so many rows of rule keys stand
 abbrev pub with_row : ℕ → ℕ → FormatRow → KeptRows → KeptRows
 with_row keys rules format k = record k {
-  elements = k.elements ++ Row keys rules 1 false k.row ∷ [];
+  elements = k.elements ++ Row keys rules 1 k.row ∷ [];
   row = [];
   columns = holding format k.row k.columns;
 }
@@ -107,7 +106,7 @@ with_command from to k = record k { elements = k.elements ++ Command from to ∷
 
 -- what is lent
 abbrev pub lent : Lent → KeptElement
-lent (LentRow keys rules height entries is_tall) = Row keys rules height is_tall entries.now
+lent (LentRow keys rules height entries) = Row keys rules height entries.now
 lent (LentRule sign) = Rule sign
 lent (LentCommand from to) = Command from to
 
@@ -121,7 +120,7 @@ fields_of bytes format entries = completed format (map (content_of bytes) entrie
 
 -- what stands in the table, by its bytes and the rows of all formats
 abbrev pub element_of : List ℕ → List FormatRow → KeptElement → Element
-element_of bytes formats (Row keys rules height is_tall entries) =
+element_of bytes formats (Row keys rules height entries) =
     OneRow (rows_in_front formats keys rules) (row_at formats keys) (fields_of bytes (row_at formats keys) entries)
 element_of bytes formats (Rule sign) = OneRule sign
 element_of bytes formats (Command from to) = OneCommand (slice_range bytes from to)
@@ -140,7 +139,7 @@ IsRuleRow format = is_rule_row format ≡ true
 
 -- a row of the formats serves a row, whose cells have no more columns than there are, and behind that many of rule keys alone; the row has
 -- no more fields than cells, all of which are kept
-pub record RowKept (bytes : List ℕ) (formats : List FormatRow) (columns keys rules height : ℕ) (is_tall : Bool) (entries : List Entry) : Type 0 where
+pub record RowKept (bytes : List ℕ) (formats : List FormatRow) (columns keys rules height : ℕ) (entries : List Entry) : Type 0 where
   pub serves : keys < length formats
   pub in_front : rules ≤ keys
   pub ruled : AllByRecursion IsRuleRow (rows_in_front formats keys rules)
@@ -148,21 +147,20 @@ pub record RowKept (bytes : List ℕ) (formats : List FormatRow) (columns keys r
   pub short : length entries ≤ cell_count (row_at formats keys).keys columns
   pub kept : AreKept bytes (row_at formats keys) 0 entries
   pub low : height ≡ 1
-  pub alone : is_tall ≡ false
 
 pub record CommandLies (bytes : List ℕ) (from to : ℕ) : Type 0 where
   pub order : from ≤ to
   pub within : to ≤ length bytes
 
 abbrev pub ElementKept : List ℕ → List FormatRow → ℕ → KeptElement → Type 0
-ElementKept bytes formats columns (Row keys rules height is_tall entries) = RowKept bytes formats columns keys rules height is_tall entries
+ElementKept bytes formats columns (Row keys rules height entries) = RowKept bytes formats columns keys rules height entries
 ElementKept bytes formats columns (Rule sign) = Unit {0}
 ElementKept bytes formats columns (Command from to) = CommandLies bytes from to
 
 -- how the fields of a column stand in it
 abbrev pub stands_in : List FormatRow → ℕ → List KeptElement → List Stands
 stands_in formats column [] = []
-stands_in formats column (Row keys rules height is_tall entries ∷ elements) =
+stands_in formats column (Row keys rules height entries ∷ elements) =
     get_or (row_stands stands_of 0 (row_at formats keys).keys entries) column Nowhere ∷ stands_in formats column elements
 stands_in formats column (Rule sign ∷ elements) = stands_in formats column elements
 stands_in formats column (Command from to ∷ elements) = stands_in formats column elements
@@ -203,32 +201,25 @@ pub record RowLaid (bytes : List ℕ) (formats : List FormatRow) (columns keys r
   pub laid : AreLaid bytes (row_at formats keys) 0 entries
 
 abbrev pub ElementLaid : List ℕ → List FormatRow → ℕ → KeptElement → Type 0
-ElementLaid bytes formats columns (Row keys rules height is_tall entries) = RowLaid bytes formats columns keys rules entries
+ElementLaid bytes formats columns (Row keys rules height entries) = RowLaid bytes formats columns keys rules entries
 ElementLaid bytes formats columns (Rule sign) = Unit {0}
 ElementLaid bytes formats columns (Command from to) = CommandLies bytes from to
 
--- the heights of rows, and which of them are tall
+-- the heights of rows
 abbrev pub heights_of : List KeptElement → List ℕ
 heights_of [] = []
-heights_of (Row keys rules height is_tall entries ∷ elements) = height ∷ heights_of elements
+heights_of (Row keys rules height entries ∷ elements) = height ∷ heights_of elements
 heights_of (Rule sign ∷ elements) = heights_of elements
 heights_of (Command from to ∷ elements) = heights_of elements
-
-abbrev pub talls_of : List KeptElement → List Bool
-talls_of [] = []
-talls_of (Row keys rules height is_tall entries ∷ elements) = is_tall ∷ talls_of elements
-talls_of (Rule sign ∷ elements) = talls_of elements
-talls_of (Command from to ∷ elements) = talls_of elements
 
 -- all rows are laid out in the columns, of a table in whose box a rule stands between rows, or in which none does
 pub record RowsLaid (bytes : List ℕ) (formats : List FormatRow) (is_inside : Bool) (k : KeptRows) : Type 0 where
   pub elements : AllByRecursion (ElementLaid bytes formats (length k.columns)) k.elements
   pub heights : heights_of k.elements ≡ heights is_inside (length k.columns) (elements_of bytes formats k.elements)
-  pub talls : talls_of k.elements ≡ talls (length k.columns) (elements_of bytes formats k.elements)
 
 -- each row is as high as the most lines of its fields, as it is where no cell goes on with one above it
 abbrev pub IsPlain : KeptElement → Type 0
-IsPlain (Row keys rules height is_tall entries) = height ≡ height_of entries
+IsPlain (Row keys rules height entries) = height ≡ height_of entries
 IsPlain (Rule sign) = Unit {0}
 IsPlain (Command from to) = Unit {0}
 

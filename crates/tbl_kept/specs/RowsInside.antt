@@ -6,12 +6,13 @@ use Rattle.tbl_kept.specs.RowsLaying.{NoBlocks, NoneGoOn}
 use Rattle.tbl_kept.specs.declared.rows.Element.{Element}
 use Rattle.tbl_kept.specs.declared.rows.Element.TheVariants.{Command as OneCommand, Row as OneRow, Rule as OneRule}
 use Rattle.tbl_kept.specs.declared.rows.KeptRow.{KeptRow}
+use Rattle.tbl_kept.specs.declared.rows.Lefts.{Lefts}
 use Rattle.tbl_kept.specs.declared.rows.TableRows.TheInside.{Inside}
 use Rattle.tbl_layout.specs.declared.entry.Entry.{Entry}
 
 -- what an element is whose fields lie among these
 abbrev pub kept_in : List Entry → Element → KeptElement
-kept_in entries (OneRow row) = Row row.keys row.rules row.height row.is_tall (slice_range entries row.from row.to)
+kept_in entries (OneRow row) = Row row.keys row.rules row.height (slice_range entries row.from row.to)
 kept_in entries (OneRule sign) = Rule sign
 kept_in entries (OneCommand from to) = Command from to
 
@@ -43,6 +44,11 @@ LiesIn fields formats (OneRow row) = RowLiesIn fields formats row
 LiesIn fields formats (OneRule sign) = Unit {0}
 LiesIn fields formats (OneCommand from to) = Unit {0}
 
+-- there is room for what is left of so many cells, of a row and of the one above it
+pub record HaveRoom (n : ℕ) (lefts : Lefts) : Type 0 where
+  pub here : n ≤ vec_capacity lefts.here
+  pub above : n ≤ vec_capacity lefts.above
+
 -- the room is reserved, the rows lie in front of the one that is begun, and no field is a block, or goes on with the cell above it, where
 -- it says that there is none
 pub record IsSound (a : Inside) : Type 0 where
@@ -54,5 +60,4 @@ pub record IsSound (a : Inside) : Type 0 where
   pub no_blocks : a.has_block ≡ false → NoBlocks a.entries.items
   pub no_above : a.has_above ≡ false → NoneGoOn a.entries.items
   pub columns_few : length a.columns.items ≤ a.column_room
-  pub left_reserved : a.column_room ≤ vec_capacity a.left
-  pub left_above_reserved : a.column_room ≤ vec_capacity a.left_above
+  pub lefts_reserved : HaveRoom a.column_room a.lefts

@@ -1,5 +1,5 @@
 -- The rows of a table, as they are laid out: their blocks are filled, and columns hold them.
-use Rattle.std.specs.Prelude.{◌≡◌, ℕ, ◌<◌, ◌≤◌, Bool, true, false, List, [], ◌∷◌, ◌++◌, drop, get_or, length, map, set, take}
+use Rattle.std.specs.Prelude.{◌≡◌, ℕ, ◌<◌, ◌≤◌, Bool, true, false, List, [], ◌∷◌, ◌++◌, drop, get_or, length, map, set, take, if◌then◌else◌}
 use Rattle.std.specs.List.{AllByRecursion}
 use Rattle.tbl_format.specs.Cells.{by_cells}
 use Rattle.tbl_format.specs.Format.{FormatRow}
@@ -42,10 +42,14 @@ abbrev pub laid_row : List ℕ → Bars → ℕ → List Asked → List FormatKe
 laid_row bytes bars line_length asked keys entries = laid_entries bytes bars line_length (length asked) (by_cells 0 keys asked) entries
 
 abbrev pub laid_element : List ℕ → List FormatRow → Bars → ℕ → List Asked → KeptElement → KeptElement
-laid_element bytes formats bars line_length asked (Row keys rules height is_tall entries) =
-    let laid = laid_row bytes bars line_length asked (row_at formats keys).keys entries in Row keys rules (height_of laid) false laid
+laid_element bytes formats bars line_length asked (Row keys rules height entries) =
+    let laid = laid_row bytes bars line_length asked (row_at formats keys).keys entries in Row keys rules (height_of laid) laid
 laid_element bytes formats bars line_length asked (Rule sign) = Rule sign
 laid_element bytes formats bars line_length asked (Command from to) = Command from to
+
+-- an entry, unless it counts for no width
+abbrev pub counted_if : Bool → Stands → Stands
+counted_if has_no_width entry = if has_no_width then Nowhere else entry
 
 -- how a field that is filled stands in its column, if it is a block: a text stands in it already
 abbrev pub block_stands_by : EntryKind → Key → Entry → Stands
@@ -64,7 +68,7 @@ abbrev pub holding_blocks : List FormatKey → List Entry → List Column → Li
 holding_blocks keys entries columns = held_by (row_stands block_stands 0 keys entries) columns
 
 abbrev pub blocks_held : List FormatRow → KeptElement → List Column → List Column
-blocks_held formats (Row keys rules height is_tall entries) columns = holding_blocks (row_at formats keys).keys entries columns
+blocks_held formats (Row keys rules height entries) columns = holding_blocks (row_at formats keys).keys entries columns
 blocks_held formats (Rule sign) columns = columns
 blocks_held formats (Command from to) columns = columns
 
@@ -87,15 +91,9 @@ all_laid bytes formats bars line_length asked k =
     let laid = map (laid_element bytes formats bars line_length asked) k.elements in
     record k { elements = laid; columns = all_held formats laid k.columns }
 
--- a row is as high as the most lines of its fields, and not tall
-abbrev pub IsAlone : KeptElement → Type 0
-IsAlone (Row keys rules height is_tall entries) = (height ≡ height_of entries) × (is_tall ≡ false)
-IsAlone (Rule sign) = Unit {0}
-IsAlone (Command from to) = Unit {0}
-
 -- a row of the formats serves a row
 abbrev pub ElementWithin : List FormatRow → KeptElement → Type 0
-ElementWithin formats (Row keys rules height is_tall entries) = keys < length formats
+ElementWithin formats (Row keys rules height entries) = keys < length formats
 ElementWithin formats (Rule sign) = Unit {0}
 ElementWithin formats (Command from to) = Unit {0}
 
@@ -104,13 +102,13 @@ RowsWithin formats k = AllByRecursion (ElementWithin formats) k.elements
 
 -- few rows of rule keys stand in front of a row
 abbrev pub HasFewRules : KeptElement → Type 0
-HasFewRules (Row keys rules height is_tall entries) = rules < 4294967296
+HasFewRules (Row keys rules height entries) = rules < 4294967296
 HasFewRules (Rule sign) = Unit {0}
 HasFewRules (Command from to) = Unit {0}
 
 -- the entries of several columns of what is kept, and columns that have room for them
 abbrev pub wide_in : List FormatRow → KeptElement → List Wide
-wide_in formats (Row keys rules height is_tall entries) = wide_entries stands_of 0 (row_at formats keys).keys entries
+wide_in formats (Row keys rules height entries) = wide_entries stands_of 0 (row_at formats keys).keys entries
 wide_in formats (Rule sign) = []
 wide_in formats (Command from to) = []
 
@@ -153,6 +151,13 @@ NoKeysGoOn keys = AllByRecursion (λ (k : FormatKey). is_above_key k.key ≡ fal
 
 abbrev pub NoFormatsGoOn : List FormatRow → Type 0
 NoFormatsGoOn formats = AllByRecursion (λ (row : FormatRow). NoKeysGoOn row.keys) formats
+
+-- keys under which all counts for the widths of columns, and rows of formats of such keys alone
+abbrev pub AllCount : List FormatKey → Type 0
+AllCount keys = AllByRecursion (λ (k : FormatKey). k.has_no_width ≡ false) keys
+
+abbrev pub AllFormatsCount : List FormatRow → Type 0
+AllFormatsCount formats = AllByRecursion (λ (row : FormatRow). AllCount row.keys) formats
 
 -- a field that isn't a filled block
 abbrev pub IsOpenedKind : EntryKind → Type 0

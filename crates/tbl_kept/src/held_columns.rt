@@ -1,13 +1,13 @@
 //! The columns of a table, as they hold the fields of its rows (Lesk, "Tbl": Data, Text Blocks).
 
 ghost use Rattle.std.specs.Prelude.{◌≡◌, ℕ, ◌+◌, ◌-◌, ◌<◌, ◌≤◌, ◌^◌, ◌++◌, length, replicate};
-ghost use Rattle.std.specs.Prelude.{get_or, map, slice_range, vec_capacity};
+ghost use Rattle.std.specs.Prelude.{false, get_or, map, slice_range, vec_capacity};
 ghost use Rattle.tbl_kept.specs.Rows.{height_of, holding, no_column};
 ghost use Rattle.tbl_format.specs.Cells.{cell_count};
 ghost use Rattle.tbl_format.specs.FormatRows.{AreWithin};
 ghost use Rattle.tbl_kept.specs.RowsLaying.{AreOpened, FieldLies, FieldsLie, IsOpenedKind};
-ghost use Rattle.tbl_kept.specs.RowsLaying.{block_stands, held_at, holding_blocks, laid_entry};
-ghost use Rattle.tbl_kept.specs.RowsLaying.{laid_row};
+ghost use Rattle.tbl_kept.specs.RowsLaying.{block_stands, counted_if, held_at, holding_blocks};
+ghost use Rattle.tbl_kept.specs.RowsLaying.{laid_entry, laid_row};
 ghost use Rattle.tbl_layout.specs.Columns.{alone, in_columns, in_strip, needing};
 ghost use Rattle.tbl_layout.specs.Spans.{all_fitted, if_wide, measure_of, wide_entries};
 ghost use Rattle.tbl_layout.specs.Entries.{key_at};
@@ -36,10 +36,12 @@ pub fn add_columns(columns: &mut Vec<Column>, count: usize)
     }
 }
 
-/// A cell of a row: its key, and the columns that it has, behind so many and up to its last one.
+/// A cell of a row: its key, whether what stands under it counts for no width, and the columns that
+/// it has, behind so many and up to its last one.
 #[derive(Clone, Copy)]
 struct Cell {
     key: Key,
+    has_no_width: bool,
     from: usize,
     end: usize,
 }
@@ -85,17 +87,21 @@ fn cell_behind(keys: &[FormatKey], at: usize, from: usize) -> Cell
     requires { from < 2 ^ 63 }
     ensures key { (bars : ℕ) → result.key
         ≡ key_at (record { keys = keys.now; bars = bars }) at }
+    ensures width { result.has_no_width
+        ≡ get_or (map (λ k. k.has_no_width) keys.now) at false }
     ensures from { result.from ≡ from }
     ensures end { result.end ≡ get_or (map (λ k. k.end) keys.now) at (from + 1) }
 {
     match keys.get(at) {
         Some(key) => Cell {
             key: key.key,
+            has_no_width: key.has_no_width,
             from,
             end: key.end as usize,
         },
         None => Cell {
             key: Key::Left,
+            has_no_width: false,
             from,
             end: from + 1,
         },
@@ -123,7 +129,8 @@ fn fill_field(
         (measure_of filling.entry.bars filling.entry.line_length (length filling.entry.asked.now)
         (slice_range filling.entry.asked.now cell.from cell.end)) entry }
     ensures columns { columns.new ≡ held_at cell.from
-        (in_columns (cell.end - cell.from) (block_stands cell.key result)) columns.old }
+        (in_columns (cell.end - cell.from)
+        (counted_if cell.has_no_width (block_stands cell.key result))) columns.old }
     ensures room { escapes.new.room ≡ escapes.old.room }
 {
     if let EntryKind::Block(_) = entry.kind {
@@ -135,14 +142,18 @@ fn fill_field(
     entry
 }
 
-/// The column of a cell of one column holds an entry more.
+/// The column of a cell of one column holds an entry more, if that counts.
 fn hold_entry(columns: &mut [Column], cell: Cell, entry: Stands)
     requires order { cell.from < cell.end }
     requires within { cell.end ≤ length columns.old }
     requires width { in_strip entry < 2 ^ 64 }
     ensures { columns.new
-        ≡ held_at cell.from (in_columns (cell.end - cell.from) entry) columns.old }
+        ≡ held_at cell.from (in_columns (cell.end - cell.from)
+        (counted_if cell.has_no_width entry)) columns.old }
 {
+    if cell.has_no_width {
+        return;
+    }
     if cell.end - cell.from == 1 {
         let mut column = columns[cell.from];
         column.needs = column.needs.with(entry);
@@ -187,16 +198,19 @@ pub fn hold(columns: &mut [Column], keys: &[FormatKey], entries: &[Entry])
     }
 }
 
-/// The column of a cell of one column holds a field that isn't a filled block.
+/// The column of a cell of one column holds a field that isn't a filled block, if that counts.
 // It is called for each cell.
 #[inline(always)]
 fn hold_field(columns: &mut [Column], cell: Cell, entry: Entry)
     requires opened { IsOpenedKind entry.kind }
     requires order { cell.from < cell.end }
     requires within { cell.end ≤ length columns.old }
-    ensures { columns.new ≡ held_at cell.from
-        (in_columns (cell.end - cell.from) (stands_of cell.key entry)) columns.old }
+    ensures { columns.new ≡ held_at cell.from (in_columns (cell.end - cell.from)
+        (counted_if cell.has_no_width (stands_of cell.key entry))) columns.old }
 {
+    if cell.has_no_width {
+        return;
+    }
     if cell.end - cell.from == 1 {
         let mut column = columns[cell.from];
         column.needs = needs_with(column.needs, cell.key, entry);
@@ -226,16 +240,19 @@ pub fn fit_fields(
     }
 }
 
-/// The columns of a cell have room for its entry, if it goes over several of them.
+/// The columns of a cell have room for its entry, if it goes over several of them and counts.
 fn fit_field(columns: &mut [Column], bars: Bars, asked: &[Asked], cell: Cell, entry: Entry)
     requires order { cell.from < cell.end }
     requires within { cell.end ≤ length columns.old }
     requires columns { length columns.old ≡ length asked.now }
     requires few { length columns.old < 2 ^ 32 }
     ensures { columns.new ≡ all_fitted bars asked.now
-        (if_wide cell.from (cell.end - cell.from) (alone (stands_of cell.key entry)))
-        columns.old }
+        (if_wide cell.from (cell.end - cell.from)
+        (alone (counted_if cell.has_no_width (stands_of cell.key entry)))) columns.old }
 {
+    if cell.has_no_width {
+        return;
+    }
     if cell.end - cell.from > 1 {
         let own = &mut columns[cell.from..cell.end];
         fit(

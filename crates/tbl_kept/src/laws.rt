@@ -6,7 +6,8 @@ ghost use Rattle.tbl_format.specs.Format.{FormatRow};
 ghost use Rattle.tbl_kept.specs.Rows.{IsPlainTable, KeptRows, RowsLaid, elements_of};
 ghost use Rattle.tbl_layout.specs.Heights.{NoneAbove};
 
-/// Where no cell goes on with the one above it, each row is as high as the most lines of its fields.
+/// Where no cell goes on with the one above it, each row is as high as the most lines of its
+/// fields.
 pub fn plain_rows()
     ensures { (bytes : List ℕ) (formats : List FormatRow) (is_inside : Bool) (rows : KeptRows)
         → RowsLaid bytes formats is_inside rows

@@ -40,8 +40,6 @@ pub struct KeptRow {
     pub rules: u32,
     /// How many lines it has.
     pub height: u32,
-    /// Whether one of its cells goes on with one above it, or one below it with its own.
-    pub is_tall: bool,
     /// Where its fields begin.
     from: u32,
     /// Where they end.
@@ -64,18 +62,22 @@ pub struct TableRows {
     column_room: usize,
     /// Whether a field of a row goes on with the cell above it.
     has_above: bool,
-    /// How many lines are left of the cells of a row, and of the one above it.
-    left: Vec<u32>,
-    left_above: Vec<u32>,
+    lefts: Lefts,
+}
+
+/// How many lines are left of the cells of a row, and behind the row above it.
+#[derive(Drop)]
+struct Lefts {
+    here: Vec<u32>,
+    above: Vec<u32>,
 }
 
 /// A row, a rule or a command, lent. Places are places in the table's bytes.
 #[derive(Clone, Copy)]
 pub enum Lent<'a> {
     /// A row: the row of the formats that serves it, among all, how many rows of rule keys stand
-    /// directly in front of it, how many lines it has, its fields, and
-    /// whether one of its cells goes on with one above it, or one below it with its own.
-    Row(usize, usize, u32, &'a [Entry], bool),
+    /// directly in front of it, how many lines it has, and its fields.
+    Row(usize, usize, u32, &'a [Entry]),
     /// A rule over the whole table.
     Rule(RuleSign),
     /// A command, by where it lies.
@@ -95,7 +97,7 @@ impl Model for TableRows {
 }
 
 impl TableRows {
-    ghost use Rattle.tbl_kept.specs.Rows.{cleared, entries_of, no_rows};
+    ghost use Rattle.tbl_kept.specs.Rows.{cleared, entries_in, entries_of, no_rows};
     ghost use Rattle.tbl_kept.specs.Rows.{with_block_end};
     ghost use Rattle.tbl_kept.specs.Rows.{with_columns, with_command, with_entry, with_row};
     ghost use Rattle.tbl_kept.specs.Rows.{with_rule};
@@ -121,8 +123,10 @@ impl TableRows {
             element_room: elements,
             column_room: columns,
             has_above: false,
-            left: Vec::with_capacity(alloc, columns)?,
-            left_above: Vec::with_capacity(alloc, columns)?,
+            lefts: Lefts {
+                here: Vec::with_capacity(alloc, columns)?,
+                above: Vec::with_capacity(alloc, columns)?,
+            },
         })
     }
 
@@ -196,7 +200,6 @@ impl TableRows {
             keys: keys as u32,
             rules: rules as u32,
             height: 1,
-            is_tall: false,
             from: self.row_start as u32,
             to: self.entries.len() as u32,
         }));
@@ -240,7 +243,6 @@ impl TableRows {
                 row.rules as usize,
                 row.height,
                 &self.entries.as_slice()[row.from as usize..row.to as usize],
-                row.is_tall,
             ),
             Element::Rule(sign) => Lent::Rule(sign),
             Element::Command(from, to) => Lent::Command(from as usize, to as usize),
@@ -252,6 +254,13 @@ impl TableRows {
         ensures { length self.now.elements < 2 ^ 60 }
     {
         let _ = self.elements.as_slice();
+    }
+
+    /// There are fewer fields of rows than 2 ^ 60.
+    pub fn fields_stay_few(&self)
+        ensures { entries_in self.now.elements < 2 ^ 60 }
+    {
+        let _ = self.entries.as_slice();
     }
 
     /// Fewer rows of rule keys than 2 ^ 32 stand in front of a row.

@@ -1,12 +1,12 @@
 //! The messages of a table, and those that are to tell.
 
 ghost use Rattle.std.specs.Prelude.{◌≡◌, ◌+◌, ◌-◌, ◌<◌, ◌≤◌, ◌^◌, [], ◌∷◌, ◌++◌, true, length};
-ghost use Rattle.std.specs.Prelude.{map, slice_range, IfOk};
+ghost use Rattle.std.specs.Prelude.{map, replicate, slice_range, IfOk};
 ghost use Rattle.std.specs.Option.{MatchOption};
 ghost use Rattle.tbl_format.specs.Format.{Format, letters_left_out};
 ghost use Rattle.tbl_format.specs.KeyCounts.{Counts, IsCount};
-ghost use Rattle.tbl_options.specs.Notes.{NotesWithin, ignored_message, left_out_note, told_at};
-ghost use Rattle.tbl_options.specs.Notes.{told_of_all};
+ghost use Rattle.tbl_options.specs.Notes.{NotesWithin, cut_note, ignored_message, left_out_note};
+ghost use Rattle.tbl_options.specs.Notes.{told_at, told_of_all};
 ghost use Rattle.tbl_options.specs.Options.{ignored_options};
 ghost use Rattle.tbl_kept.specs.TableNotes.{no_notes};
 
@@ -14,7 +14,7 @@ use std::alloc::{AllocError, Global};
 use std::marker::Model;
 use tbl_format::key_count::KeyCount;
 use tbl_format::left_out::push_left_out;
-use tbl_options::notes::KeptNote;
+use tbl_options::notes::{Cause, KeptNote};
 use tbl_options::options::push_ignored;
 
 /// The messages of a table, in order. All memory for them is reserved as they are made.
@@ -24,6 +24,9 @@ pub struct TableNotes {
     /// Those from one place up to the other are to tell.
     next: usize,
     end: usize,
+    /// And behind them so many entries of this line that are cut.
+    cut: usize,
+    cut_line: u32,
     note_room: usize,
 }
 
@@ -46,6 +49,8 @@ impl TableNotes {
             notes: Vec::with_capacity(alloc, room)?,
             next: 0,
             end: 0,
+            cut: 0,
+            cut_line: 0,
             note_room: room,
         })
     }
@@ -57,6 +62,7 @@ impl TableNotes {
         self.notes.clear();
         self.next = 0;
         self.end = 0;
+        self.cut = 0;
     }
 
     /// One message more.
@@ -85,6 +91,7 @@ impl TableNotes {
     {
         self.next = 0;
         self.end = 0;
+        self.cut = 0;
         push_ignored(&mut self.notes, block, from, to, line);
     }
 
@@ -106,8 +113,18 @@ impl TableNotes {
     pub fn tell(&mut self)
         ensures { self.new ≡ record self.old { to_tell = self.old.notes } }
     {
+        self.tell_with_cut(0, 0);
+    }
+
+    /// All messages are to tell, and then of so many entries that they are cut, on this line.
+    pub fn tell_with_cut(&mut self, count: usize, line: u32)
+        ensures { self.new ≡ record self.old
+            { to_tell = self.old.notes ++ replicate count (cut_note line) } }
+    {
         self.next = 0;
         self.end = self.notes.len();
+        self.cut = count;
+        self.cut_line = line;
     }
 
     /// Whether no message is left to tell.
@@ -115,7 +132,7 @@ impl TableNotes {
     pub fn are_told(&self) -> bool
         ensures { result ≡ true → self.now.to_tell ≡ [] }
     {
-        self.next == self.end
+        self.next == self.end && self.cut == 0
     }
 
     /// The next message to tell.
@@ -123,11 +140,18 @@ impl TableNotes {
         ensures { MatchOption result ((self.old.to_tell ≡ []) × (self.new ≡ self.old))
             (λ note. self.old ≡ record self.new { to_tell = note ∷ self.new.to_tell }) }
     {
-        if self.next == self.end {
+        if self.next < self.end {
+            let note = self.notes[self.next];
+            self.next += 1;
+            return Some(note);
+        }
+        if self.cut == 0 {
             return None;
         }
-        let note = self.notes[self.next];
-        self.next += 1;
-        Some(note)
+        self.cut -= 1;
+        Some(KeptNote {
+            line: self.cut_line,
+            cause: Cause::EntryCut,
+        })
     }
 }

@@ -1,5 +1,5 @@
 -- The columns of a table that have their widths and their places have room for its entries.
-use Rattle.std.proofs.Common.{◌≡◌, ℕ, zero, suc, ◌+◌, ◌-◌, ◌<◌, ◌≤◌, Bool, List, [], ◌∷◌, length, take, drop, get_or, map, sym, ap, subst, ◌∙◌, arith, length-drop, length-take}
+use Rattle.std.proofs.Common.{◌≡◌, ℕ, zero, suc, ◌+◌, ◌<◌, ◌≤◌, Bool, List, [], ◌∷◌, length, take, drop, get_or, map, sym, ap, subst, ◌∙◌, arith, length-drop, length-take}
 use Rattle.std.proofs.lemmas.List.{drop-map, length-map, take-map}
 use Rattle.tbl_format.specs.declared.format.Asked.{Asked}
 use Rattle.tbl_layout.specs.Columns.{Holds, columns_from, entries_of, gaps, gaps_from, laid_by, total, width_of, with_widths}
@@ -79,13 +79,16 @@ apart-none : (bars : Bars) (asked : List Asked) → AreApart bars asked []
 apart-none bars [] = tt
 apart-none bars (a ∷ asked) = tt
 
+apart-empty : (bars : Bars) (n : ℕ) (asked : List Asked) → AreApart bars (drop n asked) (drop n [])
+apart-empty bars zero asked = apart-none bars asked
+apart-empty bars (suc n) asked = apart-none bars (drop (suc n) asked)
+
 apart-drop : (bars : Bars) (n : ℕ) (asked : List Asked) (columns : List Column) → AreApart bars asked columns
     → AreApart bars (drop n asked) (drop n columns)
 apart-drop bars zero asked columns apart = apart
 apart-drop bars (suc n) [] columns apart = tt
 apart-drop bars (suc n) (a ∷ asked) [] apart = apart-none bars (drop n asked)
-apart-drop bars (suc zero) (a ∷ asked) (c ∷ []) apart = apart-none bars asked
-apart-drop bars (suc (suc n)) (a ∷ asked) (c ∷ []) apart = apart-none bars (drop (suc n) asked)
+apart-drop bars (suc n) (a ∷ asked) (c ∷ []) apart = apart-empty bars n asked
 apart-drop bars (suc n) (a ∷ asked) (c ∷ d ∷ columns) apart = apart-drop bars n asked (d ∷ columns) apart.1
 
 apart-take : (bars : Bars) (n : ℕ) (asked : List Asked) (columns : List Column) → AreApart bars asked columns

@@ -3,6 +3,7 @@ use Rattle.std.proofs.Common.{◌≡◌, ◌≢◌, ℕ, zero, suc, ◌+◌, ◌
 use Rattle.std.proofs.lemmas.Bool.{cases_eq, eq-eqb, ne_eqb}
 use Rattle.std.proofs.lemmas.List.{drop-drop, get_or-append-add, get_or_past, length-replicate}
 use Rattle.std.proofs.lemmas.List.Elements.{Contains-append_left, Contains-append_right, Contains-get_or}
+use Rattle.std.specs.List.{AllByRecursion}
 use Rattle.std.specs.Prelude.{Contains}
 use Rattle.tbl_format.specs.Cells.{AreCells, by_cells}
 use Rattle.tbl_format.specs.Format.{FormatRow, spanning}
@@ -12,7 +13,7 @@ use Rattle.tbl_format.specs.declared.format.FormatKey.{FormatKey}
 use Rattle.tbl_format.specs.declared.format.Key.{Key}
 use Rattle.tbl_format.specs.declared.format.Key.TheVariants.{Above as AboveKey, Alphabetic, Center, DoubleRule, Left, Numeric, Right, Rule as RuleKey, Spanned, WideNumeric}
 use Rattle.tbl_format.proofs.CellColumns.{columns_behind, columns_of-behind}
-use Rattle.tbl_layout.specs.Columns.{alone, entries_of, gaps, greatest, in_columns, in_strip, lacking, laid_by, left_of, needs_of, placed, right_of, row_stands, stands, text_stands, total, unsplit, widest_entry, width_by, width_of_all}
+use Rattle.tbl_layout.specs.Columns.{alone, counted, entries_of, gaps, greatest, in_columns, in_strip, lacking, laid_by, left_of, needs_of, right_of, row_stands, stands, text_stands, total, unsplit, widest_entry, width_by, width_of_all}
 use Rattle.tbl_layout.specs.Entries.{Above, Block, Content, Element, Repeated, Row, Ruled, Short, Text, is_number}
 use Rattle.tbl_layout.specs.EntriesFit.{FieldFits, FieldsFit, FitAsOne, HasRoomFor, HaveWideKeys}
 use Rattle.tbl_layout.specs.LayoutLaws.{AreApart}
@@ -131,6 +132,10 @@ no-wide from (k ∷ keys) = refl
 none-contained : {X : Type 0} (xs : List X) (x : X) → xs ≡ [] → Contains xs x → ⊥
 none-contained xs x none is = omega (arith, ap length none, is.1)
 
+-- what has a width counts for the columns
+counted-plain : (k : FormatKey) (e : Stands) → k.has_no_width ≡ false → counted k e ≡ e
+counted-plain k e plain = ap (λ (t : Bool). if t then Nowhere else e) plain
+
 module _ (all : List Element) (columns : List Column) (row : List Stands)
     (bounds : (i : ℕ) → Bounded (get_or row i Nowhere) (entries_of i all)) (wide : FitAsOne (all_wide all) columns) where
   -- a field in its one column
@@ -182,26 +187,28 @@ module _ (all : List Element) (columns : List Column) (row : List Stands)
   -- the first cell, of so many columns
   first-entry : (k : FormatKey) (keys : List FormatKey) (from m : ℕ) (f : Content) (fields : List Content) (a : Asked) (c : Column) (cs : List Column)
       → k.end - from ≡ suc m → drop from columns ≡ c ∷ cs → m ≤ length cs → c.needs ≡ needs_of (entries_of from all)
-      → width_by a c.needs ≤ c.width → (from + 1 < k.end → spanning k.key ≡ k.key)
+      → width_by a c.needs ≤ c.width → (from + 1 < k.end → spanning k.key ≡ k.key) → k.has_no_width ≡ false
       → get_or row (from + 0) Nowhere ≡ get_or (row_stands stands from (k ∷ keys) (f ∷ fields)) 0 Nowhere
       → ((w : Wide) → Contains (wide_entries stands from (k ∷ keys) (f ∷ fields)) w → Contains (all_wide all) w)
       → HasRoomFor (as_one (c ∷ take m cs)) (stands k.key f)
-  first-entry k keys from zero f fields a c cs count here many own enough spanned is wides =
-      let e = stands k.key f in
+  first-entry k keys from zero f fields a c cs count here many own enough spanned plain is wides =
+      let e = counted k (stands k.key f) in
       let rest = row_stands stands k.end keys fields in
       let at : from + 0 ≡ from = omega arith in
-      field-one a c from e own enough
+      field-one a c from (stands k.key f) own enough
       (sym (ap (λ (n : ℕ). get_or row n Nowhere) at) ∙ is
       ∙ ap (λ (n : ℕ). get_or (in_columns n e ++ rest) 0 Nowhere) count
-      ∙ ap (λ (t : Bool). get_or ((if t then e ∷ [] else replicate (suc zero) Nowhere) ++ rest) 0 Nowhere) (eq-eqb (suc zero) 1 refl))
-  first-entry k keys from (suc m) f fields a c cs count here many own enough spanned is wides =
+      ∙ ap (λ (t : Bool). get_or ((if t then e ∷ [] else replicate (suc zero) Nowhere) ++ rest) 0 Nowhere) (eq-eqb (suc zero) 1 refl)
+      ∙ counted-plain k (stands k.key f) plain)
+  first-entry k keys from (suc m) f fields a c cs count here many own enough spanned plain is wides =
       let width = alone (stands k.key f) in
       let w : Wide = record { from = from; count = suc (suc m); width = width } in
       let rest = wide_entries stands k.end keys fields in
       field-wide k.key f from m c cs (spanned (omega (arith, count))) here many (λ some.
-      wides w (subst (λ (n : ℕ). Contains (if_wide from n width ++ rest) w) (sym count)
+      wides w (subst (λ (e : Stands). Contains (if_wide from (k.end - from) (alone e) ++ rest) w) (sym (counted-plain k (stands k.key f) plain))
+      (subst (λ (n : ℕ). Contains (if_wide from n width ++ rest) w) (sym count)
       (subst (λ (ws : List Wide). Contains (ws ++ rest) w) (sym (wide-some from (suc (suc m)) width (λ one. omega (arith, one)) some))
-      (Contains-append_left (w ∷ []) rest w (Contains-get_or (w ∷ []) 0 w (omega arith))))))
+      (Contains-append_left (w ∷ []) rest w (Contains-get_or (w ∷ []) 0 w (omega arith)))))))
 
   first-widest : (a : Asked) (at m : ℕ) (c : Column) (cs : List Column) → EndsGrow (c ∷ cs) → c.needs ≡ needs_of (entries_of at all)
       → width_by a c.needs ≤ c.width → widest_entry (as_one (c ∷ take m cs)).needs ≤ (as_one (c ∷ take m cs)).width
@@ -222,6 +229,7 @@ module _ (all : List Element) (columns : List Column) (row : List Stands)
     order : AreCells from keys
     short : columns_behind from keys ≤ from + length cs
     spanned : HaveWideKeys from keys
+    plain : AllByRecursion (λ (k : FormatKey). k.has_no_width ≡ false) keys
 
   behind-next : (k : FormatKey) (keys : List FormatKey) (from m : ℕ) (a : Asked) (asked : List Asked) (c : Column) (cs : List Column)
       → k.end ≡ from + suc m → Behind (k ∷ keys) from (a ∷ asked) (c ∷ cs) → Behind keys k.end (drop m asked) (drop m cs)
@@ -233,6 +241,7 @@ module _ (all : List Element) (columns : List Column) (row : List Stands)
     order = b.order.1;
     short = omega (arith, b.short, end, length-drop m cs);
     spanned = b.spanned.1;
+    plain = b.plain.1;
   }
 
   all-fit : (keys : List FormatKey) (from : ℕ) (fields : List Content) (asked : List Asked) (cs : List Column) → Behind keys from asked cs
@@ -259,13 +268,13 @@ module _ (all : List Element) (columns : List Column) (row : List Stands)
       let m = k.end - from - 1 in
       let count : k.end - from ≡ suc m = omega (arith, b.order.0) in
       let end : k.end ≡ from + suc m = omega (arith, b.order.0) in
-      let e = stands k.key f in
+      let e = counted k (stands k.key f) in
       let rest = row_stands stands k.end keys fields in
       let many : m ≤ length cs = omega (arith, b.short, end, end-far k.end keys b.order.1) in
       subst (λ (n : ℕ). FieldFits (as_one (take n (c ∷ cs))) k.key f
       × FieldsFit keys fields (map as_one (by_cells k.end keys (drop n (c ∷ cs))))) (sym count) (
         record {
-          entry = first-entry k keys from m f fields a c cs count b.here many b.each.0 b.each.1 b.spanned.0 (is 0) wides;
+          entry = first-entry k keys from m f fields a c cs count b.here many b.each.0 b.each.1 b.spanned.0 b.plain.0 (is 0) wides;
           widest = first-widest a from m c cs b.grow b.each.0 b.each.1;
         },
         all-fit keys k.end fields (drop m asked) (drop m cs) (behind-next k keys from m a asked c cs end b)
@@ -281,10 +290,10 @@ module _ (all : List Element) (columns : List Column) (row : List Stands)
 pub fields-fit : (bars : Bars) (is_expanded : Bool) (line_length : ℕ) (asked : List Asked) (elements before after : List Element)
     (rules : List FormatRow) (format : FormatRow) (fields : List Content)
     → filled bars line_length asked elements ≡ before ++ Row rules format fields ∷ after → AreWithin (length asked) format.keys
-    → HaveWideKeys 0 format.keys
+    → HaveWideKeys 0 format.keys → AllByRecursion (λ (k : FormatKey). k.has_no_width ≡ false) format.keys
     → FieldsFit format.keys fields
     (cells_of format.keys (laid_by bars is_expanded line_length asked (columns_laid bars line_length asked elements)).columns)
-fields-fit bars is_expanded line_length asked elements before after rules format fields is within spanned =
+fields-fit bars is_expanded line_length asked elements before after rules format fields is within spanned plain =
     let all = filled bars line_length asked elements in
     let columns = columns_laid bars line_length asked elements in
     let placed = (laid_by bars is_expanded line_length asked columns).columns in
@@ -310,6 +319,7 @@ fields-fit bars is_expanded line_length asked elements before after rules format
       order = within.cells;
       short = omega (arith, within.short, columns_of-behind format.keys, many);
       spanned = spanned;
+      plain = plain;
     })
     (λ i. let same : 0 + i ≡ i = omega arith in ap (λ (n : ℕ). get_or row n Nowhere) same)
     (λ w found. subst (λ (es : List Element). Contains (all_wide es) w) (sym is) (in-wide before after rules format fields w found))

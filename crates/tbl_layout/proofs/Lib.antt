@@ -14,6 +14,7 @@ pub mod Spreading
 pub mod BlocksFilled
 pub mod CellsAsOne
 pub mod SpanLaws
+pub mod UsedEntries
 pub mod EntriesFit
 pub mod FieldsFit
 pub mod NeedsLaid

@@ -5,7 +5,7 @@ use Rattle.tbl_format.specs.Format.{FormatRow}
 use Rattle.tbl_format.specs.declared.format.FormatKey.{FormatKey}
 use Rattle.tbl_format.specs.declared.format.Key.{Key}
 use Rattle.tbl_format.specs.declared.format.Key.TheVariants.{Left}
-use Rattle.tbl_layout.specs.Columns.{alone, in_columns, row_stands, stands}
+use Rattle.tbl_layout.specs.Columns.{alone, counted, in_columns, row_stands, stands}
 use Rattle.tbl_layout.specs.Entries.{Content, Text, completed, content_of_kind}
 use Rattle.tbl_layout.specs.RuleKeys.{in_front_of, kind_of_key, under_keys}
 use Rattle.tbl_layout.specs.Spans.{Wide, if_wide, wide_entries}
@@ -35,6 +35,14 @@ nowhere-by false count = nowhere-many count
 nowhere-cell : (count : ℕ) (entry : Stands) → entry ≡ Nowhere → IsNowhere (in_columns count entry)
 nowhere-cell count entry is column =
     ap (λ (e : Stands). get_or (in_columns count e) column Nowhere) is ∙ nowhere-by (count == 1) count column
+
+-- one that stands nowhere counts as nothing, whether others under its key do or not
+counted-by : (is_left_out : Bool) → (if is_left_out then Nowhere else Nowhere) ≡ Nowhere
+counted-by true = refl
+counted-by false = refl
+
+counted-nowhere : (k : FormatKey) (entry : Stands) → entry ≡ Nowhere → counted k entry ≡ Nowhere
+counted-nowhere k entry is = ap (counted k) is ∙ counted-by k.has_no_width
 
 -- what stands alike behind the same
 same-behind : (front xs ys : List Stands) → ((column : ℕ) → get_or xs column Nowhere ≡ get_or ys column Nowhere)
@@ -68,8 +76,9 @@ module _ {A : Type 0} (entry_of : Key → A → Stands) where
       nowhere-both (entry_of Left field ∷ []) (row_stands entry_of (suc from) [] fields)
       (nowhere-cell 1 (entry_of Left field) (none.0 Left)) (row-nowhere (suc from) [] fields none.1)
   row-nowhere from (k ∷ keys) (field ∷ fields) none =
-      nowhere-both (in_columns (k.end - from) (entry_of k.key field)) (row_stands entry_of k.end keys fields)
-      (nowhere-cell (k.end - from) (entry_of k.key field) (none.0 k.key)) (row-nowhere k.end keys fields none.1)
+      nowhere-both (in_columns (k.end - from) (counted k (entry_of k.key field))) (row_stands entry_of k.end keys fields)
+      (nowhere-cell (k.end - from) (counted k (entry_of k.key field)) (counted-nowhere k (entry_of k.key field) (none.0 k.key)))
+      (row-nowhere k.end keys fields none.1)
 
   -- fields that stand nowhere, behind those of a row, change nothing
   pub stands-behind : (from : ℕ) (keys : List FormatKey) (fields more : List A) → AllByRecursion StandsNowhere more → (column : ℕ)
@@ -78,7 +87,7 @@ module _ {A : Type 0} (entry_of : Key → A → Stands) where
   stands-behind from [] (field ∷ fields) more none zero = refl
   stands-behind from [] (field ∷ fields) more none (suc column) = stands-behind (suc from) [] fields more none column
   stands-behind from (k ∷ keys) (field ∷ fields) more none column =
-      same-behind (in_columns (k.end - from) (entry_of k.key field)) (row_stands entry_of k.end keys (fields ++ more))
+      same-behind (in_columns (k.end - from) (counted k (entry_of k.key field))) (row_stands entry_of k.end keys (fields ++ more))
       (row_stands entry_of k.end keys fields) (stands-behind k.end keys fields more none) column
 
   -- and none of them goes over several columns
@@ -86,7 +95,8 @@ module _ {A : Type 0} (entry_of : Key → A → Stands) where
   wide-nowhere from keys [] none = refl
   wide-nowhere from [] (field ∷ fields) none = refl
   wide-nowhere from (k ∷ keys) (field ∷ fields) none =
-      ap (λ (e : Stands). if_wide from (k.end - from) (alone e) ++ wide_entries entry_of k.end keys fields) (none.0 k.key)
+      ap (λ (e : Stands). if_wide from (k.end - from) (alone e) ++ wide_entries entry_of k.end keys fields)
+      (counted-nowhere k (entry_of k.key field) (none.0 k.key))
       ∙ ap (λ (front : List Wide). front ++ wide_entries entry_of k.end keys fields) (if_wide-none from (k.end - from))
       ∙ wide-nowhere k.end keys fields none.1
 
@@ -95,7 +105,7 @@ module _ {A : Type 0} (entry_of : Key → A → Stands) where
   wide-behind from keys [] more none = wide-nowhere from keys more none
   wide-behind from [] (field ∷ fields) more none = refl
   wide-behind from (k ∷ keys) (field ∷ fields) more none =
-      ap (λ (rest : List Wide). if_wide from (k.end - from) (alone (entry_of k.key field)) ++ rest) (wide-behind k.end keys fields more none)
+      ap (λ (rest : List Wide). if_wide from (k.end - from) (alone (counted k (entry_of k.key field))) ++ rest) (wide-behind k.end keys fields more none)
 
 -- what stands under keys where a row has no fields for them, stands nowhere
 all-in_front : {A : Type 0} (P : A → Type 0) (said : FieldKind → A) (empty : A) (kind : Option FieldKind) (fields : List A)

@@ -1,5 +1,5 @@
 -- The columns of a table: how wide they are, and where they begin (Lesk, "Tbl": Format, Formatting).
-use Rattle.std.specs.Prelude.{ℕ, suc, ◌+◌, ◌-◌, ◌*◌, ◌/◌, ◌≤◌, max, min, Bool, not, ◌&&◌, List, [], ◌∷◌, ◌++◌, get_or, map, replicate, Contains, Option, None, Some, unwrap_or, if◌then◌else◌, ◌==◌}
+use Rattle.std.specs.Prelude.{ℕ, suc, ◌+◌, ◌-◌, ◌*◌, ◌/◌, ◌≤◌, max, min, nat_lt, Bool, false, not, ◌&&◌, ◌||◌, List, [], ◌∷◌, ◌++◌, get_or, map, replicate, Contains, Option, None, Some, unwrap_or, if◌then◌else◌, ◌==◌}
 use Rattle.tbl_format.specs.declared.format.Asked.{Asked}
 use Rattle.tbl_format.specs.declared.format.FormatKey.{FormatKey}
 use Rattle.tbl_format.specs.declared.format.Key.{Key}
@@ -112,12 +112,16 @@ pub record IsLeast (asked : Asked) (entries : List Stands) : Type 0 where
 abbrev pub in_columns : ℕ → Stands → List Stands
 in_columns count entry = if count == 1 then entry ∷ [] else replicate count Nowhere
 
+-- an entry under a key, but for one with `z`, counts for the widths of columns
+abbrev pub counted : FormatKey → Stands → Stands
+counted k entry = if k.has_no_width then Nowhere else entry
+
 -- and how all fields of a row do, under its keys, the first of which has a cell behind so many columns
 abbrev pub row_stands : {A : Type 0} → (Key → A → Stands) → ℕ → List FormatKey → List A → List Stands
 row_stands entry_of from keys [] = []
 row_stands entry_of from [] (field ∷ fields) = entry_of Left field ∷ row_stands entry_of (suc from) [] fields
 row_stands entry_of from (k ∷ keys) (field ∷ fields) =
-    in_columns (k.end - from) (entry_of k.key field) ++ row_stands entry_of k.end keys fields
+    in_columns (k.end - from) (counted k (entry_of k.key field)) ++ row_stands entry_of k.end keys fields
 
 -- the entries of a column
 abbrev pub entries_of : ℕ → List Element → List Stands
@@ -246,9 +250,17 @@ shift (_) spare = 0
 
 abbrev pub place_in : Column → Key → Stands → ℕ
 place_in c key Nowhere = 0
-place_in c key (Apart left right) = (c.width - (c.needs.left + c.needs.right)) / 2 + (c.needs.left - left)
+place_in c key (Apart left right) = (c.width - (c.needs.left + c.needs.right)) / 2 + c.needs.left - left
 place_in c key (InStrip columns) = max 1 ((c.width - (c.needs.strip - 1)) / 2)
 place_in c key (Alone columns) = shift key (c.width - columns)
+
+-- whether an entry passes an end of its columns where its key puts it
+abbrev pub passes : Column → Key → Stands → Bool
+passes c key Nowhere = false
+passes c key (Apart left right) =
+    let middle = (c.width - (c.needs.left + c.needs.right)) / 2 + c.needs.left in nat_lt middle left || nat_lt c.width (middle + right)
+passes c key (InStrip columns) = nat_lt c.width (place_in c key (InStrip columns) + columns)
+passes c key (Alone columns) = nat_lt c.width columns
 
 -- where a rule begins that is as wide as its column's widest entry: under `n` and `a` it isn't moved
 abbrev pub shift_of_rule : Key → ℕ → ℕ

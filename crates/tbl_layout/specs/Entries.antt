@@ -9,8 +9,10 @@ use Rattle.tbl_layout.specs.declared.data_lines.FieldKind.TheVariants.{Above as 
 use Rattle.tbl_layout.specs.declared.data_lines.RuleSign.{RuleSign}
 use Rattle.tbl_format.specs.declared.format.Key.{Key}
 use Rattle.tbl_format.specs.declared.format.Key.TheVariants.{Left, Numeric}
-use Rattle.tbl_text.specs.BlockLines.{leading, lines_of}
+use Rattle.tbl_text.specs.BlockLines.{has_word, leading, lines_of}
 use Rattle.tbl_text.specs.BlockWords.{Word, Part, EmptyLine, OneWord, parts_of}
+use Rattle.tbl_text.specs.Fitted.{fitting_text}
+use Rattle.tbl_text.specs.FittedWords.{line_fitted}
 use Rattle.tbl_text.specs.Measuring.{measured}
 use Rattle.tbl_text.specs.declared.measure.Measured.{Measured}
 use Rattle.tbl_text.specs.declared.measure.Split.{Split}
@@ -108,6 +110,24 @@ lines_of_field key (Text []) = []
 lines_of_field key (Text (b ∷ bytes)) = (run_of (measured (is_number key) (b ∷ bytes)) (b ∷ bytes) ∷ []) ∷ []
 lines_of_field key (Block measure lines) = map block_line (lines_of measure (parts_of lines))
 lines_of_field key field = []
+
+-- whether something stands in a field: a text, a block with a word, or a rule
+abbrev pub is_entry : Content → Bool
+is_entry (Text []) = false
+is_entry (Text (b ∷ bytes)) = true
+is_entry (Block measure lines) = has_word (parts_of lines)
+is_entry Above = false
+is_entry field = true
+
+-- the lines of a text as far as it fits in so many columns, whole items of it: none where nothing does
+abbrev pub run_within : ℕ → Key → List ℕ → List Run
+run_within room key text = get_or (lines_of_field key (Text (fitting_text room text))) 0 []
+
+-- a line of a text or a block, behind so many, as far as it fits in so many columns
+abbrev pub line_within : ℕ → Key → Content → ℕ → List Run
+line_within room key (Text bytes) line = run_within room key bytes
+line_within room key (Block measure lines) line = block_line (line_fitted room (get_or (lines_of measure (parts_of lines)) line []))
+line_within room key field line = []
 
 -- the columns of what stands on a line
 abbrev pub columns_of : List Run → ℕ

@@ -1,5 +1,5 @@
 -- How high the rows of a table are, with cells that go on with the cells above them (Lesk, "Tbl": Format).
-use Rattle.std.specs.Prelude.{◌≡◌, ℕ, zero, suc, ◌+◌, ◌-◌, max, Bool, true, false, not, ◌&&◌, ◌||◌, ◌==◌, List, [], ◌∷◌, get_or, length, map, Option, None, Some, is_some, if◌then◌else◌}
+use Rattle.std.specs.Prelude.{◌≡◌, ℕ, zero, suc, ◌+◌, ◌-◌, max, Bool, true, false, not, ◌&&◌, ◌==◌, List, [], ◌∷◌, get_or, length, map, Option, None, Some, is_some, if◌then◌else◌}
 use Rattle.tbl_format.specs.Cells.{cell_count, same_cell}
 use Rattle.tbl_format.specs.Format.{FormatRow}
 use Rattle.tbl_format.specs.declared.format.FormatKey.{FormatKey}
@@ -79,34 +79,6 @@ heights_behind is_inside columns above left rules (Command bytes ∷ elements) =
 -- and those of a table of so many columns
 abbrev pub heights : Bool → ℕ → List Element → List ℕ
 heights is_inside columns elements = heights_behind is_inside columns [] [] 0 elements
-
--- whether one of some cells of a row goes on with a cell of one above of these keys
-abbrev pub goes_up_from : List FormatKey → List FormatKey → List Content → ℕ → ℕ → Bool
-goes_up_from above keys fields cell zero = false
-goes_up_from above keys fields cell (suc count) = is_some (cell_above above keys fields cell) || goes_up_from above keys fields (suc cell) count
-
--- whether a cell of the next row goes on with one of some cells of a row of these keys
-abbrev pub goes_down_from : List FormatKey → List Element → ℕ → ℕ → Bool
-goes_down_from keys elements cell zero = false
-goes_down_from keys elements cell (suc count) = not (ends_in_front_of keys elements cell) || goes_down_from keys elements (suc cell) count
-
--- whether one of a row's cells goes on with one of the row above, if there is one, or one of the next row with one of its cells
-abbrev pub is_tall_by : Bool → Bool → Bool → Bool
-is_tall_by is_first up down = (not is_first && up) || down
-
--- that of rows, behind one of these keys
-abbrev pub talls_behind : ℕ → Bool → List FormatKey → List Element → List Bool
-talls_behind columns is_first above [] = []
-talls_behind columns is_first above (Row rule_rows format fields ∷ elements) =
-    let count = cell_count format.keys columns in
-    is_tall_by is_first (goes_up_from above format.keys fields 0 count) (goes_down_from format.keys elements 0 count)
-    ∷ talls_behind columns false format.keys elements
-talls_behind columns is_first above (Rule sign ∷ elements) = talls_behind columns is_first above elements
-talls_behind columns is_first above (Command bytes ∷ elements) = talls_behind columns is_first above elements
-
--- and of a table of so many columns
-abbrev pub talls : ℕ → List Element → List Bool
-talls columns elements = talls_behind columns true [] elements
 
 -- a row of which no field is that of the cell above
 abbrev pub NoneAbove : Element → Type 0

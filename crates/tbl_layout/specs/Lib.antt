@@ -11,5 +11,6 @@ pub mod Spans
 pub mod SpanLaws
 pub mod KeptEntries
 pub mod Heights
+pub mod Texts
 pub mod EntriesFit
 pub mod HeightLaws

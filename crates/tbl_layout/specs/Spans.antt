@@ -6,7 +6,7 @@ use Rattle.tbl_format.specs.Cells.{by_cells}
 use Rattle.tbl_format.specs.declared.format.Asked.{Asked}
 use Rattle.tbl_format.specs.declared.format.FormatKey.{FormatKey}
 use Rattle.tbl_format.specs.declared.format.Key.{Key}
-use Rattle.tbl_layout.specs.Columns.{alone, equalled, columns_from, gaps, laid_by, Laid, stands, total, with_widths}
+use Rattle.tbl_layout.specs.Columns.{alone, counted, equalled, columns_from, gaps, laid_by, Laid, stands, total, with_widths}
 use Rattle.tbl_layout.specs.Entries.{Block, Command, Content, Element, Row, Rule}
 use Rattle.tbl_layout.specs.LayoutLaws.{last_end}
 use Rattle.tbl_layout.specs.declared.bars.Bars.{Bars}
@@ -62,7 +62,7 @@ abbrev pub wide_entries : {A : Type 0} → (Key → A → Stands) → ℕ → Li
 wide_entries entry_of from keys [] = []
 wide_entries entry_of from [] (field ∷ fields) = []
 wide_entries entry_of from (k ∷ keys) (field ∷ fields) =
-    if_wide from (k.end - from) (alone (entry_of k.key field)) ++ wide_entries entry_of k.end keys fields
+    if_wide from (k.end - from) (alone (counted k (entry_of k.key field))) ++ wide_entries entry_of k.end keys fields
 
 -- and those of all rows, in order
 abbrev pub all_wide : List Element → List Wide

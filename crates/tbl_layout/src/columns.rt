@@ -322,8 +322,8 @@ impl Column {
             Stands::Nowhere => 0,
             Stands::Apart(left, _) => {
                 let sides = self.needs.left as usize + self.needs.right as usize;
-                self.width.saturating_sub(sides) / 2
-                    + (self.needs.left as usize).saturating_sub(left as usize)
+                let middle = self.width.saturating_sub(sides) / 2 + self.needs.left as usize;
+                middle.saturating_sub(left as usize)
             }
             Stands::InStrip(_) => {
                 let strip = (self.needs.strip as usize).saturating_sub(1);

@@ -1,7 +1,10 @@
 //! The fields of rows, as they are kept: where they lie in the table's bytes, and what they measure
 //! (Lesk, "Tbl": Data, Text Blocks).
 
-ghost use Rattle.std.specs.Prelude.{◌≡◌, ◌+◌, ◌<◌, ◌≤◌, ◌^◌, IfSome};
+ghost use Rattle.std.specs.Prelude.{◌≡◌, ◌+◌, ◌<◌, ◌≤◌, ◌^◌, IfSome, List, ℕ};
+ghost use Rattle.tbl_format.specs.declared.format.Key.{Key};
+ghost use Rattle.tbl_layout.specs.Entries.{is_entry, is_number};
+ghost use Rattle.tbl_layout.specs.KeptEntries.{IsLaid, content_of};
 ghost use Rattle.tbl_layout.specs.KeptEntries.{entry_by, entry_under, filled_with, opened_at};
 ghost use Rattle.tbl_layout.specs.KeptEntries.{rule_entry};
 ghost use Rattle.tbl_layout.specs.KeptEntries.{kept_kind};
@@ -192,6 +195,22 @@ impl Entry {
         }
     }
 
+    /// Whether something stands in it, once it is laid out: a text, a block with a word, or a rule.
+    pub fn is_used(self) -> bool
+        ensures { (bytes : List ℕ) (key : Key) → IsLaid bytes key self
+            → result ≡ is_entry (content_of bytes self) }
+    {
+        match self.kind {
+            EntryKind::Text(_, _) => self.from < self.to,
+            EntryKind::Split(_) => true,
+            EntryKind::Block(block) => block.has_word,
+            EntryKind::Ruled(_) => true,
+            EntryKind::Short => true,
+            EntryKind::Repeated(_) => true,
+            EntryKind::Above => false,
+        }
+    }
+
     /// How it stands in its column, under this key.
     #[inline]
     pub fn stands(self, key: Key) -> Stands
@@ -221,6 +240,13 @@ impl Entry {
             EntryKind::Above => Stands::Nowhere,
         }
     }
+}
+
+/// Whether texts under a key are numbers, which are split.
+pub fn is_number(key: Key) -> bool
+    ensures { result ≡ is_number key }
+{
+    matches!(key, Key::Numeric)
 }
 
 /// How a field is kept that isn't measured.

@@ -1,9 +1,11 @@
 //! What holds of columns and of the bars between them, as contracts of functions that do nothing.
 
-ghost use Rattle.std.specs.Prelude.{◌≡◌, ◌++◌, ◌∷◌, [], ℕ, Bool, List, length, map};
+ghost use Rattle.std.specs.Prelude.{◌≡◌, ◌++◌, ◌∷◌, [], ℕ, Bool, false, List, length, map};
+ghost use Rattle.std.specs.List.{AllByRecursion};
 ghost use Rattle.tbl_format.specs.Format.{FormatRow};
 ghost use Rattle.tbl_format.specs.FormatRows.{AreWithin};
 ghost use Rattle.tbl_format.specs.declared.format.Asked.{Asked};
+ghost use Rattle.tbl_format.specs.declared.format.FormatKey.{FormatKey};
 ghost use Rattle.tbl_layout.specs.Columns.{IsLeast, laid_by};
 ghost use Rattle.tbl_layout.specs.Entries.{Content, Element, Row};
 ghost use Rattle.tbl_layout.specs.EntriesFit.{EntriesFit, FieldsFit, HaveWideKeys};
@@ -37,8 +39,8 @@ pub fn in_order()
         → AreInOrder bars asked columns (laid_by bars is_expanded line_length asked columns) }
 {}
 
-/// Between columns that have their places there are as many places as the bars that they ask for, and
-/// at the edges of the picture too.
+/// Between columns that have their places there are as many places as the bars that they ask for,
+/// and at the edges of the picture too.
 pub fn places_between()
     ensures { (bars : Bars) (is_expanded : Bool) (line_length : ℕ) (asked : List Asked)
         (columns : List Column) → map (λ (c : Column). c.bars) columns
@@ -74,13 +76,14 @@ pub fn entries_fit()
         (elements : List Element) → EntriesFit bars is_expanded line_length asked elements }
 {}
 
-/// The fields of each row of a table fit their cells in its picture.
+/// The fields of each row of a table fit their cells in its picture, where its keys have no `z`.
 pub fn fields_fit()
     ensures { (bars : Bars) (is_expanded : Bool) (line_length : ℕ) (asked : List Asked)
         (elements before after : List Element) (rules : List FormatRow) (format : FormatRow)
         (fields : List Content)
         → filled bars line_length asked elements ≡ before ++ Row rules format fields ∷ after
         → AreWithin (length asked) format.keys → HaveWideKeys 0 format.keys
+        → AllByRecursion (λ (k : FormatKey). k.has_no_width ≡ false) format.keys
         → FieldsFit format.keys fields (cells_of format.keys
         (laid bars is_expanded line_length asked elements).columns) }
 {}

@@ -9,6 +9,7 @@ pub mod data_lines;
 pub mod entry;
 pub mod laws;
 pub mod measures;
+mod passing;
 pub mod rule_keys;
 mod spread;
 pub mod widths;

@@ -81,7 +81,8 @@ pub fn rule_keys()
         ≡ OneText (codes "a") ∷ [] }
     ensures taken { kind_under DoubleRule (codes "a") ≡ Ruled Double }
     ensures goes_on { kind_under AboveKey (codes "a") ≡ Above }
-    ensures goes_on_behind { completed (row_of (Left ∷ AboveKey ∷ [])) [] ≡ OneText [] ∷ OneAbove ∷ [] }
+    ensures goes_on_behind { completed (row_of (Left ∷ AboveKey ∷ [])) []
+        ≡ OneText [] ∷ OneAbove ∷ [] }
     ensures not_taken { kind_under Left (codes "_") ≡ Ruled Single }
     ensures ends { map (λ bars. bars_end (column_at 0 3 bars) (column_at 7 1 0)) (0 ∷ 1 ∷ 2 ∷ [])
         ≡ 5 ∷ 5 ∷ 6 ∷ [] }

@@ -1,8 +1,9 @@
 -- A cell that goes back to its place, past one cell after the other.
-use Rattle.std.proofs.Common.{◌≡◌, ℕ, zero, suc, ◌-◌, ◌<◌, ◌≤◌, List, [], ◌∷◌, length, get_or, refl, sym, ap, ◌∙◌, arith}
+use Rattle.std.proofs.Common.{◌≡◌, ℕ, zero, suc, ◌-◌, ◌<◌, ◌≤◌, List, [], ◌∷◌, ◌++◌, length, get_or, refl, sym, ap, ◌∙◌, arith}
 use Rattle.std.specs.List.{insert, swap}
 use Rattle.std.proofs.Math.ListN.{set}
-use Rattle.std.proofs.lemmas.List.Edits.{length-insert, swap_is}
+use Rattle.std.proofs.lemmas.List.{length-append}
+use Rattle.std.proofs.lemmas.List.Edits.{insert-append_left, length-insert, swap_is}
 
 set-swapped : {A : Type 0} (n : ℕ) (xs : List A) (x d : A) → n < length xs
     → set (set (insert xs (suc n) x) n (get_or (insert xs (suc n) x) (suc n) d)) (suc n) (get_or (insert xs (suc n) x) n d) ≡ insert xs n x
@@ -19,3 +20,12 @@ pub swap-before : {A : Type 0} (at : ℕ) (xs : List A) (x : A) → 0 < at → a
 swap-before at xs x some few =
     let is : at ≡ suc (at - 1) = omega (arith, some) in
     ap (λ (n : ℕ). swap (insert xs n x) (at - 1) n) is ∙ swap-back (at - 1) xs x (omega (arith, some, few))
+
+-- and so does one behind which others stand
+pub swap-among : {A : Type 0} (at : ℕ) (first rest : List A) (x : A) → 0 < at → at ≤ length first
+    → swap (insert first at x ++ rest) (at - 1) at ≡ insert first (at - 1) x ++ rest
+swap-among {A = A} at first rest x some few =
+    let more = length-append first rest in
+    ap (λ (xs : List A). swap xs (at - 1) at) (sym (insert-append_left first rest at x few))
+    ∙ swap-before at (first ++ rest) x some (omega (arith, few, more))
+    ∙ insert-append_left first rest (at - 1) x (omega (arith, few))

@@ -38,6 +38,9 @@ no_cell = record {
   lead = 0;
   place = AtLine 0 None;
   rows = 0;
+  is_used = false;
+  stop = 0;
+  is_cut = false;
 }
 
 module _ (cells : List CellLeft) (columns : List Column) (x : CellLeft) (within : AreWithin (length columns) (keys_of cells)) where

@@ -18,7 +18,7 @@ use Rattle.tbl_lines.specs.RowsLeft.{block_text, joined_kinds}
 use Rattle.tbl_line_cells.specs.KeptCells.{BlockGoesOn, GoesOnBy, IsLeft}
 use Rattle.tbl_line_cells.specs.declared.cells.CellLeft.{CellLeft}
 use Rattle.tbl_text.specs.BlockLines.{lines_of}
-use Rattle.tbl_text.specs.BlockPlaces.{IsWithin, parts_at}
+use Rattle.tbl_text.specs.BlockPlaces.{IsWithin, ReadsAll, parts_at}
 use Rattle.tbl_text.specs.BlockWords.{parts_of}
 use Rattle.tbl_text.specs.declared.block_parts.BlockPlace.{BlockPlace}
 use Rattle.tbl_text.specs.declared.block_parts.BlockPlace.TheVariants.{AtEnd}
@@ -44,6 +44,9 @@ nothing-kept bytes c l is here whole = record {
   field = refl;
   lead = sym here ∙ is.lead;
   rows = is.rows;
+  used = is.used;
+  stop = is.stop;
+  cut = is.cut;
   lies = nothing-lies bytes;
   laid = nothing-laid bytes c.key.key;
   within = tt;
@@ -67,6 +70,9 @@ behind-lead bytes c l is more =
       field = is.field;
       lead = ap (λ (n : ℕ). n - 1) is.lead;
       rows = is.rows;
+      used = is.used;
+      stop = is.stop;
+      cut = is.cut;
       lies = is.lies;
       laid = is.laid;
       within = is.within;
@@ -75,29 +81,30 @@ behind-lead bytes c l is more =
 
 -- of a block a line less is left, where the place behind that line is known
 goes-behind : (bytes : List ℕ) (e : Entry) (b : BlockEntry) (place next : BlockPlace) (gone : ℕ) → BlockGoesOn bytes e b place gone
-    → IsWithin (block_text bytes e) next
+    → IsWithin (block_text bytes e) next → (ReadsAll place → ReadsAll next)
     → lines_of b.measure (parts_at (block_text bytes e) next) ≡ drop 1 (lines_of b.measure (parts_at (block_text bytes e) place))
     → BlockGoesOn bytes e b next (gone + 1)
-goes-behind bytes e b place next gone on within lines =
+goes-behind bytes e b place next gone on within all lines =
     record {
       within = within;
+      all = all on.all;
       lines = lines ∙ ap (drop 1) on.lines ∙ drop-drop 1 gone (lines_of b.measure (parts_of
           (block_lines bytes e.from e.to)));
     }
 
 module _ (bytes : List ℕ) (c : CellLeft) (l : Left) (next : BlockPlace) (is : IsLeft bytes c l) (here : c.lead ≡ 0) where
   on-by : (kind : EntryKind) (b : BlockEntry) → kind ≡ Block b → GoesOnBy kind bytes c.entry c.place l.gone
-      → IsWithin (block_text bytes c.entry) next
+      → IsWithin (block_text bytes c.entry) next → (ReadsAll c.place → ReadsAll next)
       → lines_of b.measure (parts_at (block_text bytes c.entry) next) ≡ drop 1 (lines_of b.measure (parts_at (block_text bytes c.entry) c.place))
       → GoesOnBy kind bytes c.entry next (l.gone + 1)
-  on-by kind b block on within lines =
+  on-by kind b block on within all lines =
       subst (λ (k : EntryKind). GoesOnBy k bytes c.entry next (l.gone + 1)) (sym block)
-      (goes-behind bytes c.entry b c.place next l.gone (subst (λ (k : EntryKind). GoesOnBy k bytes c.entry c.place l.gone) block on) within lines)
+      (goes-behind bytes c.entry b c.place next l.gone (subst (λ (k : EntryKind). GoesOnBy k bytes c.entry c.place l.gone) block on) within all lines)
 
-  block-behind : (b : BlockEntry) → c.entry.kind ≡ Block b → IsWithin (block_text bytes c.entry) next
+  block-behind : (b : BlockEntry) → c.entry.kind ≡ Block b → IsWithin (block_text bytes c.entry) next → (ReadsAll c.place → ReadsAll next)
       → lines_of b.measure (parts_at (block_text bytes c.entry) next) ≡ drop 1 (lines_of b.measure (parts_at (block_text bytes c.entry) c.place))
       → IsLeft bytes (record c { lead = 0; place = next }) (rest_by l.field l)
-  block-behind b block within lines =
+  block-behind b block within all lines =
       let field : content_by (Block b) bytes c.entry.from c.entry.to ≡ l.field
       = ap (λ (k : EntryKind). content_by k bytes c.entry.from c.entry.to) (sym block) ∙ is.field in
       subst (λ (f : Content). IsLeft bytes (record c { lead = 0; place = next }) (rest_by f l)) field (record {
@@ -105,18 +112,21 @@ module _ (bytes : List ℕ) (c : CellLeft) (l : Left) (next : BlockPlace) (is : 
         field = is.field;
         lead = sym here ∙ is.lead;
         rows = is.rows;
+        used = is.used;
+        stop = is.stop;
+        cut = is.cut;
         lies = is.lies;
         laid = is.laid;
         within = within;
-        place = on-by c.entry.kind b block is.place within lines;
+        place = on-by c.entry.kind b block is.place within all lines;
       })
 
-  pub behind-block : (b : BlockEntry) → c.entry.kind ≡ Block b → IsWithin (block_text bytes c.entry) next
+  pub behind-block : (b : BlockEntry) → c.entry.kind ≡ Block b → IsWithin (block_text bytes c.entry) next → (ReadsAll c.place → ReadsAll next)
       → lines_of b.measure (parts_at (block_text bytes c.entry) next) ≡ drop 1 (lines_of b.measure (parts_at (block_text bytes c.entry) c.place))
       → IsLeft bytes (record c { lead = 0; place = next }) (behind_line l)
-  behind-block b block within lines =
+  behind-block b block within all lines =
       subst (λ (h : Bool). IsLeft bytes (record c { lead = 0; place = next }) (behind_by h l))
-      (ap (λ (n : ℕ). n == 0) (sym here ∙ is.lead)) (block-behind b block within lines)
+      (ap (λ (n : ℕ). n == 0) (sym here ∙ is.lead)) (block-behind b block within all lines)
 
 -- and of any other field nothing
 nothing-behind : (kind : EntryKind) (bytes : List ℕ) (c : CellLeft) (l : Left) → IsLeft bytes c l → c.lead ≡ 0 → ((b : BlockEntry)
@@ -139,12 +149,15 @@ behind-other bytes c l is here other =
 
 -- it goes on in the row below
 pub gone-kept : (bytes : List ℕ) (c : CellLeft) (l : Left) (key : FormatKey) → IsLeft bytes c l
-    → IsLeft bytes (record c { key = record key { key = c.key.key }; rows = c.rows + 1 }) (gone_on key l)
+    → IsLeft bytes (record c { key = record key { key = c.key.key; has_no_width = c.key.has_no_width }; rows = c.rows + 1 }) (gone_on key l)
 gone-kept bytes c l key is = record {
-  key = ap (λ (k : FormatKey). record key { key = k.key }) is.key;
+  key = ap (λ (k : FormatKey). record key { key = k.key; has_no_width = k.has_no_width }) is.key;
   field = is.field;
   lead = is.lead;
   rows = ap (λ (n : ℕ). n + 1) is.rows;
+  used = is.used;
+  stop = is.stop;
+  cut = is.cut;
   lies = is.lies;
   laid = is.laid;
   within = is.within;

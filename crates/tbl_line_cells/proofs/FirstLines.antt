@@ -96,6 +96,9 @@ module _ (bytes : List ℕ) (c : CellLeft) (rules : ℕ) (l : Left) (is : IsLeft
       field = is.field;
       lead = ap (λ (n : ℕ). n - rules) is.lead;
       rows = is.rows;
+      used = is.used;
+      stop = is.stop;
+      cut = is.cut;
       lies = is.lies;
       laid = is.laid;
       within = is.within;
@@ -112,6 +115,9 @@ module _ (bytes : List ℕ) (c : CellLeft) (rules : ℕ) (l : Left) (is : IsLeft
       field = refl;
       lead = refl;
       rows = is.rows;
+      used = is.used;
+      stop = is.stop;
+      cut = is.cut;
       lies = nothing-lies bytes;
       laid = nothing-laid bytes c.key.key;
       within = tt;

@@ -28,6 +28,9 @@ no_cell = record {
   lead = 0;
   place = AtLine 0 None;
   rows = 0;
+  is_used = false;
+  stop = 0;
+  is_cut = false;
 }
 
 abbrev pub no_column : Column

@@ -2,11 +2,11 @@
 use Rattle.std.proofs.Common.{◌≡◌, ℕ, suc, List, [], ◌∷◌, ◌++◌, drop, refl, sym, ap, ◌∙◌, append-nil, append_assoc}
 use Rattle.tbl_layout.specs.declared.columns.Column.{Column}
 use Rattle.tbl_lines.specs.CellsLeft.{Left}
-use Rattle.tbl_lines.specs.LinesLeft.{Beside, Over, Shown, all_shown, fronts_between, in_order, over_at, over_shown, overs}
+use Rattle.tbl_lines.specs.LinesLeft.{Beside, Over, Shown, all_shown, fronts_between, over_at, over_shown, overs}
 use Rattle.tbl_lines.specs.PictureLines.{Cell, RuleLine, Sheet}
 use Rattle.tbl_line_cells.specs.LinesDrawn.{KeptLine, SoFar}
 use Rattle.tbl_line_cells.specs.RulesDrawn.{LaidTo, begin_at, begin_behind, end_at, front_list}
-use Rattle.tbl_line_cells.proofs.RuleSteps.{fronts-step, in_order-behind, shown-step}
+use Rattle.tbl_line_cells.proofs.RuleSteps.{fronts-step, shown-step}
 
 module _ (bytes : List ℕ) (s : Sheet) (lefts : List Left) (line : RuleLine) (above below : Beside) (edge : Cell) (from to : ℕ) where
   abbrev all : List Over
@@ -33,16 +33,16 @@ module _ (bytes : List ℕ) (s : Sheet) (lefts : List Left) (line : RuleLine) (a
       → drop (suc at) s.columns ≡ columns
       → LaidTo bytes old s lefts line above below edge from to at
       → ((done : List Shown) (fronts : List Cell) → SoFar bytes old done fronts
-      → SoFar bytes new (in_order done (here at (drop at s.columns))) (fronts ++ front at (drop at s.columns)))
+      → SoFar bytes new (done ++ here at (drop at s.columns)) (fronts ++ front at (drop at s.columns)))
       → LaidTo bytes new s lefts line above below edge from to (suc at)
   laid-next old new at c columns is rest laid step =
       let begins : begin_at from (suc at) s.columns ≡ begin_behind (c ∷ columns) = ap begin_behind is in
       record {
-        done = in_order laid.done (here at (drop at s.columns));
+        done = laid.done ++ here at (drop at s.columns);
         fronts = laid.fronts ++ front at (drop at s.columns);
         so_far = step laid.done (edge ∷ laid.fronts) laid.so_far;
-        shown = sym (in_order-behind laid.done (here at (drop at s.columns)) (shown-from (suc at) (drop (suc at) s.columns)))
-            ∙ ap (λ (xs : List Shown). in_order laid.done xs)
+        shown = append_assoc laid.done (here at (drop at s.columns)) (shown-from (suc at) (drop (suc at) s.columns))
+            ∙ ap (λ (xs : List Shown). laid.done ++ xs)
             (ap (λ (cs : List Column). here at (drop at s.columns) ++ shown-from (suc at) cs) rest
             ∙ ap (λ (cs : List Column). here at cs ++ shown-from (suc at) columns) is
             ∙ ap (λ (n : ℕ). here at (c ∷ columns) ++ all_shown line all (suc at) n to columns) begins
@@ -60,8 +60,9 @@ module _ (bytes : List ℕ) (s : Sheet) (lefts : List Left) (line : RuleLine) (a
 
   -- all of it
   pub laid-shown : (now : KeptLine) (at : ℕ) → drop at s.columns ≡ [] → (laid : LaidTo bytes now s lefts line above below edge from to at)
-      → laid.done ≡ in_order [] (all_shown line all 0 from to s.columns)
-  laid-shown now at none laid = ap (λ (cs : List Column). in_order laid.done (shown-from at cs)) (sym none) ∙ laid.shown
+      → laid.done ≡ all_shown line all 0 from to s.columns
+  laid-shown now at none laid =
+      sym (append-nil laid.done) ∙ ap (λ (cs : List Column). laid.done ++ shown-from at cs) (sym none) ∙ laid.shown
 
   pub laid-fronts : (now : KeptLine) (at : ℕ) → drop at s.columns ≡ [] → (laid : LaidTo bytes now s lefts line above below edge from to at)
       → laid.fronts ≡ fronts-from 0 s.columns

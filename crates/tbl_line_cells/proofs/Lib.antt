@@ -1,4 +1,6 @@
 pub mod BlockLeft
+pub mod BlocksCut
+pub mod CellCut
 pub mod CellInserted
 pub mod CellsInColumns
 pub mod CellsKept
@@ -6,13 +8,19 @@ pub mod CellsOver
 pub mod ColumnsAt
 pub mod FirstLines
 pub mod FrontLists
+pub mod FrontsMarked
 pub mod FrontsOf
 pub mod LaidShown
 pub mod LaidSteps
+pub mod LineCut
+pub mod LineEnded
 pub mod LineGiven
+pub mod LineLaid
+pub mod LineOrdered
 pub mod LineShown
 pub mod LineSteps
 pub mod OversMet
+pub mod PartsCut
 pub mod RowDrawn
 pub mod RowKept
 pub mod RowLaid
@@ -21,4 +29,9 @@ pub mod RuleEdges
 pub mod RuleFronts
 pub mod RuleSteps
 pub mod RuleTexts
+pub mod RunOrder
 pub mod ShownAlike
+pub mod RunningLaid
+pub mod Repeats
+pub mod RunningFits
+pub mod TextsCut

@@ -29,7 +29,7 @@ use Rattle.tbl_lines.proofs.RowColumns.{drop-next}
 use Rattle.tbl_options.specs.declared.options.Boxing.{Boxing}
 use Rattle.tbl_text.specs.declared.block_parts.BlockPlace.{BlockPlace}
 use Rattle.tbl_line_cells.specs.LaidCells.{EndsItself, on_line, row_column, runs_at}
-use Rattle.tbl_line_cells.specs.LinesDrawn.{AreShown, AreSingle, Draws, KeptLine, SoFar, as_row, if_any, laid_keys, laid_row}
+use Rattle.tbl_line_cells.specs.LinesDrawn.{AreDrawn, AreSingle, CutSoFar, Draws, KeptLine, as_row, if_any, laid_keys, laid_row}
 use Rattle.tbl_line_cells.specs.declared.laid_cells.LaidCell.{LaidCell}
 
 abbrev pub columns_in : List LaidCell → List Column
@@ -73,18 +73,18 @@ all-filled cells =
     ∙ append-nil entries
 
 -- what holds of each cell
-lie-all : (bytes : List ℕ) (cells : List LaidCell) (done : List Shown) → AreShown bytes cells done → AllByRecursion (Lies bytes) (entries_in cells)
+lie-all : (bytes : List ℕ) (cells : List LaidCell) (done : List Shown) → AreDrawn bytes cells done → AllByRecursion (Lies bytes) (entries_in cells)
 lie-all bytes [] done all = tt
 lie-all bytes (c ∷ cells) [] all = absurd all
 lie-all bytes (c ∷ cells) (s ∷ done) all = (all.0.lies, lie-all bytes cells done all.1)
 
-places-all : (bytes : List ℕ) (cells : List LaidCell) (done : List Shown) → AreShown bytes cells done
+places-all : (bytes : List ℕ) (cells : List LaidCell) (done : List Shown) → AreDrawn bytes cells done
     → PlacesLie bytes (entries_in cells) (places_in cells)
 places-all bytes [] done all = tt
 places-all bytes (c ∷ cells) [] all = absurd all
 places-all bytes (c ∷ cells) (s ∷ done) all = (all.0.within, places-all bytes cells done all.1)
 
-narrow-all : (bytes : List ℕ) (cells : List LaidCell) (done : List Shown) → AreShown bytes cells done → AreNarrow (columns_in cells)
+narrow-all : (bytes : List ℕ) (cells : List LaidCell) (done : List Shown) → AreDrawn bytes cells done → AreNarrow (columns_in cells)
 narrow-all bytes [] done all = tt
 narrow-all bytes (c ∷ cells) [] all = absurd all
 narrow-all bytes (c ∷ cells) (s ∷ done) all = (all.0.narrow, narrow-all bytes cells done all.1)
@@ -101,7 +101,7 @@ no-end (Repeated b) bars c columns entries ends = refl
 no-end Above bars c columns entries ends = refl
 
 cells-are : (bytes : List ℕ) (boxing : Boxing) (format : FormatRow) (column : ℕ) (cells : List LaidCell) (done : List Shown)
-    → AreShown bytes cells done
+    → AreDrawn bytes cells done
     → drop column (map (λ (k : FormatKey). k.key) format.keys) ≡ keys_in cells
     → row_columns boxing format column (columns_in cells) (entries_in cells) (places_in cells) ≡ map row_column cells
 cells-are bytes boxing format column [] done all keys = refl
@@ -118,7 +118,7 @@ cells-are bytes boxing format column (c ∷ cells) (s ∷ done) all keys =
     (cells-are bytes boxing format (suc column) cells done all.1 (drop-next column own c.key (keys_in cells) keys))
 
 -- what they show
-shown-all : (bytes : List ℕ) (cells : List LaidCell) (done : List Shown) → AreShown bytes cells done
+shown-all : (bytes : List ℕ) (cells : List LaidCell) (done : List Shown) → AreDrawn bytes cells done
     → map on_line (map (cell_left bytes 0) (map row_column cells)) ≡ map on_line (map shown_cell done)
 shown-all bytes [] [] all = refl
 shown-all bytes [] (s ∷ done) all = absurd all
@@ -163,7 +163,7 @@ fronts-all true fronts cells same = fronts-each fronts ∙ same
 fronts-all false fronts cells same = refl
 
 -- the line can be given, and is what its cells show behind what stands in front of them
-pub row-draws : (bytes : List ℕ) (bars : Bars) (width : ℕ) (line : KeptLine) (done : List Shown) (fronts : List Cell) → SoFar bytes line done fronts
+pub row-draws : (bytes : List ℕ) (bars : Bars) (width : ℕ) (line : KeptLine) (done : List Shown) (fronts : List Cell) → CutSoFar bytes line done fronts
     → length line.fronts ≡ suc (max 1 (length line.cells)) → length line.cells < 4294967296
     → Draws bytes bars width (as_row line) (line_of 0 (with_fronts (if_any bars fronts) (map shown_cell done)))
 row-draws bytes bars width line done fronts so_far many few =
@@ -180,12 +180,12 @@ row-draws bytes bars width line done fronts so_far many few =
       places = places-all bytes cells done so_far.cells;
       narrow = narrow-all bytes cells done so_far.cells;
       few = omega (arith, few, columns_many);
-      fronts = record { count = many ∙ ap (λ (n : ℕ). suc (max 1 n)) (sym columns_many); some = so_far.some };
+      fronts = record { count = many ∙ ap (λ (n : ℕ). suc (max 1 n)) (sym columns_many); some = so_far.front.some };
       text =
           same-line (with_fronts (fronts_of (laid_row bytes bars width (as_row line)) 0) (map (cell_left bytes 0) row))
           (with_fronts (if_any bars fronts) (map shown_cell done))
           (same-behind (fronts_of (laid_row bytes bars width (as_row line)) 0) (map (cell_left bytes 0) row) (if_any bars fronts)
-          (map shown_cell done) (fronts-all bars.has_any line.fronts fronts so_far.in_front)
+          (map shown_cell done) (fronts-all bars.has_any line.fronts fronts so_far.front.in_front)
           (ap (λ (rs : List RowColumn). map on_line (map (cell_left bytes 0) rs))
           (cells-are bytes bars.boxing format 0 cells done so_far.cells (keys-are 0 cells))
           ∙ shown-all bytes cells done so_far.cells));

@@ -1,18 +1,18 @@
--- What the cells of a line show that is laid, in order.
-use Rattle.std.proofs.Common.{◌≡◌, ℕ, suc, ◌≤◌, ◌<◌, ◌==◌, ◌&&◌, Bool, true, false, List, [], ◌∷◌, ◌++◌, length, map, Option, None, Some, refl, sym, ap, subst, ◌∙◌, arith, if◌then◌else◌}
+-- What the cells of a line draw that is laid, in order.
+use Rattle.std.proofs.Common.{◌≡◌, ℕ, zero, suc, get_or, take, append_assoc, append-nil, ◌≤◌, ◌<◌, ◌==◌, ◌&&◌, Bool, true, false, List, [], ◌∷◌, ◌++◌, length, map, Option, None, Some, refl, sym, ap, subst, ◌∙◌, arith, if◌then◌else◌}
 use Rattle.std.specs.Prelude.{nat_lt}
 use Rattle.std.specs.List.{AllByRecursion, insert}
 use Rattle.std.proofs.lemmas.Bool.{ne_eqb}
+use Rattle.std.proofs.lemmas.List.Edits.{length-insert}
 use Rattle.tbl_lines.specs.LinesLeft.{Shown, in_order, is_behind, put}
-use Rattle.tbl_lines.specs.PictureLines.{Cell}
-use Rattle.tbl_lines.specs.RowsLeft.{cell_of_front}
-use Rattle.tbl_lines.specs.RowsWalked.{HasBars}
-use Rattle.tbl_lines.specs.declared.fronts.Front.{Front}
-use Rattle.tbl_line_cells.specs.LaidCells.{IsShown, is_text_behind, on_line, place_among, text_by, text_of}
-use Rattle.tbl_line_cells.specs.LinesDrawn.{AreShown, BeginsBy, SoFar, kept_line}
+use Rattle.tbl_line_cells.specs.LaidCells.{IsDrawn, is_text_behind, place_among, text_by, text_of}
+use Rattle.tbl_line_cells.specs.LinesDrawn.{AreDrawn}
 use Rattle.tbl_line_cells.specs.declared.laid_cells.LaidCell.{LaidCell}
 use Rattle.tbl_line_cells.specs.declared.laid_cells.TextAt.{TextAt}
-use Rattle.tbl_line_cells.specs.declared.line_cells.LineCells.{LineCells}
+
+-- a text begins at a column of the page at the latest
+abbrev pub BeginsBy : ℕ → Shown → Type 0
+BeginsBy last s = s.is_text ≡ true → s.at ≤ last
 
 -- whether a text stands behind another one
 behind-by : (b other : Bool) (at place rows more : ℕ)
@@ -28,20 +28,20 @@ behind-same t other s shows is others =
     ∙ behind-by s.is_text shows.is_text s.at shows.at s.rows shows.rows
 
 -- a cell more, in its place
-module _ (bytes : List ℕ) (c : LaidCell) (s : Shown) (is : IsShown bytes c s) where
-  placed : (b : Bool) (d : LaidCell) (cells : List LaidCell) (t : Shown) (done : List Shown) → IsShown bytes d t → AreShown bytes cells done
-      → AreShown bytes (insert cells (place_among c.text cells) c) (put s done)
-      → AreShown bytes (insert (d ∷ cells) (if b then 0 else suc (place_among c.text cells)) c) (if b then s ∷ t ∷ done else t ∷ put s done)
+module _ (bytes : List ℕ) (c : LaidCell) (s : Shown) (is : IsDrawn bytes c s) where
+  placed : (b : Bool) (d : LaidCell) (cells : List LaidCell) (t : Shown) (done : List Shown) → IsDrawn bytes d t → AreDrawn bytes cells done
+      → AreDrawn bytes (insert cells (place_among c.text cells) c) (put s done)
+      → AreDrawn bytes (insert (d ∷ cells) (if b then 0 else suc (place_among c.text cells)) c) (if b then s ∷ t ∷ done else t ∷ put s done)
   placed true d cells t done first all rest = (is, (first, all))
   placed false d cells t done first all rest = (first, rest)
 
-  pub put-shown : (cells : List LaidCell) (done : List Shown) → AreShown bytes cells done
-      → AreShown bytes (insert cells (place_among c.text cells) c) (put s done)
+  pub put-shown : (cells : List LaidCell) (done : List Shown) → AreDrawn bytes cells done
+      → AreDrawn bytes (insert cells (place_among c.text cells) c) (put s done)
   put-shown [] [] all = (is, tt)
   put-shown [] (t ∷ done) all = absurd all
   put-shown (d ∷ cells) [] all = absurd all
   put-shown (d ∷ cells) (t ∷ done) all =
-      subst (λ (b : Bool). AreShown bytes (insert (d ∷ cells) (if is_text_behind c.text d.text then 0 else suc (place_among c.text cells)) c)
+      subst (λ (b : Bool). AreDrawn bytes (insert (d ∷ cells) (if is_text_behind c.text d.text then 0 else suc (place_among c.text cells)) c)
       (if b then s ∷ t ∷ done else t ∷ put s done)) (behind-same c.text d.text s t is.text all.0.text)
       (placed (is_text_behind c.text d.text) d cells t done all.0 all.1 (put-shown cells done all.1))
 
@@ -57,7 +57,7 @@ text-before true at rows last t before past =
     let apart : (t.at == at) ≡ false = ne_eqb t.at at (λ same. omega (arith, same, before refl, past)) in
     ap (λ (b : Bool). b && nat_lt rows t.rows) apart
 
-pub last-among : (bytes : List ℕ) (last : ℕ) (t : TextAt) (cells : List LaidCell) (done : List Shown) → AreShown bytes cells done
+pub last-among : (bytes : List ℕ) (last : ℕ) (t : TextAt) (cells : List LaidCell) (done : List Shown) → AreDrawn bytes cells done
     → AllByRecursion (BeginsBy last) done → last < t.at → place_among (Some t) cells ≡ length cells
 last-among bytes last t [] [] all before past = refl
 last-among bytes last t [] (s ∷ done) all before past = absurd all
@@ -110,21 +110,138 @@ pub order-next : (done more : List Shown) (s : Shown) → in_order done (more ++
 order-next done [] s = refl
 order-next done (t ∷ more) s = order-next (put t done) more s
 
--- a line behind a cell that is put there
-pub put-so-far : (bytes : List ℕ) (old mid new : LineCells) (c : LaidCell) (s : Shown) (done : List Shown) (fronts : List Cell) (place : ℕ)
-    → IsShown bytes c s → SoFar bytes (kept_line old) done fronts → place ≡ place_among c.text old.cells.items
-    → AllByRecursion (BeginsBy mid.last_text) (put s done) → mid ≡ record old { last_text = mid.last_text } → new ≡ record mid { cells = new.cells }
-    → new.cells.items ≡ insert mid.cells.items place c → SoFar bytes (kept_line new) (put s done) fronts
-put-so-far bytes old mid new c s done fronts place is so_far place_is last mid_is new_is cells_is =
-    let cells : new.cells.items ≡ insert old.cells.items (place_among c.text old.cells.items) c
-    = cells_is
-    ∙ ap (λ (x : LineCells). insert x.cells.items place c) mid_is
-    ∙ ap (λ (n : ℕ). insert old.cells.items n c) place_is in
-    let fronts_same : new.fronts.items ≡ old.fronts.items
-    = ap (λ (x : LineCells). x.fronts.items) new_is ∙ ap (λ (x : LineCells). x.fronts.items) mid_is in
-    record {
-      cells = subst (λ (cs : List LaidCell). AreShown bytes cs (put s done)) (sym cells) (put-shown bytes c s is old.cells.items done so_far.cells);
-      texts = subst (λ (n : ℕ). AllByRecursion (BeginsBy n) (put s done)) (sym (ap (λ (x : LineCells). x.last_text) new_is)) last;
-      in_front = ap (map (λ (f : Front). on_line (cell_of_front f))) fronts_same ∙ so_far.in_front;
-      some = subst (AllByRecursion HasBars) (sym fronts_same) so_far.some;
-    }
+-- the cells up to one are put in order, and those behind it are as they were
+pub record OrderedTo (bytes : List ℕ) (cells : List LaidCell) (done : List Shown) (at last : ℕ) : Type 0 where
+  pub first : List LaidCell
+  pub rest : List LaidCell
+  pub gone : List Shown
+  pub left : List Shown
+  pub cells_are : cells ≡ first ++ rest
+  pub done_are : done ≡ gone ++ left
+  pub many : length first ≡ at
+  pub drawn : AreDrawn bytes first (in_order [] gone)
+  pub others : AreDrawn bytes rest left
+  pub begin : AllByRecursion (BeginsBy last) (in_order [] gone)
+
+pub ordered-none : (bytes : List ℕ) (cells : List LaidCell) (done : List Shown) (last : ℕ) → AreDrawn bytes cells done
+    → OrderedTo bytes cells done 0 last
+ordered-none bytes cells done last all = record {
+  first = [];
+  rest = cells;
+  gone = [];
+  left = done;
+  cells_are = refl;
+  done_are = refl;
+  many = refl;
+  drawn = tt;
+  others = all;
+  begin = tt;
+}
+
+-- the next one, and those behind it
+pub record NextDrawn (bytes : List ℕ) (rest : List LaidCell) (left : List Shown) : Type 0 where
+  pub c : LaidCell
+  pub others : List LaidCell
+  pub s : Shown
+  pub further : List Shown
+  pub rest_is : rest ≡ c ∷ others
+  pub left_is : left ≡ s ∷ further
+  pub is : IsDrawn bytes c s
+  pub drawn : AreDrawn bytes others further
+
+pub next-drawn : (bytes : List ℕ) (rest : List LaidCell) (left : List Shown) → AreDrawn bytes rest left → 0 < length rest
+    → NextDrawn bytes rest left
+next-drawn bytes [] left all some = absurd (omega (arith, some))
+next-drawn bytes (c ∷ rest) [] all some = absurd all
+next-drawn bytes (c ∷ rest) (s ∷ left) all some = record {
+  c = c;
+  others = rest;
+  s = s;
+  further = left;
+  rest_is = refl;
+  left_is = refl;
+  is = all.0;
+  drawn = all.1;
+}
+
+pub get-behind : {A : Type 0} (first : List A) (c : A) (rest : List A) (at : ℕ) (d : A) → length first ≡ at → get_or (first ++ c ∷ rest) at d ≡ c
+get-behind [] c rest zero d is = refl
+get-behind [] c rest (suc at) d is = absurd (omega (arith, is))
+get-behind (x ∷ first) c rest zero d is = absurd (omega (arith, is))
+get-behind (x ∷ first) c rest (suc at) d is = get-behind first c rest at d (omega (arith, is))
+
+pub one-behind : {A : Type 0} (first : List A) (c : A) (rest : List A) → (first ++ c ∷ []) ++ rest ≡ first ++ c ∷ rest
+one-behind first c rest = append_assoc first (c ∷ []) rest
+
+pub insert-last : {A : Type 0} (first : List A) (c : A) → insert first (length first) c ≡ first ++ c ∷ []
+insert-last [] c = refl
+insert-last (x ∷ first) c = ap (λ (xs : List _). x ∷ xs) (insert-last first c)
+
+module _ (bytes : List ℕ) (cells : List LaidCell) (done : List Shown) (at last : ℕ) (to : OrderedTo bytes cells done at last)
+    (next : NextDrawn bytes to.rest to.left) where
+  -- the cell at a place is that
+  pub there : cells ≡ to.first ++ next.c ∷ next.others
+  there = to.cells_are ∙ ap (λ (cs : List LaidCell). to.first ++ cs) next.rest_is
+
+  pub get-next : (d : LaidCell) → get_or cells at d ≡ next.c
+  get-next d = ap (λ (cs : List LaidCell). get_or cs at d) there ∙ get-behind to.first next.c next.others at d to.many
+
+  -- put in its place
+  pub ordered-put : (new : List LaidCell) (further : ℕ) → new ≡ insert to.first (place_among next.c.text to.first) next.c ++ next.others
+      → last ≤ further → BeginsBy further next.s → OrderedTo bytes new done (suc at) further
+  ordered-put new further new_is more own =
+      let shown = order-next [] to.gone next.s in
+      record {
+        first = insert to.first (place_among next.c.text to.first) next.c;
+        rest = next.others;
+        gone = to.gone ++ next.s ∷ [];
+        left = next.further;
+        cells_are = new_is;
+        done_are = to.done_are ∙ ap (λ (ss : List Shown). to.gone ++ ss) next.left_is ∙ sym (one-behind to.gone next.s next.further);
+        many = omega (arith, length-insert to.first (place_among next.c.text to.first) next.c (place-within next.c.text to.first), to.many);
+        drawn = subst (λ (ss : List Shown). AreDrawn bytes (insert to.first (place_among next.c.text to.first) next.c) ss) (sym shown)
+            (put-shown bytes next.c next.s next.is to.first (in_order [] to.gone) to.drawn);
+        others = next.drawn;
+        begin = subst (AllByRecursion (BeginsBy further)) (sym shown)
+            (begins-put further next.s (in_order [] to.gone) own (begins-further last further (in_order [] to.gone) more to.begin));
+      }
+
+  -- it stands there
+  pub ordered-stays : (further : ℕ) → place_among next.c.text to.first ≡ length to.first → last ≤ further → BeginsBy further next.s
+      → OrderedTo bytes cells done (suc at) further
+  ordered-stays further place more own =
+      ordered-put cells further
+      (there ∙ sym (one-behind to.first next.c next.others)
+      ∙ ap (λ (cs : List LaidCell). cs ++ next.others) (sym (insert-last to.first next.c))
+      ∙ ap (λ (n : ℕ). insert to.first n next.c ++ next.others) (sym place)) more own
+
+none-left : {A : Type 0} (first rest : List A) (n : ℕ) → length first ≡ n → length (first ++ rest) ≤ n → rest ≡ []
+none-left [] [] n is few = refl
+none-left [] (x ∷ rest) n is few = absurd (omega (arith, is, few))
+none-left (x ∷ first) rest zero is few = absurd (omega (arith, is))
+none-left (x ∷ first) rest (suc n) is few = none-left first rest n (omega (arith, is)) (omega (arith, few))
+
+no-left : (bytes : List ℕ) (rest : List LaidCell) (left : List Shown) → AreDrawn bytes rest left → rest ≡ [] → left ≡ []
+no-left bytes [] [] all is = refl
+no-left bytes [] (s ∷ left) all is = absurd all
+no-left bytes (c ∷ rest) left all is = absurd (cc)
+
+-- all are
+pub ordered-all : (bytes : List ℕ) (cells : List LaidCell) (done : List Shown) (at last : ℕ) → OrderedTo bytes cells done at last
+    → length cells ≤ at → AreDrawn bytes cells (in_order [] done)
+ordered-all bytes cells done at last to few =
+    let rest : to.rest ≡ [] = none-left to.first to.rest at to.many (omega (arith, few, ap (λ (cs : List LaidCell). length cs) to.cells_are)) in
+    let left = no-left bytes to.rest to.left to.others rest in
+    let whole : cells ≡ to.first = to.cells_are ∙ ap (λ (cs : List LaidCell). to.first ++ cs) rest ∙ append-nil to.first in
+    let gone : done ≡ to.gone = to.done_are ∙ ap (λ (ss : List Shown). to.gone ++ ss) left ∙ append-nil to.gone in
+    subst (λ (cs : List LaidCell). AreDrawn bytes cs (in_order [] done)) (sym whole)
+    (subst (λ (ss : List Shown). AreDrawn bytes to.first (in_order [] ss)) (sym gone) to.drawn)
+
+-- how far cells are brought forward
+pub from-within : (t : Option TextAt) (cells : List LaidCell) (at place : ℕ) → place ≡ place_among t cells → length cells ≤ at → place ≤ at
+from-within t cells at place is few = omega (arith, is, few, place-within t cells)
+
+pub take-few : {A : Type 0} (n : ℕ) (xs : List A) → length (take n xs) ≤ n
+take-few zero xs = omega arith
+take-few (suc n) [] = omega arith
+take-few (suc n) (x ∷ xs) = omega (arith, take-few n xs)

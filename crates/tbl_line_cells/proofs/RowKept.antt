@@ -9,6 +9,8 @@ pub keeps-front : (old new : LineCells) → new ≡ record old { fronts = new.fr
 keeps-front old new is room = record {
   signs = ap (λ (x : LineCells). x.signs) is;
   cells = ap (λ (x : LineCells). vec_capacity x.cells) is;
+  cut = ap (λ (x : LineCells). x.cut) is;
+  first_cut = ap (λ (x : LineCells). x.first_cut) is;
   fronts = room;
   columns = ap (λ (x : LineCells). x.columns) is;
   keys = ap (λ (x : LineCells). x.keys) is;
@@ -16,11 +18,13 @@ keeps-front old new is room = record {
   places = ap (λ (x : LineCells). x.places) is;
 }
 
-pub keeps-cell : (old new : LineCells) → new ≡ record old { cells = new.cells; last_text = new.last_text }
+pub keeps-cell : (old new : LineCells) → new ≡ record old { cells = new.cells; has_running = new.has_running }
     → vec_capacity new.cells ≡ vec_capacity old.cells → KeepsRow old new
 keeps-cell old new is room = record {
   signs = ap (λ (x : LineCells). x.signs) is;
   cells = room;
+  cut = ap (λ (x : LineCells). x.cut) is;
+  first_cut = ap (λ (x : LineCells). x.first_cut) is;
   fronts = ap (λ (x : LineCells). vec_capacity x.fronts) is;
   columns = ap (λ (x : LineCells). x.columns) is;
   keys = ap (λ (x : LineCells). x.keys) is;
@@ -28,11 +32,13 @@ keeps-cell old new is room = record {
   places = ap (λ (x : LineCells). x.places) is;
 }
 
-pub keeps-cells : (old new : LineCells) → new ≡ record old { cells = new.cells; last_text = new.last_text; fronts = new.fronts }
+pub keeps-cells : (old new : LineCells) → new ≡ record old { cells = new.cells; has_running = new.has_running; fronts = new.fronts }
     → vec_capacity new.cells ≡ vec_capacity old.cells → vec_capacity new.fronts ≡ vec_capacity old.fronts → KeepsRow old new
 keeps-cells old new is room room_fronts = record {
   signs = ap (λ (x : LineCells). x.signs) is;
   cells = room;
+  cut = ap (λ (x : LineCells). x.cut) is;
+  first_cut = ap (λ (x : LineCells). x.first_cut) is;
   fronts = room_fronts;
   columns = ap (λ (x : LineCells). x.columns) is;
   keys = ap (λ (x : LineCells). x.keys) is;
@@ -44,6 +50,8 @@ pub keeps-then : (old mid new : LineCells) → KeepsRow old mid → KeepsRow mid
 keeps-then old mid new first next = record {
   signs = next.signs ∙ first.signs;
   cells = next.cells ∙ first.cells;
+  cut = next.cut ∙ first.cut;
+  first_cut = next.first_cut ∙ first.first_cut;
   fronts = next.fronts ∙ first.fronts;
   columns = next.columns ∙ first.columns;
   keys = next.keys ∙ first.keys;
@@ -55,6 +63,7 @@ pub room-kept : (room : ℕ) (old new : LineCells) → KeepsRow old new → HasR
 room-kept room old new keeps has = record {
   signs = omega (arith, has.signs, ap vec_capacity keeps.signs);
   cells = omega (arith, has.cells, keeps.cells);
+  cut = omega (arith, has.cut, ap vec_capacity keeps.cut);
   fronts = omega (arith, has.fronts, keeps.fronts);
   columns = omega (arith, has.columns, ap vec_capacity keeps.columns);
   keys = omega (arith, has.keys, ap vec_capacity keeps.keys);
@@ -66,6 +75,7 @@ pub room-less : (room less : ℕ) (c : LineCells) → less ≤ room → HasRoom 
 room-less room less c few has = record {
   signs = omega (arith, few, has.signs);
   cells = omega (arith, few, has.cells);
+  cut = omega (arith, few, has.cut);
   fronts = omega (arith, few, has.fronts);
   columns = omega (arith, few, has.columns);
   keys = omega (arith, few, has.keys);

@@ -5,14 +5,13 @@ use Rattle.tbl_format.specs.declared.format.FormatKey.{FormatKey}
 use Rattle.tbl_layout.specs.Widths.{inner_bars}
 use Rattle.tbl_layout.specs.declared.columns.Column.{Column}
 use Rattle.tbl_lines.specs.CellsLeft.{Left}
-use Rattle.tbl_lines.specs.LinesLeft.{Shown, between, crossed_or_not, end_by, in_order, joined_here, put, row_shown, shown}
+use Rattle.tbl_lines.specs.LinesLeft.{Shown, between, crossed_or_not, end_by, joined_here, row_shown, shown}
 use Rattle.tbl_lines.specs.PictureLines.{Cell}
 use Rattle.tbl_lines.proofs.RowColumns.{drop-none, take-next}
 use Rattle.tbl_options.specs.declared.options.Boxing.{Boxing}
 use Rattle.tbl_line_cells.specs.KeptCells.{AllLeft, IsLeft}
 use Rattle.tbl_line_cells.specs.LinesDrawn.{KeptLine, SoFar, keys_of}
 use Rattle.tbl_line_cells.specs.declared.cells.CellLeft.{CellLeft}
-use Rattle.tbl_line_cells.proofs.LineShown.{order-next}
 
 -- the cells that are left have the same keys
 pub keys-left : (bytes : List ℕ) (cells : List CellLeft) (lefts : List Left) → AllLeft bytes cells lefts
@@ -167,34 +166,30 @@ module _ (boxing : Boxing) where
     -- behind one cell more of a row
     pub row-next : (n k : ℕ) → k ≡ suc n → (l m : Left) (rest : List Left) (c d : Column) (others : List Column)
         → drop n lefts ≡ l ∷ m ∷ rest → drop n columns ≡ c ∷ d ∷ others
-        → SoFar bytes line (put (cell_shown l m c d) (in_order [] (take n row))) ((fronts ++ take n behind) ++ cell_behind l m c d ∷ [])
-        → SoFar bytes line (in_order [] (take k row)) (fronts ++ take k behind)
+        → SoFar bytes line (take n row ++ cell_shown l m c d ∷ []) ((fronts ++ take n behind) ++ cell_behind l m c d ∷ [])
+        → SoFar bytes line (take k row) (fronts ++ take k behind)
     row-next n k k_is l m rest c d others are cols so_far =
         let s = cell_shown l m c d in
         let f = cell_behind l m c d in
-        let done : put s (in_order [] (take n row)) ≡ in_order [] (take (suc n) row)
-        = sym (ap (in_order []) (take-next n row s (drop (suc n) row) (shown-at n lefts columns l m rest c d others are cols))
-        ∙ order-next [] (take n row) s) in
+        let done : take n row ++ s ∷ [] ≡ take (suc n) row
+        = sym (take-next n row s (drop (suc n) row) (shown-at n lefts columns l m rest c d others are cols)) in
         let there : (fronts ++ take n behind) ++ f ∷ [] ≡ fronts ++ take (suc n) behind
         = append_assoc fronts (take n behind) (f ∷ [])
         ∙ ap (λ (fs : List Cell). fronts ++ fs)
         (sym (take-next n behind f (drop (suc n) behind) (between-at n lefts columns l m rest c d others are cols))) in
-        subst (λ (i : ℕ). SoFar bytes line (in_order [] (take i row)) (fronts ++ take i behind)) (sym k_is)
-        (subst (λ (fs : List Cell). SoFar bytes line (in_order [] (take (suc n) row)) fs) there
+        subst (λ (i : ℕ). SoFar bytes line (take i row) (fronts ++ take i behind)) (sym k_is)
+        (subst (λ (fs : List Cell). SoFar bytes line (take (suc n) row) fs) there
         (subst (λ (ss : List Shown). SoFar bytes line ss ((fronts ++ take n behind) ++ f ∷ [])) done so_far))
 
     -- in front of the last
-    pub row-all : (n : ℕ) → length lefts ≤ suc n → SoFar bytes line (in_order [] (take n row)) (fronts ++ take n behind)
-        → SoFar bytes line (in_order [] (take n row)) (fronts ++ behind)
+    pub row-all : (n : ℕ) → length lefts ≤ suc n → SoFar bytes line (take n row) (fronts ++ take n behind)
+        → SoFar bytes line (take n row) (fronts ++ behind)
     row-all n few so_far =
-        subst (λ (fs : List Cell). SoFar bytes line (in_order [] (take n row)) (fronts ++ fs))
+        subst (λ (fs : List Cell). SoFar bytes line (take n row) (fronts ++ fs))
         (take_all n behind (omega (arith, few, few-between lefts columns))) so_far
 
     -- and behind it
     pub row-whole : (n : ℕ) (l : Left) (c : Column) (others : List Column) → drop n lefts ≡ l ∷ [] → drop n columns ≡ c ∷ others
-        → put (shown l c (c.start + c.width)) (in_order [] (take n row)) ≡ in_order [] row
+        → take n row ++ shown l c (c.start + c.width) ∷ [] ≡ row
     row-whole n l c others are cols =
-        let s = shown l c (c.start + c.width) in
-        sym (order-next [] (take n row) s)
-        ∙ ap (λ (ss : List Shown). in_order [] (take n row ++ ss)) (sym (last-at n lefts columns l c others are cols))
-        ∙ ap (in_order []) (take-append-drop n row)
+        ap (λ (ss : List Shown). take n row ++ ss) (sym (last-at n lefts columns l c others are cols)) ∙ take-append-drop n row

@@ -15,7 +15,7 @@ use Rattle.tbl_lines.specs.CellsLeft.{Left, goes_on}
 use Rattle.tbl_lines.specs.LinesLeft.{Free, Over, Through, drawn_at, if_drawn, over_at, over_shown, overs, shown, shown_cell, sign_at}
 use Rattle.tbl_lines.specs.PictureLines.{RuleLine, sign_over}
 use Rattle.tbl_lines.specs.RowsLeft.{cell_left}
-use Rattle.tbl_line_cells.specs.LaidCells.{EndsItself, drawn_in, on_line, row_column}
+use Rattle.tbl_line_cells.specs.LaidCells.{DrawsByte, EndsItself, drawn_in, on_line, row_column}
 use Rattle.tbl_line_cells.specs.RulesDrawn.{over_of}
 use Rattle.tbl_line_cells.specs.declared.cells.CellLeft.{CellLeft}
 use Rattle.tbl_line_cells.proofs.CellsOver.{OverCell}
@@ -34,6 +34,9 @@ lies-drawn bytes e b is = subst (λ (x : Entry). Lies bytes x) (sym is) (record 
 
 pub ends-drawn : (e : Entry) (b : ℕ) → e ≡ record { from = 0; to = 0; kind = Repeated b } → EndsItself e.kind
 ends-drawn e b is = subst (λ (x : Entry). EndsItself x.kind) (sym is) tt
+
+pub byte-drawn : (e : Entry) (b : ℕ) → e ≡ record { from = 0; to = 0; kind = Repeated b } → DrawsByte e.kind e
+byte-drawn e b is = subst (λ (x : Entry). DrawsByte x.kind x) (sym is) tt
 
 pub shows-drawn : (bytes : List ℕ) (c : Column) (e : Entry) (from width b : ℕ) → e ≡ record { from = 0; to = 0; kind = Repeated b } → c.start ≡ from
     → c.width ≡ width → on_line (cell_left bytes 0 (row_column (drawn_in c e))) ≡ on_line (shown_cell (drawn_at from b width))

@@ -5,14 +5,9 @@ use Rattle.std.specs.Prelude.{if◌then◌else◌, Option, None, Some}
 use Rattle.tbl_layout.specs.Columns.{bars_end}
 use Rattle.tbl_layout.specs.declared.columns.Column.{Column}
 use Rattle.tbl_layout.specs.declared.data_lines.RuleSign.{RuleSign}
-use Rattle.tbl_lines.specs.LinesLeft.{Beside, Free, Over, Shown, Through, all_shown, bars_met, front_between, fronts_between, if_drawn, in_order, is_behind, is_within, over_at, over_shown, put}
+use Rattle.tbl_lines.specs.LinesLeft.{Beside, Free, Over, Shown, Through, all_shown, bars_met, front_between, fronts_between, if_drawn, is_within, over_at, over_shown}
 use Rattle.tbl_lines.specs.PictureLines.{Cell, RuleLine, Sheet, sign_over}
 use Rattle.tbl_line_cells.specs.RulesDrawn.{begin_behind, end_at, front_list, within_count}
-
--- what is shown behind some of it
-pub in_order-behind : (done first second : List Shown) → in_order done (first ++ second) ≡ in_order (in_order done first) second
-in_order-behind done [] second = refl
-in_order-behind done (s ∷ first) second = in_order-behind (put s done) first second
 
 append-none : {A : Type 0} (xs : List A) → xs ≡ xs ++ []
 append-none [] = refl
@@ -71,17 +66,3 @@ count-fronts s line all above below at from to c (d ∷ columns) =
       count-front (over_at all (suc at))
           (front_between line at (over_at all at) (over_at all (suc at)) (bars_met s.bars (length s.columns) line all above below (suc at)) c d),
     )
-
--- one more
-count-by : (is : Bool) (s other : Shown) (others : List Shown) → length (put s others) ≡ suc (length others)
-    → length (if is then s ∷ other ∷ others else other ∷ put s others) ≡ suc (suc (length others))
-count-by true s other others one = refl
-count-by false s other others one = ap suc one
-
-count-put : (s : Shown) (done : List Shown) → length (put s done) ≡ suc (length done)
-count-put s [] = refl
-count-put s (other ∷ others) = count-by (is_behind s other) s other others (count-put s others)
-
-pub count-order : (done more : List Shown) → length (in_order done more) ≡ length done + length more
-count-order done [] = omega arith
-count-order done (s ∷ more) = omega (arith, count-order (put s done) more, count-put s done)

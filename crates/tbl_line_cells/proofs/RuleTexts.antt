@@ -1,11 +1,11 @@
 -- A line of rules that was laid column by column is the line that is drawn.
-use Rattle.std.proofs.Common.{◌≡◌, ℕ, suc, ◌-◌, max, Bool, true, false, not, ◌&&◌, ◌==◌, List, [], ◌∷◌, ◌++◌, length, map, refl, sym, ap, ◌∙◌, arith}
+use Rattle.std.proofs.Common.{◌≡◌, ℕ, suc, ◌-◌, ◌<◌, Bool, true, false, not, ◌&&◌, ◌==◌, List, [], ◌∷◌, ◌++◌, length, refl, sym, ap, ◌∙◌, arith}
 use Rattle.std.proofs.lemmas.List.{length-append, length-map}
 use Rattle.std.specs.Prelude.{nat_lt, if◌then◌else◌}
 use Rattle.tbl_layout.specs.LayoutLaws.{first_start, last_end}
 use Rattle.tbl_layout.specs.declared.columns.Column.{Column}
 use Rattle.tbl_lines.specs.CellsLeft.{Left, goes_on}
-use Rattle.tbl_lines.specs.LinesLeft.{Beside, Free, Over, Shown, Through, all_shown, bars_met, edge, fronts_between, in_order, line_by, over_at, overs, rule_line_left, rules_edge, shown_cell}
+use Rattle.tbl_lines.specs.LinesLeft.{Beside, Free, Over, Shown, Through, all_shown, bars_met, edge, fronts_between, over_at, overs, rule_fronts, rule_shown, rules_edge}
 use Rattle.tbl_lines.specs.PictureLines.{Cell, OfKeys, RuleLine, Sheet, Whole, line_of, with_fronts}
 use Rattle.tbl_lines.specs.RowsLeft.{cell_of_front}
 use Rattle.tbl_lines.specs.declared.fronts.Front.{Front}
@@ -15,8 +15,9 @@ use Rattle.tbl_line_cells.specs.declared.laid_cells.LaidCell.{LaidCell}
 use Rattle.tbl_line_cells.specs.RulesDrawn.{edge_drawn, is_whole_line, over_of, within_count}
 use Rattle.tbl_line_cells.specs.declared.cells.CellLeft.{CellLeft}
 use Rattle.tbl_line_cells.proofs.CellsOver.{OverCell}
+use Rattle.tbl_line_cells.proofs.FrontsMarked.{AllMarkedAlike, edge-marked, marked-behind}
 use Rattle.tbl_line_cells.proofs.RuleFronts.{edge-alike}
-use Rattle.tbl_line_cells.proofs.RuleSteps.{count-fronts, count-order}
+use Rattle.tbl_line_cells.proofs.RuleSteps.{count-fronts}
 use Rattle.tbl_line_cells.proofs.ShownAlike.{AllDrawnAlike, alike-with, line-alike, same-drawn}
 
 -- whether the line rules an edge beside a cell
@@ -46,11 +47,11 @@ as-many bytes [] (s ∷ done) are = absurd are
 as-many bytes (c ∷ cells) [] are = absurd are
 as-many bytes (c ∷ cells) (s ∷ done) are = ap suc (as-many bytes cells done are.1)
 
-as-many-fronts : (bytes : List ℕ) (now : KeptLine) (done : List Shown) (fronts : List Cell) → SoFar bytes now done fronts
+pub as-many-fronts : (bytes : List ℕ) (now : KeptLine) (done : List Shown) (fronts : List Cell) → SoFar bytes now done fronts
     → length now.fronts ≡ length fronts
 as-many-fronts bytes now done fronts so_far =
     sym (length-map now.fronts (λ (f : Front). on_line (cell_of_front f)))
-    ∙ ap (λ (cells : List Cell). length cells) so_far.in_front
+    ∙ ap (λ (cells : List Cell). length cells) so_far.front.in_front
     ∙ length-map fronts on_line
 
 module _ (s : Sheet) (lefts : List Left) (line : RuleLine) (above below : Beside) where
@@ -63,66 +64,80 @@ module _ (s : Sheet) (lefts : List Left) (line : RuleLine) (above below : Beside
   abbrev met : ℕ → ℕ
   met boundary = bars_met s.bars (length s.columns) line all above below boundary
 
-  -- with these edges
-  abbrev line-of-edges : Bool → Bool → ℕ → ℕ → ℕ → ℕ → List ℕ
-  line-of-edges is_left is_right left right from to =
-      line_by (edge is_left 0 left ∷ between ++ edge is_right (s.width - right) right ∷ []) (all_shown line all 0 from to s.columns)
+  -- by these edges
+  abbrev fronts_by : Bool → Bool → ℕ → ℕ → List Cell → List Cell
+  fronts_by is_left is_right left right fronts = edge is_left 0 left ∷ fronts ++ edge is_right (s.width - right) right ∷ []
 
-  abbrev line-by-edges : Bool → Bool → ℕ → ℕ → List ℕ
-  line-by-edges is_left is_right left right =
-      line-of-edges is_left is_right left right (if is_left then left else first_start left s.columns)
-      (if is_right then s.width - right else last_end 0 s.columns)
+  abbrev laid_by : Bool → Bool → ℕ → ℕ → List Cell → List Cell
+  laid_by is_left is_right left right fronts = (edge_drawn is_left 0 left ∷ fronts) ++ edge_drawn is_right (s.width - right) right ∷ []
 
   behind-alike : (fronts : List Cell) (is_right : Bool) (right : ℕ)
       → AllDrawnAlike (fronts ++ edge_drawn is_right (s.width - right) right ∷ []) (fronts ++ edge is_right (s.width - right) right ∷ [])
   behind-alike [] is_right right = (edge-alike is_right (s.width - right) right, tt)
   behind-alike (f ∷ fronts) is_right right = (same-drawn f, behind-alike fronts is_right right)
 
-  pub text-is : (is_left is_right : Bool) (left right from to : ℕ) (done : List Shown) (fronts : List Cell)
-      → is_left ≡ rules_edge line (over_at all 0) → is_right ≡ rules_edge line (over_at all (length s.columns - 1))
-      → left ≡ met 0 → right ≡ met (length s.columns)
-      → from ≡ (if is_left then left else first_start left s.columns) → to ≡ (if is_right then s.width - right else last_end 0 s.columns)
-      → done ≡ in_order [] (all_shown line all 0 from to s.columns) → fronts ≡ between
-      → line_of 0 (with_fronts ((edge_drawn is_left 0 left ∷ fronts) ++ edge_drawn is_right (s.width - right) right ∷ []) (map shown_cell done))
-      ≡ rule_line_left s line lefts above below
-  text-is is_left is_right left right from to done fronts left_ruled right_ruled left_met right_met from_is to_is done_is fronts_is =
-      line-alike (with_fronts ((edge_drawn is_left 0 left ∷ fronts) ++ edge_drawn is_right (s.width - right) right ∷ []) (map shown_cell done))
-      (with_fronts (edge is_left 0 left ∷ fronts ++ edge is_right (s.width - right) right ∷ []) (map shown_cell done))
-      (alike-with ((edge_drawn is_left 0 left ∷ fronts) ++ edge_drawn is_right (s.width - right) right ∷ [])
-      (edge is_left 0 left ∷ fronts ++ edge is_right (s.width - right) right ∷ []) (map shown_cell done)
+  -- what is laid marks and draws the same
+  pub laid-marked : (is_left is_right : Bool) (left right : ℕ) (fronts : List Cell)
+      → AllMarkedAlike (laid_by is_left is_right left right fronts) (fronts_by is_left is_right left right fronts)
+  laid-marked is_left is_right left right fronts =
+      (edge-marked is_left 0 left, marked-behind fronts _ _ (edge-marked is_right (s.width - right) right, tt))
+
+  pub laid-drawn : (is_left is_right : Bool) (left right : ℕ) (fronts cells : List Cell)
+      → line_of 0 (with_fronts (laid_by is_left is_right left right fronts) cells)
+      ≡ line_of 0 (with_fronts (fronts_by is_left is_right left right fronts) cells)
+  laid-drawn is_left is_right left right fronts cells =
+      line-alike (with_fronts (laid_by is_left is_right left right fronts) cells) (with_fronts (fronts_by is_left is_right left right fronts) cells)
+      (alike-with (laid_by is_left is_right left right fronts) (fronts_by is_left is_right left right fronts) cells
       (edge-alike is_left 0 left, behind-alike fronts is_right right))
-      ∙ ap (λ (fs : List Cell). line_of 0
-      (with_fronts (edge is_left 0 left ∷ fs ++ edge is_right (s.width - right) right ∷ []) (map shown_cell done))) fronts_is
-      ∙ ap (λ (ss : List Shown). line_of 0
-      (with_fronts (edge is_left 0 left ∷ between ++ edge is_right (s.width - right) right ∷ []) (map shown_cell ss))) done_is
-      ∙ ap (λ (n : ℕ). line-of-edges is_left is_right left right n to) from_is
-      ∙ ap (λ (n : ℕ). line-of-edges is_left is_right left right (if is_left then left else first_start left s.columns) n) to_is
-      ∙ ap (λ (b : Bool). line-by-edges b is_right left right) left_ruled
-      ∙ ap (λ (b : Bool). line-by-edges (rules_edge line (over_at all 0)) b left right) right_ruled
-      ∙ ap (λ (n : ℕ). line-by-edges (rules_edge line (over_at all 0)) (rules_edge line (over_at all (length s.columns - 1))) n right) left_met
-      ∙ ap (λ (n : ℕ). line-by-edges (rules_edge line (over_at all 0)) (rules_edge line (over_at all (length s.columns - 1))) (met 0) n) right_met
+
+  pub fronts-are : (is_left is_right : Bool) (left right : ℕ) (fronts : List Cell) → is_left ≡ rules_edge line (over_at all 0)
+      → is_right ≡ rules_edge line (over_at all (length s.columns - 1)) → left ≡ met 0 → right ≡ met (length s.columns) → fronts ≡ between
+      → fronts_by is_left is_right left right fronts ≡ rule_fronts s line lefts above below
+  fronts-are is_left is_right left right fronts left_ruled right_ruled left_met right_met fronts_is =
+      ap (λ (fs : List Cell). fronts_by is_left is_right left right fs) fronts_is
+      ∙ ap (λ (b : Bool). fronts_by b is_right left right between) left_ruled
+      ∙ ap (λ (b : Bool). fronts_by (rules_edge line (over_at all 0)) b left right between) right_ruled
+      ∙ ap (λ (n : ℕ). fronts_by (rules_edge line (over_at all 0)) (rules_edge line (over_at all (length s.columns - 1))) n right between) left_met
+      ∙ ap (λ (n : ℕ). fronts_by (rules_edge line (over_at all 0)) (rules_edge line (over_at all (length s.columns - 1))) (met 0) n between) right_met
+
+  abbrev shown_by : Bool → Bool → ℕ → ℕ → List Shown
+  shown_by is_left is_right left right =
+      all_shown line all 0 (if is_left then left else first_start left s.columns) (if is_right then s.width - right else last_end 0 s.columns) s.columns
+
+  pub shown-is : (is_left is_right : Bool) (left right from to : ℕ) → is_left ≡ rules_edge line (over_at all 0)
+      → is_right ≡ rules_edge line (over_at all (length s.columns - 1)) → left ≡ met 0 → right ≡ met (length s.columns)
+      → from ≡ (if is_left then left else first_start left s.columns) → to ≡ (if is_right then s.width - right else last_end 0 s.columns)
+      → all_shown line all 0 from to s.columns ≡ rule_shown s line lefts above below
+  shown-is is_left is_right left right from to left_ruled right_ruled left_met right_met from_is to_is =
+      ap (λ (n : ℕ). all_shown line all 0 n to s.columns) from_is
+      ∙ ap (λ (n : ℕ). all_shown line all 0 (if is_left then left else first_start left s.columns) n s.columns) to_is
+      ∙ ap (λ (b : Bool). shown_by b is_right left right) left_ruled
+      ∙ ap (λ (b : Bool). shown_by (rules_edge line (over_at all 0)) b left right) right_ruled
+      ∙ ap (λ (n : ℕ). shown_by (rules_edge line (over_at all 0)) (rules_edge line (over_at all (length s.columns - 1))) n right) left_met
+      ∙ ap (λ (n : ℕ). shown_by (rules_edge line (over_at all 0)) (rules_edge line (over_at all (length s.columns - 1))) (met 0) n) right_met
 
   -- each cell has what stands in front of it, and so has the end of the line
   pub fronts-enough : (bytes : List ℕ) (now : KeptLine) (edge last : Cell) (from to : ℕ) (done : List Shown) (fronts : List Cell) (c : Column)
       (columns : List Column)
       → s.columns ≡ c ∷ columns → within_count (over_at all 0) ≡ 0
-      → SoFar bytes now done ((edge ∷ fronts) ++ last ∷ []) → done ≡ in_order [] (all_shown line all 0 from to s.columns) → fronts ≡ between
-      → length now.fronts ≡ suc (max 1 (length now.cells))
+      → SoFar bytes now done ((edge ∷ fronts) ++ last ∷ []) → done ≡ all_shown line all 0 from to s.columns → fronts ≡ between
+      → (0 < length now.cells) × (length now.fronts ≡ suc (length now.cells))
   fronts-enough bytes now edge last from to done fronts c columns some first so_far done_is fronts_is =
       let count = count-fronts s line all above below 0 from to c columns in
       let shown : length (all_shown line all 0 from to s.columns) ≡ suc (length between) =
       ap (λ (cs : List Column). length (all_shown line all 0 from to cs)) some
       ∙ omega (arith, count, first)
       ∙ ap (λ (cs : List Column). suc (length (fronts_between s line all above below 0 cs))) (sym some) in
-      omega (
-        arith,
-        shown,
-        as-many-fronts bytes now done ((edge ∷ fronts) ++ last ∷ []) so_far,
-        length-append (edge ∷ fronts) (last ∷ []),
-        ap (λ (cells : List Cell). length cells) fronts_is,
-        as-many bytes now.cells done so_far.cells,
-        ap (λ (cells : List Shown). length cells) done_is,
-        count-order [] (all_shown line all 0 from to s.columns),
+      let cells : length now.cells ≡ suc (length between)
+      = as-many bytes now.cells done so_far.cells ∙ ap (λ (cells : List Shown). length cells) done_is ∙ shown in (
+        omega (arith, cells),
+        omega (
+          arith,
+          cells,
+          as-many-fronts bytes now done ((edge ∷ fronts) ++ last ∷ []) so_far,
+          length-append (edge ∷ fronts) (last ∷ []),
+          ap (λ (cells : List Cell). length cells) fronts_is,
+        ),
       )
 
 -- whether the line rules the edge beside a cell, as it is kept

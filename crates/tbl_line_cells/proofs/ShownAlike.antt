@@ -1,5 +1,5 @@
 -- Cells that are drawn alike on a line: what stands behind them is drawn alike too, and runs without a byte draw nothing.
-use Rattle.std.proofs.Common.{◌≡◌, ℕ, ◌+◌, ◌-◌, List, [], ◌∷◌, ◌++◌, refl, ap, ◌∙◌, arith}
+use Rattle.std.proofs.Common.{◌≡◌, ℕ, ◌+◌, ◌-◌, max, List, [], ◌∷◌, ◌++◌, refl, ap, ◌∙◌, arith}
 use Rattle.std.proofs.lemmas.List.Sums.{sum_by-cons}
 use Rattle.roff_source.specs.Bytes.{newline}
 use Rattle.std.specs.Prelude.{codes}
@@ -65,7 +65,7 @@ empty-before (b ∷ bytes) = refl
 abbrev pub three_runs : ℕ → ℕ → ℕ → List Run
 three_runs before count after = repeated (sign_byte Single) before ∷ repeated crossing count ∷ repeated (sign_byte Single) after ∷ []
 
-three-columns : (before count after : ℕ) → columns_of (three_runs before count after) ≡ before + count + after
+pub three-columns : (before count after : ℕ) → columns_of (three_runs before count after) ≡ before + count + after
 three-columns before count after = omega (
   arith,
   sum_by-cons (λ (run : Run). run.columns) (repeated (sign_byte Single) before) (repeated crossing count ∷ repeated (sign_byte Single) after ∷ []),
@@ -73,7 +73,7 @@ three-columns before count after = omega (
   sum_by-cons (λ (run : Run). run.columns) (repeated (sign_byte Single) after) [],
 )
 
-one-columns : (count : ℕ) → columns_of (repeated crossing count ∷ []) ≡ count
+pub one-columns : (count : ℕ) → columns_of (repeated crossing count ∷ []) ≡ count
 one-columns count = omega (arith, sum_by-cons (λ (run : Run). run.columns) (repeated crossing count) [])
 
 three-glyphs : (gap : ℕ) (count : ℕ) (runs : List Run)
@@ -86,7 +86,7 @@ three-glyphs gap count runs =
 pub three-alike : (at count : ℕ) (c : Cell) → c.at ≡ at → first_of c ≡ three_runs 0 count 0 → AreDrawnAlike c (one_run at (repeated crossing count))
 three-alike at count c place runs = record {
   end = λ from. ap (λ (n : ℕ). end_of n from (first_of c)) place ∙ ap (λ (rs : List Run). end_of at from rs) runs
-      ∙ ap (λ (n : ℕ). at + n) (omega (arith, three-columns 0 count 0, one-columns count));
+      ∙ ap (λ (n : ℕ). max at from + n) (omega (arith, three-columns 0 count 0, one-columns count));
   glyphs = λ from more. ap (λ (n : ℕ). up_to_last_glyph (at_column n from (first_of c) ++ more)) place
       ∙ ap (λ (rs : List Run). up_to_last_glyph (at_column at from rs ++ more)) runs
       ∙ three-glyphs (at - from) count more;

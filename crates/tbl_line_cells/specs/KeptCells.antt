@@ -13,13 +13,14 @@ use Rattle.tbl_lines.specs.PictureLeft.{through_rule}
 use Rattle.tbl_lines.specs.RowsLeft.{block_text}
 use Rattle.tbl_line_cells.specs.declared.cells.CellLeft.{CellLeft}
 use Rattle.tbl_text.specs.BlockLines.{lines_of}
-use Rattle.tbl_text.specs.BlockPlaces.{IsWithin, parts_at}
+use Rattle.tbl_text.specs.BlockPlaces.{IsWithin, ReadsAll, parts_at}
 use Rattle.tbl_text.specs.BlockWords.{parts_of}
 use Rattle.tbl_text.specs.declared.block_parts.BlockPlace.{BlockPlace}
 
--- a block goes on at a place, behind so many of its lines
+-- a block goes on at a place, from which all is read, behind so many of its lines
 pub record BlockGoesOn (bytes : List ℕ) (e : Entry) (b : BlockEntry) (place : BlockPlace) (gone : ℕ) : Type 0 where
   pub within : IsWithin (block_text bytes e) place
+  pub all : ReadsAll place
   pub lines : lines_of b.measure (parts_at (block_text bytes e) place)
       ≡ drop gone (lines_of b.measure (parts_of (block_lines bytes e.from e.to)))
 
@@ -33,6 +34,9 @@ pub record IsLeft (bytes : List ℕ) (c : CellLeft) (l : Left) : Type 0 where
   pub field : content_of bytes c.entry ≡ l.field
   pub lead : c.lead ≡ l.lead
   pub rows : c.rows ≡ l.rows
+  pub used : c.is_used ≡ l.is_used
+  pub stop : c.stop ≡ l.stop
+  pub cut : c.is_cut ≡ l.is_cut
   pub lies : Lies bytes c.entry
   pub within : IsWithin (block_text bytes c.entry) c.place
   pub place : GoesOnBy c.entry.kind bytes c.entry c.place l.gone
@@ -44,6 +48,10 @@ AllLeft bytes [] [] = Unit {0}
 AllLeft bytes [] (l ∷ lefts) = ⊥
 AllLeft bytes (c ∷ cells) [] = ⊥
 AllLeft bytes (c ∷ cells) (l ∷ lefts) = IsLeft bytes c l × AllLeft bytes cells lefts
+
+pub record AreKept (bytes : List ℕ) (cells : List CellLeft) : Type 0 where
+  pub lefts : List Left
+  pub left : AllLeft bytes cells lefts
 
 -- a cell behind so many lines of rules in front of its row
 abbrev pub behind_rules : ℕ → Left → Left

@@ -7,14 +7,14 @@ use Rattle.tbl_layout.specs.declared.columns.Column.{Column}
 use Rattle.tbl_layout.specs.declared.data_lines.RuleSign.{RuleSign}
 use Rattle.tbl_layout.specs.declared.data_lines.RuleSign.TheVariants.{Single}
 use Rattle.tbl_lines.specs.CellsLeft.{Left, goes_on}
-use Rattle.tbl_lines.specs.LinesLeft.{Beside, Free, Over, Shown, Through, all_shown, bars_met, front_between, fronts_between, in_order, is_within, over_at, overs, ruled_over, sign_at}
-use Rattle.tbl_lines.specs.PictureLines.{Cell, OfKeys, RuleLine, Sheet, Whole, bar, nothing_there, one_run, repeated}
+use Rattle.tbl_lines.specs.LinesLeft.{Beside, Free, Over, Shown, Through, all_cut, all_shown, bars_met, cut_cells, front_between, fronts_between, is_within, over_at, overs, rule_fronts, rule_shown, ruled_over, sign_at}
+use Rattle.tbl_lines.specs.PictureLines.{Cell, OfKeys, RuleLine, Sheet, Whole, bar, line_of, nothing_there, one_run, repeated, with_fronts}
 use Rattle.tbl_lines.specs.RowsLeft.{cell_of_front}
 use Rattle.tbl_lines.specs.RowsWalked.{HasBars}
 use Rattle.tbl_lines.specs.declared.fronts.Front.{Front}
 use Rattle.tbl_line_cells.specs.KeptCells.{AllLeft}
 use Rattle.tbl_line_cells.specs.LaidCells.{on_line}
-use Rattle.tbl_line_cells.specs.LinesDrawn.{KeptLine, SoFar}
+use Rattle.tbl_line_cells.specs.LinesDrawn.{KeptLine, RunInOrder, SoFar}
 use Rattle.tbl_line_cells.specs.declared.cells.CellLeft.{CellLeft}
 
 -- cells have all columns of a table from one on
@@ -87,14 +87,24 @@ pub record RuleGiven (bytes : List ℕ) (cells : List CellLeft) (signs : List (O
   pub fit : (at : ℕ) (c d : Column) (others : List Column) → drop at columns ≡ c ∷ d ∷ others
       → FitBetween (bars_met bars (length columns) line (overs 0 lefts columns) above below (suc at)) c d
 
+pub record RuleIsGiven (bytes : List ℕ) (cells : List CellLeft) (signs : List (Option RuleSign)) (counts : List ℕ) (columns : List Column)
+    (is_whole : Bool) : Type 0 where
+  pub lefts : List Left
+  pub bars : Bars
+  pub line : RuleLine
+  pub above : Beside
+  pub below : Beside
+  pub whole : is_whole ≡ is_whole_line line
+  pub given : RuleGiven bytes cells signs counts columns lefts bars line above below
+
 -- it is laid up to a column: the edge, what it shows and what stands in front of that, and what is left of the line is still to be laid
 pub record LaidTo (bytes : List ℕ) (now : KeptLine) (s : Sheet) (lefts : List Left) (line : RuleLine) (above below : Beside) (edge : Cell)
     (from to at : ℕ) : Type 0 where
   pub done : List Shown
   pub fronts : List Cell
   pub so_far : SoFar bytes now done (edge ∷ fronts)
-  pub shown : in_order done (all_shown line (overs 0 lefts s.columns) at (begin_at from at s.columns) to (drop at s.columns))
-      ≡ in_order [] (all_shown line (overs 0 lefts s.columns) 0 from to s.columns)
+  pub shown : done ++ all_shown line (overs 0 lefts s.columns) at (begin_at from at s.columns) to (drop at s.columns)
+      ≡ all_shown line (overs 0 lefts s.columns) 0 from to s.columns
   pub between : fronts ++ fronts_between s line (overs 0 lefts s.columns) above below at (drop at s.columns)
       ≡ fronts_between s line (overs 0 lefts s.columns) above below 0 s.columns
 
@@ -108,3 +118,16 @@ abbrev pub edge_drawn : Bool → ℕ → ℕ → Cell
 edge_drawn is_ruled at zero = nothing_there
 edge_drawn false at (suc n) = one_run at (repeated bar (suc n))
 edge_drawn true at (suc n) = ruled_over Single at at (suc n) (at + suc n)
+
+-- all of a line of rules is laid: what it shows, in order, and what stands in front of that, drawn as the line has it, and cutting as much
+pub record RuleIsLaid (bytes : List ℕ) (s : Sheet) (now : KeptLine) (line : RuleLine) (lefts : List Left) (above below : Beside) : Type 0 where
+  pub done : List Shown
+  pub fronts : List Cell
+  pub so_far : SoFar bytes now done fronts
+  pub shown : done ≡ rule_shown s line lefts above below
+  pub drawn : (cells : List Cell) → line_of 0 (with_fronts fronts cells) ≡ line_of 0 (with_fronts (rule_fronts s line lefts above below) cells)
+  pub cut : all_cut s fronts done ≡ all_cut s (rule_fronts s line lefts above below) done
+  pub cut_of : cut_cells s fronts done ≡ cut_cells s (rule_fronts s line lefts above below) done
+  pub order : RunInOrder (length s.columns) 0 done
+  pub some : 0 < length now.cells
+  pub many : length now.fronts ≡ suc (length now.cells)

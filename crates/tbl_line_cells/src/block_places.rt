@@ -2,7 +2,7 @@
 
 ghost use Rattle.std.specs.Prelude.{◌≡◌, ◌<◌, ◌^◌, drop, length};
 ghost use Rattle.tbl_text.specs.BlockLines.{behind_rest, lines_of};
-ghost use Rattle.tbl_text.specs.BlockPlaces.{IsWithin, parts_at};
+ghost use Rattle.tbl_text.specs.BlockPlaces.{IsWithin, ReadsAll, parts_at};
 
 use roff_escape::OpenEscapes;
 use tbl_text::block_lines::{OnLine, next_on_line};
@@ -19,6 +19,7 @@ pub fn behind_block_line(
     requires small { length block.now < 2 ^ 32 }
     requires within { IsWithin block.now place }
     ensures within { IsWithin block.now result }
+    ensures all { ReadsAll place → ReadsAll result }
     ensures lines { lines_of measure (parts_at block.now result)
         ≡ drop 1 (lines_of measure (parts_at block.now place)) }
     ensures room { escapes.new.room ≡ escapes.old.room }
@@ -43,6 +44,7 @@ fn behind_words(
     requires small { length block.now < 2 ^ 32 }
     requires within { IsWithin block.now place }
     ensures within { IsWithin block.now result }
+    ensures all { ReadsAll place → ReadsAll result }
     ensures behind { parts_at block.now result
         ≡ behind_rest measure width (parts_at block.now place) }
     ensures room { escapes.new.room ≡ escapes.old.room }

@@ -1,8 +1,8 @@
 //! What is left of the cells of a row (Lesk, "Tbl": Format).
 
-ghost use Rattle.std.specs.Prelude.{◌≡◌, ℕ, ◌+◌, ◌-◌, ◌<◌, ◌^◌, List, nat_lt};
+ghost use Rattle.std.specs.Prelude.{◌≡◌, ℕ, ◌+◌, ◌-◌, ◌<◌, ◌^◌, List, nat_lt, true};
 ghost use Rattle.tbl_lines.specs.CellsLeft.{Left, behind_line, gone_on};
-ghost use Rattle.tbl_lines.specs.LinesLeft.{joined_here};
+ghost use Rattle.tbl_lines.specs.LinesLeft.{joined_here, runs_on};
 ghost use Rattle.tbl_layout.specs.KeptEntries.{Lies};
 ghost use Rattle.tbl_lines.specs.RowsLeft.{block_text};
 ghost use Rattle.tbl_line_cells.specs.KeptCells.{IsLeft, ShowsRule, behind_rules};
@@ -11,6 +11,7 @@ ghost use Rattle.tbl_text.specs.BlockPlaces.{IsWithin};
 use crate::block_places::behind_block_line;
 use roff_escape::OpenEscapes;
 use tbl_format::format::FormatKey;
+use tbl_layout::columns::Column;
 use tbl_layout::data_lines::RuleSign;
 use tbl_layout::entry::{Entry, EntryKind};
 use tbl_lines::row_columns::{block_bytes, is_ruled};
@@ -25,6 +26,12 @@ pub struct CellLeft {
     pub lead: u128,
     pub place: BlockPlace,
     pub rows: usize,
+    /// Whether something stands in it, on any of its lines.
+    pub is_used: bool,
+    /// Behind how many columns what stands in it ends at the latest, if it is without width.
+    pub stop: usize,
+    /// Whether a line of that was cut.
+    pub is_cut: bool,
 }
 
 impl CellLeft {
@@ -66,6 +73,52 @@ impl CellLeft {
             lead,
             place,
             rows: self.rows,
+            is_used: self.is_used,
+            stop: self.stop,
+            is_cut: self.is_cut,
+        }
+    }
+
+    /// Whether something in it passes an end of its columns, as one, on the line: then it begins at
+    /// their first place.
+    pub fn runs_on(self, column: Column) -> bool
+        ensures { (bytes : List ℕ) (l : Left) → IsLeft bytes self l
+            → result ≡ runs_on l column }
+    {
+        self.key.has_no_width
+            && self.lead == 0
+            && column.passes(self.key.key, self.entry.stands(self.key.key))
+    }
+
+    /// What stands in it ends at the latest behind so many columns, if it is without width.
+    pub fn with_stop(self, stop: usize) -> CellLeft
+        ensures { result ≡ record self { stop = stop } }
+    {
+        CellLeft {
+            key: self.key,
+            entry: self.entry,
+            lead: self.lead,
+            place: self.place,
+            rows: self.rows,
+            is_used: self.is_used,
+            stop,
+            is_cut: self.is_cut,
+        }
+    }
+
+    /// Something in it is cut on a line.
+    pub fn cut(self) -> CellLeft
+        ensures { result ≡ record self { is_cut = true } }
+    {
+        CellLeft {
+            key: self.key,
+            entry: self.entry,
+            lead: self.lead,
+            place: self.place,
+            rows: self.rows,
+            is_used: self.is_used,
+            stop: self.stop,
+            is_cut: true,
         }
     }
 
@@ -91,7 +144,10 @@ impl CellLeft {
         ensures left { (bytes : List ℕ) (l : Left) → IsLeft bytes self l
             → IsLeft bytes result (gone_on key l) }
         ensures value { result
-            ≡ record self { key = record key { key = self.key.key }; rows = self.rows + 1 } }
+            ≡ record self {
+              key = record key { key = self.key.key; has_no_width = self.key.has_no_width };
+              rows = self.rows + 1;
+            } }
     {
         CellLeft {
             key: FormatKey {
@@ -99,12 +155,15 @@ impl CellLeft {
                 key: self.key.key,
                 end: key.end,
                 standing: key.standing,
-                has_no_width: key.has_no_width,
+                has_no_width: self.key.has_no_width,
             },
             entry: self.entry,
             lead: self.lead,
             place: self.place,
             rows: self.rows + 1,
+            is_used: self.is_used,
+            stop: self.stop,
+            is_cut: self.is_cut,
         }
     }
 

@@ -1,8 +1,10 @@
 //! The cells of a line, and where those stand that are texts (Lesk, "Tbl": Formatting).
 
-ghost use Rattle.std.specs.Prelude.{◌≡◌, ℕ, ◌<◌, ◌^◌, List, Some};
+ghost use Rattle.std.specs.Prelude.{◌≡◌, ℕ, ◌<◌, ◌^◌, List, Some, false, true};
+ghost use Rattle.tbl_layout.specs.declared.entry.EntryKind.TheVariants.{Repeated};
 ghost use Rattle.tbl_lines.specs.CellsLeft.{Left};
-ghost use Rattle.tbl_lines.specs.LinesLeft.{shown};
+ghost use Rattle.tbl_lines.specs.LinesLeft.{runs_on, shown};
+ghost use Rattle.tbl_lines.specs.PictureLines.{bar};
 ghost use Rattle.tbl_lines.specs.RowsWalked.{IsNarrow};
 ghost use Rattle.tbl_line_cells.specs.KeptCells.{IsLeft};
 ghost use Rattle.tbl_line_cells.specs.LaidCells.{IsShown, is_text_behind, place_among};
@@ -12,7 +14,7 @@ use crate::cells::CellLeft;
 use tbl_format::format::Key;
 use tbl_layout::columns::Column;
 use tbl_layout::data_lines::{RuleSign, sign_byte};
-use tbl_layout::entry::{Entry, EntryKind};
+use tbl_layout::entry::{Entry, EntryKind, is_number};
 use tbl_text::block_parts::BlockPlace;
 
 /// At which column of the page a text begins, and over how many rows its cell has come.
@@ -22,8 +24,21 @@ pub struct TextAt {
     pub rows: usize,
 }
 
-/// A cell of a line: its columns as one, its key, what stands in it, where a block goes on, and
-/// where it begins, if it is a text.
+/// What runs on beyond the columns of its cell.
+#[derive(Clone, Copy)]
+pub struct RunsOn {
+    /// Behind how many columns the cell ends.
+    pub end: usize,
+    /// Behind how many columns what stands in it ends at the latest.
+    pub stop: usize,
+    /// Whether it is a number.
+    pub is_number: bool,
+    /// Whether a line of it was cut before.
+    pub is_cut: bool,
+}
+
+/// A cell of a line: its columns as one, its key, what stands in it, where a block goes on, where
+/// it begins, if it is a text, and whether it runs on.
 #[derive(Clone, Copy)]
 pub struct LaidCell {
     pub column: Column,
@@ -31,6 +46,7 @@ pub struct LaidCell {
     pub entry: Entry,
     pub place: BlockPlace,
     pub text: Option<TextAt>,
+    pub runs_on: Option<RunsOn>,
 }
 
 /// In front of which of these cells a text stands.
@@ -70,6 +86,7 @@ pub fn laid(cell: CellLeft, column: Column, end: usize) -> LaidCell
             entry: Entry::NOTHING,
             place: BlockPlace::AtEnd,
             text: text_at(cell, column),
+            runs_on: None,
         };
     }
     match cell.entry.kind {
@@ -84,22 +101,59 @@ pub fn laid(cell: CellLeft, column: Column, end: usize) -> LaidCell
             entry: repeated(sign),
             place: BlockPlace::AtEnd,
             text: None,
+            runs_on: None,
         },
-        _ => LaidCell {
-            column,
-            key,
-            entry: cell.entry,
-            place: cell.place,
-            text: text_at(cell, column),
-        },
+        _ => {
+            if cell.runs_on(column) {
+                return running(cell, column);
+            }
+            LaidCell {
+                column,
+                key,
+                entry: cell.entry,
+                place: cell.place,
+                text: text_at(cell, column),
+                runs_on: None,
+            }
+        }
     }
 }
 
-/// Where the text or the block of a cell begins.
+/// A cell in which something runs on, from its first place.
+fn running(cell: CellLeft, column: Column) -> LaidCell
+    requires here { cell.lead ≡ 0 }
+    requires narrow { IsNarrow column }
+    ensures { (bytes : List ℕ) (l : Left) (end : ℕ) → IsLeft bytes cell l
+        → runs_on l column ≡ true → IsShown bytes result (shown l column end) }
+{
+    LaidCell {
+        column: Column {
+            needs: Column::EMPTY.needs,
+            bars: column.bars,
+            width: 0,
+            start: column.start,
+        },
+        key: Key::Left,
+        entry: cell.entry,
+        place: cell.place,
+        text: Some(TextAt {
+            at: column.start,
+            rows: cell.rows,
+        }),
+        runs_on: Some(RunsOn {
+            end: cell.key.end as usize,
+            stop: cell.stop,
+            is_number: is_number(cell.key.key),
+            is_cut: cell.is_cut,
+        }),
+    }
+}
+
+/// Where the text or the block of a cell begins that doesn't run on.
 fn text_at(cell: CellLeft, column: Column) -> Option<TextAt>
     requires { IsNarrow column }
     ensures { (bytes : List ℕ) (l : Left) (end : ℕ) → IsLeft bytes cell l
-        → result ≡ text_of (shown l column end) }
+        → runs_on l column ≡ false → result ≡ text_of (shown l column end) }
 {
     match cell.entry.kind {
         EntryKind::Ruled(_) => None,
@@ -123,5 +177,29 @@ pub fn repeated(sign: RuleSign) -> Entry
         from: 0,
         to: 0,
         kind: EntryKind::Repeated(sign_byte(sign)),
+    }
+}
+
+/// So many columns of the page from one on.
+pub fn drawn_at(from: usize, width: usize) -> Column
+    ensures start { result.start ≡ from }
+    ensures width { result.width ≡ width }
+{
+    Column {
+        needs: Column::EMPTY.needs,
+        bars: 0,
+        width,
+        start: from,
+    }
+}
+
+/// Nothing over a column that the line doesn't rule.
+pub fn nothing_ruled() -> Entry
+    ensures { result ≡ record { from = 0; to = 0; kind = Repeated bar } }
+{
+    Entry {
+        from: 0,
+        to: 0,
+        kind: EntryKind::Repeated(b'|'),
     }
 }

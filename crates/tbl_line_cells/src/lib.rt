@@ -9,3 +9,4 @@ pub mod line_cells;
 mod row_cells;
 mod rule_cells;
 mod rule_places;
+pub mod running;

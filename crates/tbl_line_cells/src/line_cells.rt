@@ -2,23 +2,30 @@
 //! Formatting).
 
 ghost use Rattle.std.specs.Prelude.{◌≡◌, ℕ, suc, ◌<◌, ◌≤◌, ◌^◌, List, [], ◌∷◌, ◌++◌, IfOk};
-ghost use Rattle.std.specs.Prelude.{length, map, max, false, vec_capacity};
+ghost use Rattle.std.specs.Prelude.{length, map, max, false, vec_capacity, drop, take, None, Some};
+ghost use Rattle.std.specs.Prelude.{◌≢◌, ◌-◌, ◌&&◌, get_or, true, if◌then◌else◌};
 ghost use Rattle.std.specs.List.{AllByRecursion, insert};
 ghost use Rattle.tbl_layout.specs.KeptEntries.{Lies};
 ghost use Rattle.tbl_layout.specs.declared.bars.Bars.{Bars};
 ghost use Rattle.tbl_lines.specs.CellsLeft.{Left};
-ghost use Rattle.tbl_lines.specs.LinesLeft.{Shown, put, shown, shown_cell};
-ghost use Rattle.tbl_lines.specs.PictureLines.{Cell, line_of, with_fronts};
-ghost use Rattle.tbl_lines.specs.RowsLeft.{cell_left, cell_of_front};
-ghost use Rattle.tbl_lines.specs.RowsWalked.{HasBars, IsNarrow};
+ghost use Rattle.tbl_lines.specs.LinesLeft.{Shown, all_cut, cut_cells, in_order, shown};
+ghost use Rattle.tbl_lines.specs.LinesLeft.{is_there, shown_cell};
+ghost use Rattle.tbl_lines.specs.PictureLines.{Cell, Sheet, line_of, with_fronts};
+ghost use Rattle.tbl_lines.specs.RowsLeft.{cell_left, cell_of_front, first_of};
+ghost use Rattle.tbl_lines.specs.RowsWalked.{AreNarrow, HasBars, IsNarrow};
 ghost use Rattle.tbl_line_cells.specs.KeptCells.{IsLeft};
-ghost use Rattle.tbl_line_cells.specs.LaidCells.{EndsItself, IsShown, drawn_in, on_line};
-ghost use Rattle.tbl_line_cells.specs.LaidCells.{place_among, row_column, text_of};
-ghost use Rattle.tbl_line_cells.specs.LinesDrawn.{BeginsBy, Draws, HasRoom, IsNoRow, SoFar};
+ghost use Rattle.tbl_line_cells.specs.LaidCells.{DrawsByte, EndsItself, IsDrawn, IsLaidCell};
+ghost use Rattle.tbl_line_cells.specs.LaidCells.{IsShown, drawn_in, on_line};
+ghost use Rattle.tbl_line_cells.specs.LaidCells.{place_among, row_column};
+ghost use Rattle.tbl_line_cells.specs.LinesDrawn.{CutMore, CutOn, CutSoFar, Draws, HasRoom, IsNoRow};
+ghost use Rattle.tbl_line_cells.specs.LinesDrawn.{InFront, IsNoted, LineIsLaid, RunInOrder};
+ghost use Rattle.tbl_line_cells.specs.LinesDrawn.{SoFar, passes_room, shown_in};
 ghost use Rattle.tbl_line_cells.specs.LinesDrawn.{as_row, if_any, kept_line};
 
 use crate::cells::CellLeft;
-use crate::laid_cells::{LaidCell, TextAt, laid, place_of};
+use crate::laid_cells::{LaidCell, RunsOn, TextAt, laid, place_of};
+use crate::running::{cut_to, drawn_by, drawn_in_front, fill_false, room_of};
+use roff_escape::OpenEscapes;
 use std::alloc::{AllocError, Global};
 use tbl_format::format::{FormatKey, Key, Standing};
 use tbl_layout::columns::Column;
@@ -32,10 +39,15 @@ use tbl_text::block_parts::BlockPlace;
 pub struct LineCells {
     /// How a line of rules is drawn over each column of the table, if it rules that.
     pub signs: Vec<Option<RuleSign>>,
-    /// Its cells, in the order in which they are given.
+    /// Its cells, from the left; behind [`LineCells::order`] in the order in which they are given.
     pub cells: Vec<LaidCell>,
-    /// No text of them begins behind this column of the page.
-    pub last_text: usize,
+    /// Whether something in one of them runs on beyond its columns.
+    pub has_running: bool,
+    /// Whether something is cut of a cell that ends behind each column of the table but none, if
+    /// something runs on.
+    pub cut: Vec<bool>,
+    /// In how many of these cells nothing was cut before.
+    pub first_cut: usize,
     pub fronts: Vec<Front>,
     /// The line as a row.
     pub columns: Vec<Column>,
@@ -53,7 +65,9 @@ impl LineCells {
         Ok(LineCells {
             signs: Vec::with_capacity(alloc, columns)?,
             cells: Vec::with_capacity(alloc, columns)?,
-            last_text: 0,
+            has_running: false,
+            cut: Vec::with_capacity(alloc, columns)?,
+            first_cut: 0,
             fronts: Vec::with_capacity(alloc, columns + 1)?,
             columns: Vec::with_capacity(alloc, columns)?,
             keys: Vec::with_capacity(alloc, columns)?,
@@ -75,13 +89,18 @@ impl LineCells {
     pub fn clear(&mut self)
         ensures signs { self.new.signs ≡ self.old.signs }
         ensures cells { self.new.cells.items ≡ [] }
+        ensures cut { (columns : ℕ) → CutOn columns (kept_line self.new) [] }
+        ensures no_cut { self.new.cut.items ≡ [] }
+        ensures none_cut { self.new.first_cut ≡ 0 }
         ensures fronts { self.new.fronts.items ≡ [] }
         ensures row { IsNoRow (kept_line self.new) }
         ensures nothing { (bytes : List ℕ) → SoFar bytes (kept_line self.new) [] [] }
         ensures room { (room : ℕ) → HasRoom room self.old → HasRoom room self.new }
     {
         self.cells.clear();
-        self.last_text = 0;
+        self.has_running = false;
+        self.cut.clear();
+        self.first_cut = 0;
         self.fronts.clear();
         self.columns.clear();
         self.keys.clear();
@@ -96,15 +115,17 @@ impl LineCells {
         requires room { length self.old.cells.items < vec_capacity self.old.cells }
         ensures so_far { (bytes : List ℕ) (l : Left) (done : List Shown) (fronts : List Cell)
             → IsLeft bytes cell l → SoFar bytes (kept_line self.old) done fronts
-            → SoFar bytes (kept_line self.new) (put (shown l column end) done) fronts }
+            → SoFar bytes (kept_line self.new) (done ++ shown l column end ∷ []) fronts }
         ensures line { self.new ≡ record self.old {
           cells = self.new.cells;
-          last_text = self.new.last_text;
+          has_running = self.new.has_running;
         } }
         ensures count { length self.new.cells.items ≡ suc (length self.old.cells.items) }
         ensures capacity { vec_capacity self.new.cells ≡ vec_capacity self.old.cells }
     {
-        self.put(laid(cell, column, end));
+        let laid = laid(cell, column, end);
+        self.has_running = self.has_running || laid.runs_on.is_some();
+        self.cells.push_reserved(laid);
     }
 
     /// What is no text: a byte that is repeated, or nothing.
@@ -112,24 +133,23 @@ impl LineCells {
         requires narrow { IsNarrow column }
         requires room { length self.old.cells.items < vec_capacity self.old.cells }
         ensures so_far { (bytes : List ℕ) (s : Shown) (done : List Shown) (fronts : List Cell)
-            → s.is_text ≡ false → Lies bytes entry → EndsItself entry.kind
+            → s.is_text ≡ false → s.runs_on ≡ None → Lies bytes entry → EndsItself entry.kind
+            → DrawsByte entry.kind entry
             → on_line (cell_left bytes 0 (row_column (drawn_in column entry)))
             ≡ on_line (shown_cell s)
             → SoFar bytes (kept_line self.old) done fronts
-            → SoFar bytes (kept_line self.new) (put s done) fronts }
-        ensures line { self.new ≡ record self.old {
-          cells = self.new.cells;
-          last_text = self.new.last_text;
-        } }
+            → SoFar bytes (kept_line self.new) (done ++ s ∷ []) fronts }
+        ensures line { self.new ≡ record self.old { cells = self.new.cells } }
         ensures count { length self.new.cells.items ≡ suc (length self.old.cells.items) }
         ensures capacity { vec_capacity self.new.cells ≡ vec_capacity self.old.cells }
     {
-        self.put(LaidCell {
+        self.cells.push_reserved(LaidCell {
             column,
             key: Key::Left,
             entry,
             place: BlockPlace::AtEnd,
             text: None,
+            runs_on: None,
         });
     }
 
@@ -147,57 +167,167 @@ impl LineCells {
         self.fronts.push_reserved(front);
     }
 
-    /// A cell: a text stands in front of the first of those that begin where it does and have come
-    /// over fewer rows.
-    fn put(&mut self, cell: LaidCell)
-        requires room { length self.old.cells.items < vec_capacity self.old.cells }
-        ensures so_far { (bytes : List ℕ) (s : Shown) (done : List Shown) (fronts : List Cell)
-            → IsShown bytes cell s → SoFar bytes (kept_line self.old) done fronts
-            → SoFar bytes (kept_line self.new) (put s done) fronts }
+    /// What runs on is cut in front of the next bar or rule, and of the column at which its cell ends
+    /// at the latest, in a picture so wide, which has what stands in front of cells or not.
+    pub fn cut_all(
+        &mut self,
+        escapes: &mut OpenEscapes,
+        bytes: &[u8],
+        columns: &[Column],
+        has_fronts: bool,
+        width: usize,
+    )
+        requires narrow { AreNarrow columns.now }
+        requires wide { width < 2 ^ 32 }
+        requires laid { LineIsLaid bytes.now (kept_line self.old) }
+        requires fronts { length self.old.fronts.items ≡ suc (length self.old.cells.items) }
+        requires cells { length self.old.cells.items ≤ length columns.now }
+        requires room { length columns.now ≤ vec_capacity self.old.cut }
+        requires none { self.old.cut.items ≡ [] }
+        requires none_cut { self.old.first_cut ≡ 0 }
+        ensures so_far { (bars : Bars) (done : List Shown) (fronts : List Cell)
+            → SoFar bytes.now (kept_line self.old) done fronts
+            → let s : Sheet = record { bars = bars; width = width; columns = columns.now } in
+            CutSoFar bytes.now (kept_line self.new)
+            (all_cut s (if has_fronts then fronts else []) done) fronts }
+        ensures cut { (bars : Bars) (done : List Shown) (fronts : List Cell)
+            → SoFar bytes.now (kept_line self.old) done fronts
+            → RunInOrder (length columns.now) 0 done
+            → let s : Sheet = record { bars = bars; width = width; columns = columns.now } in
+            CutOn (length columns.now) (kept_line self.new)
+            (cut_cells s (if has_fronts then fronts else []) done) }
         ensures line { self.new ≡ record self.old {
           cells = self.new.cells;
-          last_text = self.new.last_text;
+          cut = self.new.cut;
+          first_cut = self.new.first_cut;
         } }
-        ensures count { length self.new.cells.items ≡ suc (length self.old.cells.items) }
+        ensures count { length self.new.cells.items ≡ length self.old.cells.items }
         ensures capacity { vec_capacity self.new.cells ≡ vec_capacity self.old.cells }
+        ensures cut_capacity { vec_capacity self.new.cut ≡ vec_capacity self.old.cut }
+        ensures escapes { escapes.new.room ≡ escapes.old.room }
     {
-        let place = self.place_for(cell.text);
-        self.insert(place, cell);
-    }
-
-    /// In front of which cell the next one stands, if it is such a text.
-    fn place_for(&mut self, text: Option<TextAt>) -> usize
-        ensures within { result ≤ length self.old.cells.items }
-        ensures place { (bytes : List ℕ) (s : Shown) (done : List Shown) (fronts : List Cell)
-            → text ≡ text_of s → SoFar bytes (kept_line self.old) done fronts
-            → result ≡ place_among text self.old.cells.items }
-        ensures last { (bytes : List ℕ) (s : Shown) (done : List Shown) (fronts : List Cell)
-            → text ≡ text_of s → SoFar bytes (kept_line self.old) done fronts
-            → AllByRecursion (BeginsBy self.new.last_text) (put s done) }
-        ensures line { self.new ≡ record self.old { last_text = self.new.last_text } }
-    {
-        match text {
-            Some(text) => {
-                if text.at <= self.last_text {
-                    return place_of(self.cells.as_slice(), text);
-                }
-                self.last_text = text.at;
-                self.cells.len()
-            }
-            None => self.cells.len(),
+        if !self.has_running {
+            return;
+        }
+        fill_false(&mut self.cut, columns.len());
+        let mut next = width;
+        let mut at = self.cells.len();
+        while at > 0 {
+            let drawn = self.drawn_before(at, has_fronts, next);
+            at -= 1;
+            let cell = self.cells[at];
+            self.cut_cell(escapes, bytes, at, room_of(cell, drawn, columns, width));
+            next = drawn_by(cell, drawn);
         }
     }
 
-    /// A cell at a place among the others.
-    fn insert(&mut self, place: usize, cell: LaidCell)
-        requires within { place ≤ length self.old.cells.items }
-        requires room { length self.old.cells.items < vec_capacity self.old.cells }
+    /// Where the next bar or rule stands, with what stands in front of a cell, or behind the last, if
+    /// the picture has that.
+    fn drawn_before(&self, at: usize, has_fronts: bool, next: usize) -> usize
+        requires at { at < length self.now.fronts.items }
+        requires some { AllByRecursion HasBars self.now.fronts.items }
+        ensures { (fronts : List Cell) (c : Cell) → InFront (kept_line self.now) fronts
+            → result ≡ if has_fronts && is_there (first_of (get_or fronts at c))
+            then (get_or fronts at c).at else next }
+    {
+        if has_fronts {
+            drawn_in_front(self.fronts[at], next)
+        } else {
+            next
+        }
+    }
+
+    /// What runs on of a cell is cut, if it doesn't fit in so many columns.
+    fn cut_cell(&mut self, escapes: &mut OpenEscapes, bytes: &[u8], at: usize, room: usize)
+        requires small { room < 2 ^ 32 }
+        requires at { at < length self.old.cells.items }
+        requires laid { (c : LaidCell)
+            → IsLaidCell bytes.now (get_or self.old.cells.items at c) }
+        requires most { self.old.first_cut < 2 ^ 63 }
+        ensures cell { (s : Shown) (c : LaidCell)
+            → IsShown bytes.now (get_or self.old.cells.items at c) s
+            → IsDrawn bytes.now (get_or self.new.cells.items at c) (shown_in room s.runs_on s) }
+        ensures cut { (s : Shown) (c : LaidCell)
+            → IsShown bytes.now (get_or self.old.cells.items at c) s
+            → CutMore (passes_room room s.runs_on s) s.runs_on (kept_line self.old)
+            (kept_line self.new) }
+        ensures first { take at self.new.cells.items ≡ take at self.old.cells.items }
+        ensures others { drop (suc at) self.new.cells.items ≡ drop (suc at) self.old.cells.items }
+        ensures line { self.new ≡ record self.old {
+          cells = self.new.cells;
+          cut = self.new.cut;
+          first_cut = self.new.first_cut;
+        } }
+        ensures count { length self.new.cells.items ≡ length self.old.cells.items }
+        ensures capacity { vec_capacity self.new.cells ≡ vec_capacity self.old.cells }
+        ensures cut_count { length self.new.cut.items ≡ length self.old.cut.items }
+        ensures cut_capacity { vec_capacity self.new.cut ≡ vec_capacity self.old.cut }
+        ensures most { self.new.first_cut ≤ suc self.old.first_cut }
+        ensures escapes { escapes.new.room ≡ escapes.old.room }
+    {
+        let cell = self.cells[at];
+        if let Some(running) = cell.runs_on {
+            if let Some(fits) = cut_to(escapes, bytes, cell, running, room) {
+                self.cells[at] = fits;
+                self.note_cut(running);
+            }
+        }
+    }
+
+    /// Something of the cell is cut.
+    fn note_cut(&mut self, running: RunsOn)
+        requires most { self.old.first_cut < 2 ^ 63 }
+        ensures noted { IsNoted running.end running.is_cut (kept_line self.old)
+            (kept_line self.new) }
+        ensures line { self.new
+            ≡ record self.old { cut = self.new.cut; first_cut = self.new.first_cut } }
+        ensures cut_count { length self.new.cut.items ≡ length self.old.cut.items }
+        ensures cut_capacity { vec_capacity self.new.cut ≡ vec_capacity self.old.cut }
+        ensures most { self.new.first_cut ≤ suc self.old.first_cut }
+    {
+        set_flag(&mut self.cut, running.end);
+        if !running.is_cut {
+            self.first_cut += 1;
+        }
+    }
+
+    /// Texts that begin at one column of the page stand in the order of the rows in which their cells
+    /// began.
+    pub fn order(&mut self)
+        ensures so_far { (bytes : List ℕ) (done : List Shown) (fronts : List Cell)
+            → CutSoFar bytes (kept_line self.old) done fronts
+            → CutSoFar bytes (kept_line self.new) (in_order [] done) fronts }
         ensures line { self.new ≡ record self.old { cells = self.new.cells } }
-        ensures cells { self.new.cells.items ≡ insert self.old.cells.items place cell }
+        ensures count { length self.new.cells.items ≡ length self.old.cells.items }
         ensures capacity { vec_capacity self.new.cells ≡ vec_capacity self.old.cells }
     {
-        let mut at = self.cells.len();
-        self.cells.push_reserved(cell);
+        let mut last_text = 0;
+        for at in 0..self.cells.len() {
+            match self.cells[at].text {
+                Some(text) => {
+                    if text.at <= last_text {
+                        self.bring_forward(at, text);
+                    } else {
+                        last_text = text.at;
+                    }
+                }
+                None => {}
+            }
+        }
+    }
+
+    /// A text is brought in front of the first of those before it that stand behind it.
+    fn bring_forward(&mut self, cell: usize, text: TextAt)
+        requires at { cell < length self.old.cells.items }
+        ensures cells { (first : List LaidCell) (c : LaidCell) (rest : List LaidCell)
+            → self.old.cells.items ≡ first ++ c ∷ rest → length first ≡ cell
+            → self.new.cells.items ≡ insert first (place_among (Some text) first) c ++ rest }
+        ensures count { length self.new.cells.items ≡ length self.old.cells.items }
+        ensures line { self.new ≡ record self.old { cells = self.new.cells } }
+        ensures capacity { vec_capacity self.new.cells ≡ vec_capacity self.old.cells }
+    {
+        let place = place_of(&self.cells.as_slice()[..cell], text);
+        let mut at = cell;
         while at > place {
             self.cells.swap(at - 1, at);
             at -= 1;
@@ -210,7 +340,7 @@ impl LineCells {
         requires room { HasRoom (length self.old.cells.items) self.old }
         requires few { length self.old.cells.items < 2 ^ 32 }
         ensures draws { (bytes : List ℕ) (bars : Bars) (width : ℕ) (done : List Shown)
-            (fronts : List Cell) → SoFar bytes (kept_line self.old) done fronts
+            (fronts : List Cell) → CutSoFar bytes (kept_line self.old) done fronts
             → length self.old.fronts.items ≡ suc (max 1 (length self.old.cells.items))
             → Draws bytes bars width (kept_line self.new)
             (line_of 0 (with_fronts (if_any bars fronts) (map shown_cell done))) }
@@ -232,5 +362,19 @@ impl LineCells {
             self.entries.push_reserved(cell.entry);
             self.places.push_reserved(cell.place);
         }
+    }
+}
+
+/// The flag of what ends behind so many columns is set, if there is one.
+fn set_flag(flags: &mut Vec<bool>, end: usize)
+    ensures here { 0 < end → end ≤ length flags.old.items
+        → get_or flags.new.items (end - 1) false ≡ true }
+    ensures others { (other : ℕ) → 0 < other → other ≢ end
+        → get_or flags.new.items (other - 1) false ≡ get_or flags.old.items (other - 1) false }
+    ensures count { length flags.new.items ≡ length flags.old.items }
+    ensures capacity { vec_capacity flags.new ≡ vec_capacity flags.old }
+{
+    if end > 0 && end <= flags.len() {
+        flags[end - 1] = true;
     }
 }

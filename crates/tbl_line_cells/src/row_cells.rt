@@ -9,18 +9,20 @@ ghost use Rattle.tbl_layout.specs.Widths.{inner_bars};
 ghost use Rattle.tbl_layout.specs.declared.bars.Bars.{Bars};
 ghost use Rattle.tbl_lines.specs.CellsLeft.{Left};
 ghost use Rattle.tbl_lines.specs.LinesLeft.{Shown, between, bars_there, crossed_or_not, end_by};
-ghost use Rattle.tbl_lines.specs.LinesLeft.{in_order, joined_here, put, row_line, row_shown, shown};
+ghost use Rattle.tbl_lines.specs.LinesLeft.{joined_here, row_cut, row_line, row_shown, shown};
 ghost use Rattle.tbl_lines.specs.PictureLines.{Cell};
 ghost use Rattle.tbl_lines.specs.RowsLeft.{cell_of_front};
 ghost use Rattle.tbl_lines.specs.RowsWalked.{AreNarrow, HasBars, IsNarrow};
-ghost use Rattle.tbl_line_cells.specs.KeptCells.{AllLeft, IsLeft};
+ghost use Rattle.tbl_line_cells.specs.KeptCells.{AllLeft, AreKept, IsLeft};
 ghost use Rattle.tbl_line_cells.specs.LaidCells.{on_line};
-ghost use Rattle.tbl_line_cells.specs.LinesDrawn.{Draws, HasRoom, KeepsRow, RowIsLaid, SoFar};
+ghost use Rattle.tbl_line_cells.specs.LinesDrawn.{CutOn, Draws, HasRoom, KeepsRow};
+ghost use Rattle.tbl_line_cells.specs.LinesDrawn.{RowIsLaid, SoFar};
 ghost use Rattle.tbl_line_cells.specs.LinesDrawn.{kept_line, keys_of};
 
 use crate::cells::CellLeft;
 use crate::line_cells::LineCells;
-use tbl_layout::bars::{edge_bars, inner_bars};
+use roff_escape::OpenEscapes;
+use tbl_layout::bars::{Bars, edge_bars, inner_bars};
 use tbl_layout::columns::{Column, bar_place};
 use tbl_layout::data_lines::RuleSign;
 use tbl_lines::fronts::Front;
@@ -31,27 +33,38 @@ impl LineCells {
     /// The next line of a row with these cells.
     pub fn lay_row(
         &mut self,
+        escapes: &mut OpenEscapes,
+        bytes: &[u8],
         cells: &[CellLeft],
         last_bars: u8,
         columns: &[Column],
-        boxing: Boxing,
+        bars: Bars,
         width: usize,
     )
         requires some { 0 < length cells.now }
         requires within { AreWithin (length columns.now) (keys_of cells.now) }
         requires narrow { AreNarrow columns.now }
         requires few { length columns.now < 2 ^ 32 }
+        requires wide { width < 2 ^ 32 }
+        requires kept { AreKept bytes.now cells.now }
         requires room { HasRoom (length columns.now) self.old }
-        ensures draws { (bytes : List ℕ) (bars : Bars) (lefts : List Left) → bars.boxing ≡ boxing
-            → AllLeft bytes cells.now lefts → Draws bytes bars width (kept_line self.new)
+        ensures draws { (lefts : List Left) → AllLeft bytes.now cells.now lefts
+            → Draws bytes.now bars width (kept_line self.new)
             (row_line (record { bars = bars; width = width; columns = columns.now }) last_bars
             lefts) }
+        ensures cut { (lefts : List Left) → AllLeft bytes.now cells.now lefts
+            → CutOn (length columns.now) (kept_line self.new)
+            (row_cut (record { bars = bars; width = width; columns = columns.now }) last_bars
+            lefts) }
+        ensures escapes { escapes.new.room ≡ escapes.old.room }
         ensures few { length self.new.entries.items ≤ length columns.now }
         ensures signs { self.new.signs ≡ self.old.signs }
         ensures room { (room : ℕ) → HasRoom room self.old → HasRoom room self.new }
     {
         self.clear();
-        self.lay_all(cells, last_bars, columns, boxing, width);
+        self.lay_all(cells, last_bars, columns, bars.boxing, width);
+        self.cut_all(escapes, bytes, columns, bars.has_any, width);
+        self.order();
         self.finish();
     }
 
@@ -102,11 +115,11 @@ impl LineCells {
             → AllLeft bytes cells.now lefts → SoFar bytes (kept_line self.old) [] fronts
             → let all = cells_of (keys_of cells.now) columns.now in
             SoFar bytes (kept_line self.new)
-            (in_order [] (take (length cells.now - 1) (row_shown boxing lefts all)))
+            (take (length cells.now - 1) (row_shown boxing lefts all))
             (fronts ++ between boxing lefts all) }
         ensures line { self.new ≡ record self.old {
           cells = self.new.cells;
-          last_text = self.new.last_text;
+          has_running = self.new.has_running;
           fronts = self.new.fronts;
         } }
         ensures count { suc (length self.new.cells.items) ≡ length cells.now }
@@ -143,11 +156,11 @@ impl LineCells {
             → SoFar bytes (kept_line self.old) done fronts
             → let bars = inner_bars boxing m.key.bars in
             SoFar bytes (kept_line self.new)
-            (put (shown l column (end_by (joined_here l m) bars column next)) done)
+            (done ++ shown l column (end_by (joined_here l m) bars column next) ∷ [])
             (fronts ++ crossed_or_not (joined_here l m) bars column next ∷ []) }
         ensures line { self.new ≡ record self.old {
           cells = self.new.cells;
-          last_text = self.new.last_text;
+          has_running = self.new.has_running;
           fronts = self.new.fronts;
         } }
         ensures count { length self.new.cells.items ≡ suc (length self.old.cells.items) }

@@ -2,28 +2,29 @@
 
 ghost use Rattle.std.specs.Prelude.{◌≡◌, ℕ, suc, nat_lt, ◌+◌, ◌<◌, ◌≤◌, ◌^◌, ◌&&◌};
 ghost use Rattle.std.specs.Prelude.{List, [], ◌∷◌, ◌++◌, drop, get_or, length, None};
-ghost use Rattle.std.specs.Prelude.{true, false, not, vec_capacity, if◌then◌else◌};
+ghost use Rattle.std.specs.Prelude.{true, not, vec_capacity, if◌then◌else◌};
 ghost use Rattle.tbl_layout.specs.Columns.{bar_place};
 ghost use Rattle.tbl_layout.specs.declared.bars.Bars.{Bars};
-ghost use Rattle.tbl_layout.specs.declared.entry.EntryKind.TheVariants.{Repeated};
 ghost use Rattle.tbl_lines.specs.CellsLeft.{Left};
 ghost use Rattle.tbl_lines.specs.LinesLeft.{Beside, Shown, front_between, if_ruled};
-ghost use Rattle.tbl_lines.specs.LinesLeft.{bars_met, if_drawn, in_order, over_at, over_shown};
-ghost use Rattle.tbl_lines.specs.LinesLeft.{overs, rule_line_left};
-ghost use Rattle.tbl_lines.specs.PictureLines.{Cell, RuleLine, Sheet, bar};
+ghost use Rattle.tbl_lines.specs.LinesLeft.{bars_met, if_drawn, over_at, over_shown};
+ghost use Rattle.tbl_lines.specs.LinesLeft.{overs, rule_cut, rule_line_left};
+ghost use Rattle.tbl_lines.specs.PictureLines.{Cell, RuleLine, Sheet};
 ghost use Rattle.tbl_lines.specs.RowsWalked.{AreNarrow, IsNarrow};
-ghost use Rattle.tbl_line_cells.specs.LinesDrawn.{Draws, HasRoom, SoFar, kept_line, keys_of};
-ghost use Rattle.tbl_line_cells.specs.RulesDrawn.{Cover, HasColumn, LaidTo, RuleGiven, StandsAs};
+ghost use Rattle.tbl_line_cells.specs.LinesDrawn.{CutOn, Draws, HasRoom, KeepsRow, SoFar};
+ghost use Rattle.tbl_line_cells.specs.LinesDrawn.{kept_line, keys_of};
+ghost use Rattle.tbl_line_cells.specs.RulesDrawn.{Cover, HasColumn, LaidTo, RuleGiven, RuleIsGiven};
+ghost use Rattle.tbl_line_cells.specs.RulesDrawn.{RuleIsLaid, StandsAs};
 ghost use Rattle.tbl_line_cells.specs.RulesDrawn.{begin_from, edge_drawn, front_list, is_whole_line};
 
 use crate::cells::CellLeft;
-use crate::laid_cells::repeated;
+use crate::laid_cells::{drawn_at, nothing_ruled, repeated};
 use crate::line_cells::LineCells;
 use crate::row_cells::{as_one, bars_at};
 use crate::rule_places::{bars_begin, end_of, left_end, right_end, rule_begin, rule_end};
+use roff_escape::OpenEscapes;
 use tbl_layout::columns::{Column, bar_place, bars_end};
 use tbl_layout::data_lines::RuleSign;
-use tbl_layout::entry::{Entry, EntryKind};
 use tbl_lines::fronts::Front;
 
 impl LineCells {
@@ -31,6 +32,8 @@ impl LineCells {
     /// stand.
     pub fn lay_rule(
         &mut self,
+        escapes: &mut OpenEscapes,
+        bytes: &[u8],
         cells: &[CellLeft],
         counts: &[u8],
         columns: &[Column],
@@ -45,17 +48,60 @@ impl LineCells {
         requires narrow { AreNarrow columns.now }
         requires wide { width < 2 ^ 32 }
         requires room { HasRoom (length columns.now) self.old }
-        ensures draws { (bytes : List ℕ) (lefts : List Left) (bars : Bars) (line : RuleLine)
+        requires given { RuleIsGiven bytes.now cells.now self.old.signs.items counts.now
+            columns.now is_whole }
+        ensures draws { (lefts : List Left) (bars : Bars) (line : RuleLine)
             (above below : Beside) → is_whole ≡ is_whole_line line
-            → RuleGiven bytes cells.now self.old.signs.items counts.now columns.now lefts bars line
-            above below
+            → RuleGiven bytes.now cells.now self.old.signs.items counts.now columns.now lefts bars
+            line above below
             → let s : Sheet = record { bars = bars; width = width; columns = columns.now } in
-            Draws bytes (record bars { has_any = true }) width (kept_line self.new)
+            Draws bytes.now (record bars { has_any = true }) width (kept_line self.new)
             (rule_line_left s line lefts above below) }
+        ensures cut { (lefts : List Left) (bars : Bars) (line : RuleLine)
+            (above below : Beside) → is_whole ≡ is_whole_line line
+            → RuleGiven bytes.now cells.now self.old.signs.items counts.now columns.now lefts bars
+            line above below
+            → let s : Sheet = record { bars = bars; width = width; columns = columns.now } in
+            CutOn (length columns.now) (kept_line self.new) (rule_cut s line lefts above below) }
+        ensures escapes { escapes.new.room ≡ escapes.old.room }
         ensures few { length self.new.entries.items ≤ length columns.now }
         ensures room { (room : ℕ) → HasRoom room self.old → HasRoom room self.new }
     {
         self.clear();
+        self.lay_ruled(cells, counts, columns, is_whole, width);
+        self.cut_all(escapes, bytes, columns, true, width);
+        self.order();
+        self.finish();
+    }
+
+    /// What stands over all columns and between them, with the edges of the picture.
+    fn lay_ruled(
+        &mut self,
+        cells: &[CellLeft],
+        counts: &[u8],
+        columns: &[Column],
+        is_whole: bool,
+        width: usize,
+    )
+        requires some { 0 < length columns.now }
+        requires few { length columns.now < 2 ^ 32 }
+        requires cover { Cover 0 (length columns.now) (keys_of cells.now) }
+        requires signs { length self.old.signs.items ≡ length columns.now }
+        requires counts { length counts.now ≡ length columns.now + 1 }
+        requires narrow { AreNarrow columns.now }
+        requires wide { width < 2 ^ 32 }
+        requires empty { self.old.cells.items ≡ [] }
+        requires no_front { self.old.fronts.items ≡ [] }
+        requires room { HasRoom (length columns.now) self.old }
+        ensures laid { (bytes : List ℕ) (lefts : List Left) (bars : Bars) (line : RuleLine)
+            (above below : Beside) → is_whole ≡ is_whole_line line
+            → RuleGiven bytes cells.now self.old.signs.items counts.now columns.now lefts bars
+            line above below → SoFar bytes (kept_line self.old) [] []
+            → RuleIsLaid bytes (record { bars = bars; width = width; columns = columns.now })
+            (kept_line self.new) line lefts above below }
+        ensures keeps { KeepsRow self.old self.new }
+        ensures few { length self.new.cells.items ≤ length columns.now }
+    {
         let left = counts[0];
         let last = counts[columns.len()];
         let right = width.saturating_sub(last as usize);
@@ -66,7 +112,6 @@ impl LineCells {
         let to = right_end(is_right, right, columns);
         self.lay_columns(cells, counts, columns, from, to);
         self.push_front(edge(is_right, right, last));
-        self.finish();
     }
 
     /// What stands over all columns, the first of which is ruled from a place on, and the last up
@@ -99,7 +144,7 @@ impl LineCells {
             lefts line above below edge from to (length columns.now) }
         ensures line { self.new ≡ record self.old {
           cells = self.new.cells;
-          last_text = self.new.last_text;
+          has_running = self.new.has_running;
           fronts = self.new.fronts;
         } }
         ensures few { length self.new.cells.items ≤ length columns.now }
@@ -141,10 +186,10 @@ impl LineCells {
             (line : RuleLine) (above below : Beside) (done : List Shown) (fronts : List Cell)
             → RuleGiven bytes cells.now self.old.signs.items counts columns.now lefts bars line
             above below → SoFar bytes (kept_line self.old) done fronts
-            → SoFar bytes (kept_line self.new) (in_order done
-            (over_shown line at (over_at (overs 0 lefts columns.now) at) from to)) fronts }
+            → SoFar bytes (kept_line self.new) (done
+            ++ over_shown line at (over_at (overs 0 lefts columns.now) at) from to) fronts }
         ensures line { self.new
-            ≡ record self.old { cells = self.new.cells; last_text = self.new.last_text } }
+            ≡ record self.old { cells = self.new.cells; has_running = self.new.has_running } }
         ensures few { length self.new.cells.items ≤ suc (length self.old.cells.items) }
         ensures capacity { vec_capacity self.new.cells ≡ vec_capacity self.old.cells }
     {
@@ -164,9 +209,8 @@ impl LineCells {
         requires room { length self.old.cells.items < vec_capacity self.old.cells }
         ensures so_far { (bytes : List ℕ) (done : List Shown) (fronts : List Cell)
             → SoFar bytes (kept_line self.old) done fronts → SoFar bytes (kept_line self.new)
-            (in_order done (if_drawn (get_or self.old.signs.items at None) from to)) fronts }
-        ensures line { self.new
-            ≡ record self.old { cells = self.new.cells; last_text = self.new.last_text } }
+            (done ++ if_drawn (get_or self.old.signs.items at None) from to) fronts }
+        ensures line { self.new ≡ record self.old { cells = self.new.cells } }
         ensures count { length self.new.cells.items ≡ suc (length self.old.cells.items) }
         ensures capacity { vec_capacity self.new.cells ≡ vec_capacity self.old.cells }
     {
@@ -304,30 +348,6 @@ fn is_within(cells: &[CellLeft], cell: usize, at: usize) -> bool
         && nat_lt (begin_from 0 cell (keys_of cells.now)) at) }
 {
     cells[cell].goes_on() && begin_of(cells, cell) < at
-}
-
-/// So many columns of the page from one on.
-fn drawn_at(from: usize, width: usize) -> Column
-    ensures start { result.start ≡ from }
-    ensures width { result.width ≡ width }
-{
-    Column {
-        needs: Column::EMPTY.needs,
-        bars: 0,
-        width,
-        start: from,
-    }
-}
-
-/// Nothing over a column that the line doesn't rule.
-fn nothing_ruled() -> Entry
-    ensures { result ≡ record { from = 0; to = 0; kind = Repeated bar } }
-{
-    Entry {
-        from: 0,
-        to: 0,
-        kind: EntryKind::Repeated(b'|'),
-    }
 }
 
 /// A rule from a place up to another one, which so many bars between two columns cross; or these.

@@ -1,5 +1,5 @@
 -- What is given of a cell of a line, by its kind.
-use Rattle.std.proofs.Common.{◌≡◌, ◌≢◌, ℕ, zero, suc, ◌+◌, ◌-◌, ◌≤◌, Bool, true, false, List, [], ◌∷◌, ◌++◌, length, drop, min, replicate, get_or, refl, sym, ap, subst, ◌∙◌, arith, ◌<◌, ◌==◌, if◌then◌else◌}
+use Rattle.std.proofs.Common.{◌≡◌, ◌≢◌, ℕ, zero, suc, ◌+◌, ◌-◌, ◌≤◌, max, Bool, true, false, List, [], ◌∷◌, ◌++◌, length, drop, min, replicate, get_or, refl, sym, ap, subst, ◌∙◌, arith, ◌<◌, ◌==◌, if◌then◌else◌}
 use Rattle.std.specs.List.{slice_range}
 use Rattle.std.proofs.lemmas.Bool.{eq-eqb, ne_eqb}
 use Rattle.std.proofs.lemmas.List.{drop-drop}
@@ -21,12 +21,12 @@ columns-one run = omega arith
 -- a cell of one run on this line
 pub run-given : (count place : ℕ) (c : Cell) (run : Run) (cells : List Cell) → first_of c ≡ run ∷ [] → (count ≡ 1 → HasGlyph (first_of c))
     → given count place (c ∷ cells)
-    ≡ (if_given count (replicate (c.at - place) blank) ++ last_given count run) ++ given (one_less count) (c.at + run.columns) cells
+    ≡ (if_given count (replicate (c.at - place) blank) ++ last_given count run) ++ given (one_less count) (max c.at place + run.columns) cells
 run-given count place c run cells is has =
     let f : List Run → List ℕ = λ runs. given_of count (at_column c.at place runs) ++ given (one_less count) (end_of c.at place runs) cells in
-    let rest = given (one_less count) (c.at + run.columns) cells in
+    let rest = given (one_less count) (max c.at place + run.columns) cells in
     ap f is
-    ∙ ap (λ (n : ℕ). given_of count (blanks (c.at - place) ∷ run ∷ []) ++ given (one_less count) (c.at + n) cells) (columns-one run)
+    ∙ ap (λ (n : ℕ). given_of count (blanks (c.at - place) ∷ run ∷ []) ++ given (one_less count) (max c.at place + n) cells) (columns-one run)
     ∙ ap (λ (front : List ℕ). front ++ rest)
     (given-before count (blanks (c.at - place)) (run ∷ []) (λ one. subst HasGlyph is (has one))
     ∙ ap (λ (last : List ℕ). if_given count (replicate (c.at - place) blank) ++ last) (given-last count run))

@@ -9,7 +9,7 @@ use Rattle.tbl_kept.proofs.RowsUnfilled.{each-drop, each-take}
 use Rattle.tbl_lines.specs.PictureLeft.{table_lines}
 use Rattle.tbl_lines.specs.PictureLines.{Sheet, picture_lines}
 use Rattle.tbl_layout.specs.Heights.{NoneAbove}
-use Rattle.tbl_lines.specs.RowsAlone.{AllPlaced, AllWithin}
+use Rattle.tbl_lines.specs.RowsAlone.{AllHaveWidth, AllPlaced, AllWithin}
 use Rattle.tbl_lines.specs.RulePlaces.{HasPlaces, HavePlaces}
 use Rattle.tbl_lines.proofs.PlainTables.{plain-table}
 
@@ -17,7 +17,7 @@ module _ (bytes : List ℕ) (formats : List FormatRow) where
   pub within-kept : (count : ℕ) (elements : List KeptElement) → AllByRecursion (ElementLaid bytes formats count) elements
       → AllWithin count (elements_of bytes formats elements)
   within-kept count [] laid = tt
-  within-kept count (Row keys rules height is_tall entries ∷ elements) laid = (laid.0.cells, within-kept count elements laid.1)
+  within-kept count (Row keys rules height entries ∷ elements) laid = (laid.0.cells, within-kept count elements laid.1)
   within-kept count (Rule sign ∷ elements) laid = within-kept count elements laid.1
   within-kept count (Command from to ∷ elements) laid = within-kept count elements laid.1
 
@@ -31,7 +31,7 @@ module _ (bytes : List ℕ) (formats : List FormatRow) where
     pub placed-kept : (count : ℕ) (elements : List KeptElement) → AllByRecursion (ElementLaid bytes formats count) elements
         → AllPlaced front columns (elements_of bytes formats elements)
     placed-kept count [] laid = tt
-    placed-kept count (Row keys rules height is_tall entries ∷ elements) laid =
+    placed-kept count (Row keys rules height entries ∷ elements) laid =
         let P : FormatRow → Type 0 = HasPlaces front columns in (
           (row-has formats keys all laid.0.serves, each-take P rules (drop (keys - rules) formats) (each-drop P (keys - rules) formats all)),
           placed-kept count elements laid.1,
@@ -41,9 +41,9 @@ module _ (bytes : List ℕ) (formats : List FormatRow) where
 
 -- so its lines are the plain ones
 pub plain-kept : (bytes : List ℕ) (formats : List FormatRow) (s : Sheet) (elements : List KeptElement) → AllByRecursion NoneAbove (elements_of bytes formats elements)
-    → AllByRecursion (ElementLaid bytes formats (length s.columns)) elements → 0 < length s.columns
-    → HavePlaces formats s → table_lines s (elements_of bytes formats elements) ≡ picture_lines s (elements_of bytes formats elements)
-plain-kept bytes formats s elements none laid some places =
+    → AllHaveWidth (elements_of bytes formats elements) → AllByRecursion (ElementLaid bytes formats (length s.columns)) elements
+    → 0 < length s.columns → HavePlaces formats s → table_lines s (elements_of bytes formats elements) ≡ picture_lines s (elements_of bytes formats elements)
+plain-kept bytes formats s elements none plain laid some places =
     plain-table s (elements_of bytes formats elements) none some
-    (within-kept bytes formats (length s.columns) elements laid) places.order
+    (within-kept bytes formats (length s.columns) elements laid) plain places.order
     (placed-kept bytes formats s.bars.front s.columns places.rows (length s.columns) elements laid)

@@ -10,7 +10,7 @@ pub mod RowLines
 pub mod RowsBegun
 pub mod RunsGiven
 pub mod WordRuns
-pub mod AllLaid
+pub mod EntriesFit
 pub mod AllEntries
 pub mod GivenFields
 pub mod RulesBeside
@@ -27,11 +27,9 @@ pub mod PlainHeights
 pub mod PlainShown
 pub mod PlainTables
 pub mod KeptAlone
-pub mod PiecesBehind
-pub mod EntriesFit
-pub mod RowApart
-pub mod RuleApart
-pub mod InTurn
-pub mod CellsStand
-pub mod CellsStay
-pub mod CellsFresh
+pub mod CutLines
+pub mod CellsCut
+pub mod CellEnds
+pub mod CellTexts
+pub mod CutEntries
+pub mod FirstCut

@@ -17,7 +17,7 @@ use Rattle.tbl_layout.specs.declared.data_lines.RuleSign.{RuleSign}
 use Rattle.tbl_options.specs.declared.options.Boxing.{Boxing}
 use Rattle.tbl_lines.specs.PictureLines.{Cell, Sheet, all_between, bars_at, bars_at_edge, bars_between, bars_by, boxed, cell_of, cells_from, frame_rules, frame_sign, fronts, height, joined_sign, right_bars, row_cells, rule_in_front, ruled_between, ruled_inside, with_fronts}
 use Rattle.tbl_layout.specs.Heights.{NoneAbove}
-use Rattle.tbl_lines.specs.RowsAlone.{AllPlaced, AllWithin}
+use Rattle.tbl_lines.specs.RowsAlone.{AllHaveWidth, AllPlaced, AllWithin, HaveWidth}
 use Rattle.tbl_lines.specs.RulePlaces.{HasPlaces}
 use Rattle.tbl_lines.proofs.CellsLent.{length-cells_of}
 
@@ -115,11 +115,12 @@ module _ (boxing : Boxing) (format : FormatRow) (fields : List Content) (none : 
       let own = cell-lines bars (key_at format cell) c columns (field_at fields (suc cell)) (field_at fields cell) in
       omega (arith, ends-with cell, own, cells-high (suc cell) columns)
 
--- what is known of a row that is drawn by itself: no cell goes on, its cells have no more columns than the table, there are places for its bars
+-- what is known of a row that is drawn by itself: no cell goes on, its cells have no more columns than the table, and a width, there are places for its bars
 -- and those of the rows of rule keys in front of it, and it is so high
 pub record IsAlone (s : Sheet) (high : ℕ) (rules : List FormatRow) (format : FormatRow) (fields : List Content) : Type 0 where
   pub none : (cell : ℕ) → is_above (field_at fields cell) ≡ false
   pub lie : AreWithin (length s.columns) format.keys
+  pub plain : HaveWidth format.keys
   pub placed : AllByRecursion (HasPlaces s.bars.front s.columns) (format ∷ rules)
   pub is : high ≡ height (row_cells s format fields)
 
@@ -131,10 +132,10 @@ AllAlone s heights (Command bytes ∷ elements) = AllAlone s heights elements
 
 -- so high are the rows of a table in which none goes on
 pub heights-alone : (s : Sheet) (is_inside : Bool) (elements : List Element) → AllByRecursion NoneAbove elements → AllWithin (length s.columns) elements
-    → AllPlaced s.bars.front s.columns elements → (above : List FormatKey) (left : List ℕ) (rules : ℕ)
+    → AllHaveWidth elements → AllPlaced s.bars.front s.columns elements → (above : List FormatKey) (left : List ℕ) (rules : ℕ)
     → AllAlone s (heights_behind is_inside (length s.columns) above left rules elements) elements
-heights-alone s is_inside [] none lie placed above left rules = tt
-heights-alone s is_inside (Row own format fields ∷ elements) none lie placed above left rules =
+heights-alone s is_inside [] none lie plain placed above left rules = tt
+heights-alone s is_inside (Row own format fields ∷ elements) none lie plain placed above left rules =
     let boxing = s.bars.boxing in
     let columns = cells_of format.keys s.columns in
     let between = rules_between is_inside rules (length own) in
@@ -142,18 +143,19 @@ heights-alone s is_inside (Row own format fields ∷ elements) none lie placed a
       record {
         none = none.0;
         lie = lie.0;
+        plain = plain.0;
         placed = placed.0;
         is = ap high (sym (length-cells_of format.keys s.columns lie.0))
             ∙ cells-high boxing format fields none.0 elements none.1 above left between 0 columns
             ∙ sym (fronts-low (fronts (record s { columns = columns }) format fields) (cells_from boxing 0 columns format fields)
             (all-low (record s { columns = columns }) format fields));
       },
-      heights-alone s is_inside elements none.1 lie.1 placed.1 format.keys _ 0,
+      heights-alone s is_inside elements none.1 lie.1 plain.1 placed.1 format.keys _ 0,
     )
-heights-alone s is_inside (Rule sign ∷ elements) none lie placed above left rules =
-    heights-alone s is_inside elements none.1 lie placed above left (suc rules)
-heights-alone s is_inside (Command bytes ∷ elements) none lie placed above left rules =
-    heights-alone s is_inside elements none.1 lie placed above left rules
+heights-alone s is_inside (Rule sign ∷ elements) none lie plain placed above left rules =
+    heights-alone s is_inside elements none.1 lie plain placed above left (suc rules)
+heights-alone s is_inside (Command bytes ∷ elements) none lie plain placed above left rules =
+    heights-alone s is_inside elements none.1 lie plain placed above left rules
 
 -- the rules of a box change nothing of that
 frame-alone : (s : Sheet) (t : Bool) (sign : RuleSign) (heights : List ℕ) (elements : List Element) → AllAlone s heights elements

@@ -18,7 +18,7 @@ use Rattle.tbl_options.specs.declared.options.Boxing.{Boxing}
 use Rattle.tbl_lines.specs.CellsLeft.{Left, all_keys, bars_at_end, begun, cell_by, cells_from as left_from, keys_behind, lines_over}
 use Rattle.tbl_lines.specs.PictureLeft.{row_lines}
 use Rattle.tbl_lines.specs.PictureLines.{Cell, Sheet, all_between, bars_among, bars_at, bars_between, bars_by, bars_of, cell_of, cells_from, fronts, joined_sign, lines_from, right_bars, row_cells, with_fronts}
-use Rattle.tbl_lines.specs.RowsAlone.{alone_at, alone_from}
+use Rattle.tbl_lines.specs.RowsAlone.{HaveWidth, alone_at, alone_from}
 use Rattle.tbl_lines.proofs.CellsLent.{length-cells_of}
 use Rattle.tbl_lines.proofs.PlainLines.{lines-alone}
 
@@ -135,6 +135,15 @@ module _ (boxing : Boxing) (one other : FormatRow) (fields : List Content) (bars
       (subst (λ (x : Boxing). all_between x 0 s.columns one fields ≡ all_between x 0 s.columns other fields) (sym is) (same-between 0 s.columns))
       ∙ ap (λ (n : ℕ). all (bars_of other 0) (all_between b 0 s.columns other fields) n) (bars (length s.columns))
 
+-- and have a width, if those of the format do
+width-behind : (m bars column : ℕ) → HaveWidth (keys_behind m bars column)
+width-behind zero bars column = tt
+width-behind (suc m) bars column = (refl, width-behind m 0 (suc column))
+
+pub width-all : (keys : List FormatKey) (m bars column : ℕ) → HaveWidth keys → HaveWidth (keys ++ keys_behind m bars column)
+width-all [] m bars column plain = width-behind m bars column
+width-all (k ∷ keys) m bars column plain = (plain.0, width-all keys m bars column plain.1)
+
 -- a row with all its keys
 module _ (s : Sheet) (format : FormatRow) (fields : List Content) (lie : AreWithin (length s.columns) format.keys) (some : 0 < length s.columns) where
   abbrev pub count : ℕ
@@ -163,10 +172,10 @@ module _ (s : Sheet) (format : FormatRow) (fields : List Content) (lie : AreWith
       (same-fronts boxing full format fields full-bars full-keys row refl)
       ∙ ap (with_fronts (fronts row format fields)) (same-cells boxing full format fields full-bars full-keys 0 columns)
 
-  by-keys : (keys : List FormatKey) → all_keys count format ≡ keys → (lines line : ℕ)
+  by-keys : (keys : List FormatKey) → HaveWidth keys → all_keys count format ≡ keys → (lines line : ℕ)
       → row_lines s (bars_at_end count format) lines (alone_from line 0 keys fields)
       ≡ lines_from line lines (row_cells s (record { keys = keys; bars = bars_at_end count format }) fields)
-  by-keys [] is lines line =
+  by-keys [] plain is lines line =
       let none : length (all_keys count format) ≡ 0 = ap length is in
       absurd (omega (
         arith,
@@ -181,13 +190,14 @@ module _ (s : Sheet) (format : FormatRow) (fields : List Content) (lie : AreWith
         no-keys : (xs ys : List FormatKey) → xs ++ ys ≡ [] → xs ≡ []
         no-keys [] ys is = refl
         no-keys (x ∷ xs) ys is = absurd (cc)
-  by-keys (k ∷ keys) is lines line =
-      lines-alone s k keys (bars_at_end count format) fields
+  by-keys (k ∷ keys) plain is lines line =
+      lines-alone s k keys (bars_at_end count format) fields plain
       (subst (λ (ks : List FormatKey). length (cells_of ks s.columns) ≡ length ks) is (length-all s.columns format lie)) lines line
 
-  pub row-alone : (lines line : ℕ) → row_lines s (bars_at_end count format) lines (alone_from line 0 (all_keys count format) fields)
+  pub row-alone : HaveWidth format.keys → (lines line : ℕ) → row_lines s (bars_at_end count format) lines (alone_from line 0 (all_keys count format) fields)
       ≡ lines_from line lines (row_cells s format fields)
-  row-alone lines line = by-keys (all_keys count format) refl lines line ∙ ap (lines_from line lines) full-cells
+  row-alone plain lines line =
+      by-keys (all_keys count format) (width-all format.keys (count - columns_of format.keys) format.bars (columns_of format.keys) plain) refl lines line ∙ ap (lines_from line lines) full-cells
 
 -- the cells of a row of which none goes on with one above, and none of the next row with one of its own
 alone-begun : (k : FormatKey) (f : Content) (height : ℕ) → begun k f height 0 ≡ alone_at 0 k f

@@ -14,10 +14,11 @@ use Rattle.tbl_layout.specs.declared.columns.Column.{Column}
 use Rattle.tbl_layout.specs.declared.data_lines.RuleSign.{RuleSign}
 use Rattle.tbl_options.specs.declared.options.Boxing.{Boxing}
 use Rattle.tbl_lines.specs.CellsLeft.{Left, behind_line, own_field}
-use Rattle.tbl_lines.specs.LinesLeft.{Shown, bars_there, between, crossed_or_not, end_by, joined_here, line_by, row_fronts, row_line, row_shown, rule_of, same_sign, shown, shown_cell}
+use Rattle.tbl_lines.specs.LinesLeft.{Shown, bars_there, between, crossed_or_not, end_by, in_order, joined_here, line_by, row_fronts, row_line, row_shown, rule_of, same_sign, shown, shown_cell}
 use Rattle.tbl_lines.specs.PictureLeft.{row_lines}
 use Rattle.tbl_lines.specs.PictureLines.{Cell, Sheet, all_between, bars_among, bars_at, bars_at_edge, bars_between, bars_by, cell_of, cells_from, fronts, joined_sign, joint, line_of, lines_from, right_bars, row_cells, rule_end, with_fronts}
-use Rattle.tbl_lines.specs.RowsAlone.{alone_at, alone_from}
+use Rattle.tbl_lines.specs.RowsAlone.{HaveWidth, alone_at, alone_from}
+use Rattle.tbl_lines.proofs.CutLines.{NoneRunOn, all_cut-none, shown-none}
 use Rattle.tbl_lines.proofs.PlainRows.{AllSame, AreNew, SameOn, behind-alone, cell-on, fronts-on, new-shown, same-order, same-text, written-on}
 use Rattle.tbl_lines.proofs.RowCells.{get-at}
 use Rattle.tbl_lines.proofs.RowColumns.{drop-next, drop-none}
@@ -115,36 +116,38 @@ module _ (boxing : Boxing) (format : FormatRow) (fields : List Content) (line : 
       get-at cell (map (λ (k : FormatKey). k.key) format.keys) k.key (map (λ (k : FormatKey). k.key) keys) LeftKey
       (drop-map (λ (k : FormatKey). k.key) cell format.keys ∙ ap (map (λ (k : FormatKey). k.key)) at)
 
-  first-on : (cell : ℕ) (k : FormatKey) (keys : List FormatKey) (c : Column) (columns : List Column) (end : ℕ) → drop cell format.keys ≡ k ∷ keys
+  first-on : (cell : ℕ) (k : FormatKey) (keys : List FormatKey) (c : Column) (columns : List Column) (end : ℕ) → k.has_no_width ≡ false
+      → drop cell format.keys ≡ k ∷ keys
       → ((sign : RuleSign) → line ≡ 0 → field_at fields cell ≡ Ruled sign
       → end ≡ rule_end (bars_between boxing format (suc cell)) sign c columns (field_at fields (suc cell)))
       → SameOn line (shown_cell (shown (alone_at line k (field_at fields cell)) c end))
       (cell_of (bars_between boxing format (suc cell)) (key_at format cell) c columns (field_at fields (suc cell)) (field_at fields cell))
-  first-on cell k keys c columns end at ends =
+  first-on cell k keys c columns end plain at ends =
       let bars = bars_between boxing format (suc cell) in
       let next = field_at fields (suc cell) in
       subst (λ (key : Key). SameOn line (shown_cell (shown (alone_at line k (field_at fields cell)) c end)) (cell_of bars key c columns next (field_at fields cell)))
       (sym (key-same cell k keys at))
-      (cell-on bars k c columns next end line (field_at fields cell) ends)
+      (cell-on bars k plain c columns next end line (field_at fields cell) ends)
 
-  pub cells-on : (cell : ℕ) (keys : List FormatKey) (columns : List Column) → drop cell format.keys ≡ keys → length columns ≡ length keys
+  pub cells-on : (cell : ℕ) (keys : List FormatKey) (columns : List Column) → HaveWidth keys → drop cell format.keys ≡ keys
+      → length columns ≡ length keys
       → AllSame line (map shown_cell (row_shown boxing (left cell keys) columns)) (cells_from boxing cell columns format fields)
-  cells-on cell [] [] at many = tt
-  cells-on cell [] (c ∷ columns) at many = absurd (omega (arith, many))
-  cells-on cell (k ∷ keys) [] at many = absurd (omega (arith, many))
-  cells-on cell (k ∷ []) (c ∷ []) at many = (first-on cell k [] c [] (c.start + c.width) at (λ sign first is. refl), tt)
-  cells-on cell (k ∷ []) (c ∷ d ∷ columns) at many = absurd (omega (arith, many))
-  cells-on cell (k ∷ l ∷ keys) (c ∷ []) at many = absurd (omega (arith, many))
-  cells-on cell (k ∷ l ∷ keys) (c ∷ d ∷ columns) at many =
+  cells-on cell [] [] plain at many = tt
+  cells-on cell [] (c ∷ columns) plain at many = absurd (omega (arith, many))
+  cells-on cell (k ∷ keys) [] plain at many = absurd (omega (arith, many))
+  cells-on cell (k ∷ []) (c ∷ []) plain at many = (first-on cell k [] c [] (c.start + c.width) plain.0 at (λ sign first is. refl), tt)
+  cells-on cell (k ∷ []) (c ∷ d ∷ columns) plain at many = absurd (omega (arith, many))
+  cells-on cell (k ∷ l ∷ keys) (c ∷ []) plain at many = absurd (omega (arith, many))
+  cells-on cell (k ∷ l ∷ keys) (c ∷ d ∷ columns) plain at many =
       let behind = drop-next cell format.keys k (l ∷ keys) at in
       let f = field_at fields cell in
       let g = field_at fields (suc cell) in
       let joined = joined_here (alone_at line k f) (alone_at line l g) in (
-        first-on cell k (l ∷ keys) c (d ∷ columns) (end_by joined (inner_bars boxing l.bars) c d) at
+        first-on cell k (l ∷ keys) c (d ∷ columns) (end_by joined (inner_bars boxing l.bars) c d) plain.0 at
             (λ sign first is.
             ap (λ (n : ℕ). end_by joined n c d) (sym (bars-same (suc cell) l keys behind))
             ∙ ends-on (bars_between boxing format (suc cell)) c d columns line k l f g sign first is),
-        cells-on (suc cell) (l ∷ keys) (d ∷ columns) behind (omega (arith, many)),
+        cells-on (suc cell) (l ∷ keys) (d ∷ columns) plain.1 behind (omega (arith, many)),
       )
 
   between-on : (cell : ℕ) (keys : List FormatKey) (columns : List Column) (xs ys : List Cell) → drop cell format.keys ≡ keys
@@ -181,6 +184,20 @@ module _ (boxing : Boxing) (format : FormatRow) (fields : List Content) (line : 
         new-row (suc cell) (l ∷ keys) (d ∷ columns),
       )
 
+  none-row : (cell : ℕ) (keys : List FormatKey) (columns : List Column) → HaveWidth keys → NoneRunOn (row_shown boxing (left cell keys) columns)
+  none-row cell [] columns plain = tt
+  none-row cell (k ∷ keys) [] plain = tt
+  none-row cell (k ∷ []) (c ∷ columns) plain =
+      let own = alone_at line k (field_at fields cell) in (shown-none own.field own c (c.start + c.width) plain.0, tt)
+  none-row cell (k ∷ l ∷ keys) (c ∷ []) plain =
+      let own = alone_at line k (field_at fields cell) in (shown-none own.field own c (c.start + c.width) plain.0, tt)
+  none-row cell (k ∷ l ∷ keys) (c ∷ d ∷ columns) plain =
+      let own = alone_at line k (field_at fields cell) in
+      let next = alone_at line l (field_at fields (suc cell)) in (
+        shown-none own.field own c (end_by (joined_here own next) (inner_bars boxing l.bars) c d) plain.0,
+        none-row (suc cell) (l ∷ keys) (d ∷ columns) plain.1,
+      )
+
 -- the keys of the cells
 pub keys-alone : (line cell : ℕ) (keys : List FormatKey) (fields : List Content) → map (λ c. c.key) (alone_from line cell keys fields) ≡ keys
 keys-alone line cell [] fields = refl
@@ -192,7 +209,7 @@ all-if false line xs ys same = tt
 
 -- a row with a key for each of its cells
 module _ (s : Sheet) (k : FormatKey) (keys : List FormatKey) (last : ℕ) (fields : List Content)
-    (many : length (cells_of (k ∷ keys) s.columns) ≡ length (k ∷ keys)) where
+    (plain : HaveWidth (k ∷ keys)) (many : length (cells_of (k ∷ keys) s.columns) ≡ length (k ∷ keys)) where
   abbrev pub format : FormatRow
   format = record { keys = k ∷ keys; bars = last }
 
@@ -226,14 +243,16 @@ module _ (s : Sheet) (k : FormatKey) (keys : List FormatKey) (last : ℕ) (field
       let shown_here = row_shown boxing (cells line) columns in
       let these = row_fronts s last (cells line) columns in
       let those = fronts (record s { columns = columns }) format fields in
-      let by : List Column → List ℕ = λ cs. line_by (row_fronts s last (cells line) cs) (row_shown boxing (cells line) cs) in
+      let by : List Column → List ℕ = λ cs. line_by s (row_fronts s last (cells line) cs) (row_shown boxing (cells line) cs) in
       let bytes : List Run → List ℕ = λ runs. codes "\\&" ++ (up_to_last_glyph runs ++ newline ∷ []) in
       ap by (ap (λ (ks : List FormatKey). cells_of ks s.columns) (keys-alone line 0 (k ∷ keys) fields))
+      ∙ ap (λ (all : List Shown). line_of 0 (with_fronts these (map shown_cell (in_order [] all))))
+      (all_cut-none s these shown_here (none-row boxing format fields line 0 (k ∷ keys) columns plain))
       ∙ ap (λ (all : List Shown). line_of 0 (with_fronts these (map shown_cell all))) (same-order shown_here (new-row boxing format fields line 0 (k ∷ keys) columns))
       ∙ ap bytes
       (written-on line (with_fronts these (map shown_cell shown_here)) (with_fronts those (cells_from boxing 0 columns format fields))
       (fronts-on line these those (map shown_cell shown_here) (cells_from boxing 0 columns format fields) (fronts-same line)
-      (cells-on boxing format fields line 0 (k ∷ keys) columns refl many)) 0)
+      (cells-on boxing format fields line 0 (k ∷ keys) columns plain refl many)) 0)
 
   -- and all its lines from one on
   pub lines-alone : (count line : ℕ) → row_lines s last count (cells line) ≡ lines_from line count (row_cells s format fields)

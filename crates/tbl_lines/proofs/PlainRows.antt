@@ -5,12 +5,14 @@ use Rattle.std.proofs.lemmas.Bool.{le-ltb}
 use Rattle.std.proofs.lemmas.List.{append-nil}
 use Rattle.tbl_format.specs.declared.format.FormatKey.{FormatKey}
 use Rattle.tbl_layout.specs.Entries.{Above, Block, Content, Repeated, Ruled, Run, Short, Text, field_at, lines_of_field}
+use Rattle.tbl_layout.specs.Columns.{place_in, stands}
 use Rattle.tbl_layout.specs.declared.columns.Column.{Column}
 use Rattle.tbl_layout.specs.declared.data_lines.RuleSign.{RuleSign}
 use Rattle.tbl_lines.specs.CellsLeft.{Left, behind_line}
-use Rattle.tbl_lines.specs.LinesLeft.{Shown, in_order, is_behind, put, shown, shown_by, shown_cell}
+use Rattle.tbl_lines.specs.LinesLeft.{Shown, in_order, is_behind, place_of_text, put, shown, shown_by, shown_cell}
 use Rattle.tbl_lines.specs.PictureLines.{Cell, at_column, cell_of, end_of, rule_end, with_fronts, written}
-use Rattle.tbl_lines.specs.RowsAlone.{alone_at, alone_from}
+use Rattle.tbl_lines.specs.RowsAlone.{alone_at, alone_from, field_behind}
+use Rattle.tbl_lines.proofs.CutLines.{place-plain}
 
 -- behind a line of it
 gone-one : (line : ℕ) → line + 1 ≡ suc line
@@ -25,7 +27,7 @@ behind-one zero k (Repeated b) = refl
 behind-one zero k Above = refl
 behind-one (suc line) k (Text bytes) = refl
 behind-one (suc line) k (Block measure lines) =
-    ap (λ (n : ℕ). record { key = k; field = Block measure lines; lead = 0; gone = n; rows = 0 }) (gone-one (suc line))
+    ap (λ (n : ℕ). record (alone_at (suc line) k (Block measure lines)) { gone = n }) (gone-one (suc line))
 behind-one (suc line) k (Ruled sign) = refl
 behind-one (suc line) k Short = refl
 behind-one (suc line) k (Repeated b) = refl
@@ -123,12 +125,15 @@ fronts-on line (f ∷ fs) (g ∷ gs) (c ∷ cs) [] fronts same = absurd same
 fronts-on line (f ∷ fs) (g ∷ gs) (c ∷ cs) (d ∷ ds) fronts same = (fronts.0, (same.0, fronts-on line fs gs cs ds fronts.1 same.1))
 
 -- what a cell shows on a line is that line of it
-module _ (bars : ℕ) (k : FormatKey) (c : Column) (columns : List Column) (next : Content) (end : ℕ) where
+module _ (bars : ℕ) (k : FormatKey) (plain : k.has_no_width ≡ false) (c : Column) (columns : List Column) (next : Content) (end : ℕ) where
   abbrev here : ℕ → Content → Cell
   here line f = shown_cell (shown (alone_at line k f) c end)
 
   abbrev whole : Content → Cell
   whole f = cell_of bars k.key c columns next f
+
+  place : (line : ℕ) (f : Content) → c.start + place_of_text (alone_at line k f) c ≡ c.start + place_in c k.key (stands k.key (field_behind line f))
+  place line f = ap (λ (n : ℕ). c.start + n) (place-plain (alone_at line k f) c plain)
 
   late-text : (line : ℕ) (bytes : List ℕ) → get_or (lines_of_field k.key (Text bytes)) (suc line) [] ≡ []
   late-text line [] = refl
@@ -136,8 +141,8 @@ module _ (bars : ℕ) (k : FormatKey) (c : Column) (columns : List Column) (next
 
   pub cell-on : (line : ℕ) (f : Content) → ((sign : RuleSign) → line ≡ 0 → f ≡ Ruled sign → end ≡ rule_end bars sign c columns next)
       → SameOn line (here line f) (whole f)
-  cell-on zero (Text bytes) ends = same-text 0 (here 0 (Text bytes)) (whole (Text bytes)) refl refl
-  cell-on zero (Block measure lines) ends = same-text 0 (here 0 (Block measure lines)) (whole (Block measure lines)) refl refl
+  cell-on zero (Text bytes) ends = same-text 0 (here 0 (Text bytes)) (whole (Text bytes)) (place 0 (Text bytes)) refl
+  cell-on zero (Block measure lines) ends = same-text 0 (here 0 (Block measure lines)) (whole (Block measure lines)) (place 0 (Block measure lines)) refl
   cell-on zero (Ruled sign) ends =
       let same : end ≡ rule_end bars sign c columns next = ends sign refl refl in
       subst (λ (n : ℕ). SameOn 0 (shown_cell (shown (alone_at 0 k (Ruled sign)) c n)) (whole (Ruled sign))) (sym same)
@@ -147,7 +152,7 @@ module _ (bars : ℕ) (k : FormatKey) (c : Column) (columns : List Column) (next
   cell-on zero Above ends = same-none 0 (here 0 Above) (whole Above) refl refl
   cell-on (suc line) (Text bytes) ends = same-none (suc line) (here (suc line) (Text bytes)) (whole (Text bytes)) refl (late-text line bytes)
   cell-on (suc line) (Block measure lines) ends =
-      same-text (suc line) (here (suc line) (Block measure lines)) (whole (Block measure lines)) refl refl
+      same-text (suc line) (here (suc line) (Block measure lines)) (whole (Block measure lines)) (place (suc line) (Block measure lines)) refl
   cell-on (suc line) (Ruled sign) ends = same-none (suc line) (here (suc line) (Ruled sign)) (whole (Ruled sign)) refl refl
   cell-on (suc line) Short ends = same-none (suc line) (here (suc line) Short) (whole Short) refl refl
   cell-on (suc line) (Repeated b) ends = same-none (suc line) (here (suc line) (Repeated b)) (whole (Repeated b)) refl refl

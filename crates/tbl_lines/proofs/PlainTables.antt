@@ -4,23 +4,24 @@ use Rattle.std.specs.Prelude.{is_some, unwrap_or}
 use Rattle.std.proofs.lemmas.Bool.{cases_eq, eq-eqb, ne_eqb}
 use Rattle.std.specs.List.{AllByRecursion}
 use Rattle.roff_source.specs.Bytes.{newline}
-use Rattle.tbl_format.specs.Format.{FormatRow}
+use Rattle.tbl_format.specs.Format.{FormatRow, columns_of}
 use Rattle.tbl_format.specs.FormatRows.{AreWithin}
 use Rattle.tbl_format.specs.declared.format.FormatKey.{FormatKey}
 use Rattle.tbl_layout.specs.Entries.{Command, Content, Element, Row, Rule}
 use Rattle.tbl_layout.specs.Heights.{heights_behind}
 use Rattle.tbl_layout.specs.LayoutLaws.{StandInOrder}
 use Rattle.tbl_layout.specs.declared.data_lines.RuleSign.{RuleSign}
-use Rattle.tbl_lines.specs.CellsLeft.{Left, all_keys, bars_at_end, behind_line, cells_next, goes_on, keys_behind, lines_over, nothing_left}
+use Rattle.tbl_lines.specs.CellsLeft.{Left, all_keys, all_stopped, bars_at_end, behind_line, cells_next, goes_on, keys_behind, lines_over, nothing_left}
 use Rattle.tbl_lines.specs.LinesLeft.{Beside, Nothing, OfRow as OfCells, OfRules as OfRulesLeft, overs, rule_line_left}
 use Rattle.tbl_lines.specs.PictureLeft.{behind_keys, behind_lines, below_of, key_lines, lines_left, row_lines, table_lines, through_rule, through_rules}
 use Rattle.tbl_lines.specs.PictureLines.{Neighbour, NoRow, OfKeys, OfRow as OfFields, OfRules, RuleLine, Sheet, Whole, behind_rules, boxed, height, line_below, lines_behind, lines_from, picture_lines, row_cells, rule_line, rule_lines}
 use Rattle.tbl_layout.specs.Heights.{NoneAbove}
-use Rattle.tbl_lines.specs.RowsAlone.{AllPlaced, AllWithin, alone_from}
+use Rattle.tbl_lines.specs.RowsAlone.{AllHaveWidth, AllPlaced, AllWithin, HaveWidth, alone_from}
 use Rattle.tbl_lines.specs.RulePlaces.{HasPlaces, IsLinePlaced, IsPlaced}
 use Rattle.tbl_lines.specs.RulesAlone.{NoneGoOn, ShownAlike}
 use Rattle.tbl_lines.proofs.PlainHeights.{AllAlone, above-none, below-none, boxed-alone, heights-alone}
-use Rattle.tbl_lines.proofs.PlainKeys.{cells-alone, row-alone}
+use Rattle.tbl_lines.proofs.CutLines.{all_stopped-none}
+use Rattle.tbl_lines.proofs.PlainKeys.{cells-alone, row-alone, width-all}
 use Rattle.tbl_lines.proofs.PlainRows.{behind-alone}
 use Rattle.tbl_lines.proofs.PlainShown.{row-alike}
 use Rattle.tbl_lines.proofs.RulesAlone.{rule-alone}
@@ -61,6 +62,12 @@ first-line high some = elim (cases_eq high 1) [
   | inr other ↦ ne_eqb (0 + (high - 1)) 0 (λ none. other (omega (arith, none, some))) ∙ sym (ne_eqb high 1 other)
 ]
 
+-- cells under keys with a width
+width-alone : (cell : ℕ) (keys : List FormatKey) (fields : List Content) → HaveWidth keys
+    → AllByRecursion (λ c. c.key.has_no_width ≡ false) (alone_from 0 cell keys fields)
+width-alone cell [] fields plain = tt
+width-alone cell (k ∷ keys) fields plain = (plain.0, width-alone (suc cell) keys fields plain.1)
+
 -- the cells of the row that comes first of elements: where none comes, nothing stands in them
 abbrev first_cells : ℕ → List Element → List Left
 first_cells count [] = map nothing_left (keys_behind count 0 0)
@@ -97,8 +104,12 @@ module _ (s : Sheet) where
       → (keys : List FormatKey) (above : List Left) (heights : List ℕ) → cells_next count keys above heights elements ≡ first_cells count elements
   next-alone [] rows alone keys above heights = refl
   next-alone (Row rules format fields ∷ elements) rows alone keys above heights =
-      cells-alone keys above heights elements format fields (above-none format fields alone.0.none keys)
-      (λ cell. over-none elements (drop 1 rows) alone.1 format.keys cell 0 (drop 1 heights)) 0 (all_keys count format)
+      let own = all_keys count format in
+      let width = width-all format.keys (count - columns_of format.keys) format.bars (columns_of format.keys) alone.0.plain in
+      ap (λ (cells : List Left). all_stopped count format.keys elements 0 cells)
+      (cells-alone keys above heights elements format fields (above-none format fields alone.0.none keys)
+      (λ cell. over-none elements (drop 1 rows) alone.1 format.keys cell 0 (drop 1 heights)) 0 own)
+      ∙ all_stopped-none count format.keys elements 0 (alone_from 0 0 own fields) (width-alone 0 own fields width)
   next-alone (Rule sign ∷ elements) rows alone keys above heights = next-alone elements rows alone keys above heights
   next-alone (Command bytes ∷ elements) rows alone keys above heights = next-alone elements rows alone keys above heights
 
@@ -217,7 +228,7 @@ module _ (s : Sheet) where
         ∙ ap (λ (lines : List ℕ). lines ++ (row_lines s last high cells ++ rest))
         (key-lines cells none rules row.placed.1 above (OfCells cells last) up (OfFields true format fields) is
         (row-beside format fields 0 true row.lie row.placed.0 refl))
-        ∙ ap (λ (lines : List ℕ). front ++ (lines ++ rest)) (row-alone s format fields row.lie some high 0)
+        ∙ ap (λ (lines : List ℕ). front ++ (lines ++ rest)) (row-alone s format fields row.lie some row.plain high 0)
         ∙ ap (λ (h : ℕ). front ++ (lines_from 0 h (row_cells s format fields) ++ rest)) row.is
         ∙ ap (λ (own : List Left). front ++ (lines_from 0 n (row_cells s format fields) ++ lines_left s further own behind elements))
         (next-alone elements further alone.1 format.keys (behind_lines high cells) further)
@@ -239,12 +250,13 @@ module _ (s : Sheet) where
 
 -- where no cell of a table goes on with one above it, its lines are the plain ones
 pub plain-table : (s : Sheet) (elements : List Element) → AllByRecursion NoneAbove elements → 0 < length s.columns → AllWithin (length s.columns) elements
-    → StandInOrder s.bars s.width s.columns → AllPlaced s.bars.front s.columns elements → table_lines s elements ≡ picture_lines s elements
-plain-table s elements none some lie order placed =
+    → AllHaveWidth elements → StandInOrder s.bars s.width s.columns → AllPlaced s.bars.front s.columns elements
+    → table_lines s elements ≡ picture_lines s elements
+plain-table s elements none some lie plain order placed =
     let boxing = s.bars.boxing in
     let count = length s.columns in
     let rows = heights_behind boxing.is_inside count [] [] 0 elements in
     let all = boxed boxing elements in
-    let alone = boxed-alone s boxing rows elements (heights-alone s boxing.is_inside elements none lie placed [] [] 0) in
+    let alone = boxed-alone s boxing rows elements (heights-alone s boxing.is_inside elements none lie plain placed [] [] 0) in
     ap (λ (cells : List Left). lines_left s rows cells Nothing all) (next-alone s all rows alone [] [] rows)
     ∙ lines-alone s some order all rows alone Nothing NoRow (nothing-beside s)

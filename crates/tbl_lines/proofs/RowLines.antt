@@ -20,8 +20,7 @@ use Rattle.tbl_lines.specs.RowsLent.{WalkedRow, first_place, fronts_of, line_cel
 use Rattle.tbl_layout.specs.declared.data_lines.RuleSign.{RuleSign}
 use Rattle.roff_source.specs.Bytes.{newline}
 use Rattle.tbl_lines.proofs.AllEntries.{fields-all}
-use Rattle.tbl_kept.proofs.AllLaid.{all-laid}
-use Rattle.tbl_lines.proofs.AllLaid.{all-high, all-short}
+use Rattle.tbl_kept.proofs.AllLaid.{all-high, all-laid, all-short}
 use Rattle.tbl_lines.proofs.CellsLent.{length-cells_of}
 use Rattle.tbl_lines.proofs.RowColumns.{drop-next}
 use Rattle.tbl_lines.proofs.RowCells.{CellSame, cell-same, drop-past, get-at, get-past, ruled-same}

@@ -9,10 +9,11 @@ use Rattle.tbl_layout.specs.Widths.{edge_bars, inner_bars}
 use Rattle.tbl_layout.specs.declared.columns.Column.{Column}
 use Rattle.tbl_layout.specs.declared.data_lines.RuleSign.{RuleSign}
 use Rattle.tbl_lines.specs.CellsLeft.{Left}
-use Rattle.tbl_lines.specs.LinesLeft.{Beside, Free, Over, Shown, all_shown, bars_met, edge, fronts_between, line_by, over_at, overs, rule_line_left, rules_edge, shown_cell}
+use Rattle.tbl_lines.specs.LinesLeft.{Beside, Free, Over, Shown, all_shown, bars_met, edge, fronts_between, in_order, line_by, over_at, overs, rule_line_left, rules_edge, shown_cell}
 use Rattle.tbl_lines.specs.PictureLines.{Cell, Mark, Neighbour, OfKeys, RuleLine, Sheet, Whole, drawn, edge_byte, edge_mark, line_of, met_at_edge, met_behind, parts_from, rule_from, rule_line, rule_to, sign_over, with_fronts, written}
 use Rattle.tbl_lines.specs.RulePlaces.{AreMet, IsLinePlaced, IsPlaced, bars_behind}
 use Rattle.tbl_lines.specs.RulesAlone.{NoneGoOn, ShownAlike}
+use Rattle.tbl_lines.proofs.CutLines.{NoneRunOn, all_cut-none}
 use Rattle.tbl_lines.proofs.PlainRows.{AreNew, same-order}
 use Rattle.tbl_lines.proofs.RulesDrawn.{written-drawn}
 use Rattle.tbl_lines.proofs.RulesFree.{free-columns, met-inner, met-left, met-right}
@@ -56,12 +57,23 @@ new-column : (sign : Option RuleSign) (from to : ℕ) → (over_column sign from
 new-column None from to = refl
 new-column (Some sign) from to = refl
 
+-- and doesn't run on
+none-column : (sign : Option RuleSign) (from to : ℕ) → (over_column sign from to).runs_on ≡ None
+none-column None from to = refl
+none-column (Some sign) from to = refl
+
 module _ (s : Sheet) (line : RuleLine) (over under : Neighbour) where
   new-free : (column from to : ℕ) (columns : List Column) → AreNew (shown_free s line over under column from to columns)
   new-free column from to [] = tt
   new-free column from to (c ∷ []) = (new-column (sign_over line column) from to, tt)
   new-free column from to (c ∷ d ∷ columns) =
       (new-column (sign_over line column) from (c.start + c.width), new-free (suc column) (bars_end c d) to (d ∷ columns))
+
+  none-free : (column from to : ℕ) (columns : List Column) → NoneRunOn (shown_free s line over under column from to columns)
+  none-free column from to [] = tt
+  none-free column from to (c ∷ []) = (none-column (sign_over line column) from to, tt)
+  none-free column from to (c ∷ d ∷ columns) =
+      (none-column (sign_over line column) from (c.start + c.width), none-free (suc column) (bars_end c d) to (d ∷ columns))
 
   module _ (left right : ℕ) where
     abbrev first : Cell
@@ -128,7 +140,7 @@ module _ (s : Sheet) (line : RuleLine) (cells : List Left) (above below : Beside
   drawn-by o p left right fronts =
       let from = if rules_edge line o then left else first_start left s.columns in
       let to = if rules_edge line p then s.width - right else last_end 0 s.columns in
-      line_by (edge (rules_edge line o) 0 left ∷ fronts ++ edge (rules_edge line p) (s.width - right) right ∷ [])
+      line_by s (edge (rules_edge line o) 0 left ∷ fronts ++ edge (rules_edge line p) (s.width - right) right ∷ [])
       (all_shown line all 0 from to s.columns)
 
   all-free : rule_line_left s line cells above below ≡ drawn-by Free Free left right fronts
@@ -165,10 +177,12 @@ module _ (s : Sheet) (line : RuleLine) (cells : List Left) (above below : Beside
       let are = are-met (met_behind s.bars line over under) to 0 s.bars.boxing 0 s.columns order.between few
       (to-behind line (s.width - right) s.columns ends) in
       all-free
-      ∙ ap (λ (n : ℕ). line_by bars (all_shown line all 0 n (if rules_edge line Free then s.width - right else last_end 0 s.columns) s.columns))
+      ∙ ap (λ (n : ℕ). line_by s bars (all_shown line all 0 n (if rules_edge line Free then s.width - right else last_end 0 s.columns) s.columns))
       (from-is line left s.columns)
-      ∙ ap (λ (n : ℕ). line_by bars (all_shown line all 0 from n s.columns)) (to-is line (s.width - right) s.columns)
-      ∙ ap (λ (cells : List Shown). line_by bars cells) (shown-are s line over under all free 0 from to s.columns)
+      ∙ ap (λ (n : ℕ). line_by s bars (all_shown line all 0 from n s.columns)) (to-is line (s.width - right) s.columns)
+      ∙ ap (λ (cells : List Shown). line_by s bars cells) (shown-are s line over under all free 0 from to s.columns)
+      ∙ ap (λ (cells : List Shown). line_of 0 (with_fronts bars (map shown_cell (in_order [] cells))))
+      (all_cut-none s bars shown (none-free s line over under 0 from to s.columns))
       ∙ ap (λ (cells : List Shown). line_of 0 (with_fronts bars (map shown_cell cells)))
       (same-order shown (new-free s line over under 0 from to s.columns))
       ∙ ap (λ (bytes : List ℕ). codes "\\&" ++ (bytes ++ newline ∷ [])) (free-drawn s line over under left right s.columns some begins ends are)

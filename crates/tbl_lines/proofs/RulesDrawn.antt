@@ -1,5 +1,5 @@
 -- Cells that show marks in order are written as these marks are drawn.
-use Rattle.std.proofs.Common.{◌≡◌, ℕ, Bool, false, ◌+◌, ◌-◌, ◌<◌, ◌≤◌, ◌⊎◌, inl, inr, List, [], ◌∷◌, ◌++◌, length, get_or, replicate, refl, sym, ap, ◌∙◌, arith, append_assoc, length-append, if◌then◌else◌, ◌==◌, ne_eqb}
+use Rattle.std.proofs.Common.{◌≡◌, ℕ, max, Bool, false, ◌+◌, ◌-◌, ◌<◌, ◌≤◌, ◌⊎◌, inl, inr, List, [], ◌∷◌, ◌++◌, length, get_or, replicate, refl, sym, ap, ◌∙◌, arith, append_assoc, length-append, if◌then◌else◌, ◌==◌, ne_eqb}
 use Rattle.std.proofs.lemmas.List.{replicate-append-replicate}
 use Rattle.std.proofs.lemmas.List.Sums.{sum_by-append}
 use Rattle.roff_source.specs.Bytes.{blank}
@@ -113,9 +113,10 @@ first-drawn c cells m marks place (ShowsNone text none) ordered others =
 first-drawn c cells m marks place (ShowsRuns run runs text at glyphs) ordered others =
     let front = blanks (m.at - place) in
     let end = m.at + length m.bytes in
+    let wide : max m.at place + columns_of (run ∷ runs) ≡ end = omega (arith, ordered.0, glyphs.wide) in
     ap (λ (runs : List Run). up_to_last_glyph (at_column c.at place runs ++ written 0 (end_of c.at place runs) cells)) text
     ∙ ap (λ (n : ℕ). up_to_last_glyph (at_column n place (run ∷ runs) ++ written 0 (end_of n place (run ∷ runs)) cells)) at
-    ∙ ap (λ (n : ℕ). before_glyphs front (up_to_last_glyph ((run ∷ runs) ++ written 0 (m.at + n) cells))) glyphs.wide
+    ∙ ap (λ (n : ℕ). before_glyphs front (up_to_last_glyph ((run ∷ runs) ++ written 0 n cells))) wide
     ∙ ap (before_glyphs front) (glyphs.given (written 0 end cells))
     ∙ ap (λ (rest : List ℕ). before_glyphs front (m.bytes ++ rest)) (others end ordered.1)
     ∙ mark-by m marks place (some-or-none m.bytes) ordered

@@ -19,7 +19,7 @@ use Rattle.tbl_text.specs.BlockLines.{lines_of, width_behind}
 use Rattle.tbl_text.specs.BlockPlaces.{left_at, parts_at}
 use Rattle.tbl_text.specs.BlockWords.{EmptyLine, OneWord, Part}
 use Rattle.tbl_text.specs.declared.block_parts.BlockPlace.{BlockPlace}
-use Rattle.tbl_text.specs.declared.block_parts.BlockPlace.TheVariants.{AtEnd, AtLine, Behind}
+use Rattle.tbl_text.specs.declared.block_parts.BlockPlace.TheVariants.{AtEnd, AtLine, AtLineWithin, Behind, BehindWithin}
 
 -- a part of a part
 pub slice-in : {A : Type 0} (xs : List A) (a b f t : ℕ) → a + t ≤ b
@@ -52,6 +52,8 @@ pub few-left : (bytes : List ℕ) (p : BlockPlace) → left_at bytes p ≤ lengt
 few-left bytes (AtLine line before) = omega arith
 few-left bytes (Behind at end ends) = omega arith
 few-left bytes AtEnd = omega arith
+few-left bytes (AtLineWithin line before room) = omega arith
+few-left bytes (BehindWithin at end ends room) = omega arith
 
 -- nothing in front leaves all
 pub drop-of-none : {A : Type 0} (n : ℕ) (xs : List A) → take n xs ≡ [] → drop n xs ≡ xs

@@ -1,21 +1,26 @@
 -- What is left of the cells of a table, from line to line of its picture (Lesk, "Tbl": Format).
-use Rattle.std.specs.Prelude.{ℕ, zero, suc, nat_lt, ◌+◌, ◌-◌, ◌/◌, ◌==◌, Bool, List, [], ◌∷◌, ◌++◌, drop, get_or, length, map, Option, None, Some, is_some, unwrap_or, if◌then◌else◌}
+use Rattle.std.specs.Prelude.{ℕ, zero, suc, nat_lt, ◌+◌, ◌-◌, ◌/◌, ◌==◌, ◌&&◌, min, not, Bool, false, List, [], ◌∷◌, ◌++◌, drop, get_or, length, map, Option, None, Some, is_some, unwrap_or, if◌then◌else◌}
+use Rattle.tbl_format.specs.Cells.{end_of}
 use Rattle.tbl_format.specs.Format.{FormatRow, columns_of, plain_key}
 use Rattle.tbl_format.specs.declared.format.FormatKey.{FormatKey}
 use Rattle.tbl_format.specs.declared.format.Key.TheVariants.{Left as LeftKey}
 use Rattle.tbl_format.specs.declared.format.Standing.{Standing}
 use Rattle.tbl_format.specs.declared.format.Standing.TheVariants.{Bottom, Middle, Top}
-use Rattle.tbl_layout.specs.Entries.{Above, Block, Command, Content, Element, Row, Rule, Text, field_at}
+use Rattle.tbl_layout.specs.Entries.{Above, Block, Command, Content, Element, Row, Rule, Text, field_at, is_entry}
 use Rattle.tbl_layout.specs.Heights.{cell_above, cell_below, lines_in}
 
 -- what is left of a cell of a row in front of a line: its key, with the bars in front of it and its last column, and its field; how many
--- lines stand above the field's next one; how many lines of a block stand above; and over how many rows it has come
+-- lines stand above the field's next one; how many lines of a block stand above; over how many rows it has come; whether something stands
+-- in it, on any line; behind how many columns what is without width ends at the latest; and whether a line of that was cut
 pub record Left : Type 0 where
   pub key : FormatKey
   pub field : Content
   pub lead : ℕ
   pub gone : ℕ
   pub rows : ℕ
+  pub is_used : Bool
+  pub stop : ℕ
+  pub is_cut : Bool
 
 -- whether it goes on from the row above
 abbrev pub goes_on : Left → Bool
@@ -64,6 +69,44 @@ abbrev pub own_field : Content → Content
 own_field Above = Text []
 own_field field = field
 
+-- behind how many columns the first cell of a row begins that isn't in front of one of them and in which something stands, if it isn't that
+-- of the cell above: these keys and fields are those from a column on. Without such a cell it is another number
+abbrev pub first_entry : ℕ → ℕ → ℕ → List FormatKey → List Content → ℕ
+first_entry none column from [] fields = none
+first_entry none column from (k ∷ keys) fields =
+    if not (nat_lt from column) && is_entry (field_at fields 0) then from else first_entry none column k.end keys (drop 1 fields)
+
+-- and of the rows below that a cell of a row of these keys covers, in a table of so many columns: the least of all
+abbrev pub stop_below : ℕ → List FormatKey → ℕ → List Element → ℕ
+stop_below columns keys cell [] = columns
+stop_below columns keys cell (Row rule_rows format fields ∷ elements) =
+    let below = cell_below keys format.keys fields cell in
+    if is_some below
+    then min (first_entry columns (end_of keys cell) 0 (all_keys columns format) fields)
+    (stop_below columns format.keys (unwrap_or below 0) elements)
+    else columns
+stop_below columns keys cell (Rule sign ∷ elements) = stop_below columns keys cell elements
+stop_below columns keys cell (Command bytes ∷ elements) = stop_below columns keys cell elements
+
+-- behind how many columns the first of some cells begins in which something stands: the first of them begins behind so many. Without such a
+-- cell it is another number
+abbrev pub first_used : ℕ → ℕ → List Left → ℕ
+first_used none from [] = none
+first_used none from (c ∷ cells) = if c.is_used then from else first_used none c.key.end cells
+
+-- what stands without width in a cell that begins with a row of these keys ends in front of what stands beside it, in that row and those
+-- below that the cell covers: the others are the cells behind it
+abbrev pub stopped : ℕ → List FormatKey → List Element → ℕ → Left → List Left → Left
+stopped columns keys elements cell c others =
+    if c.key.has_no_width && not (goes_on c)
+    then record c { stop = min (first_used columns c.key.end others) (stop_below columns keys cell elements) }
+    else c
+
+abbrev pub all_stopped : ℕ → List FormatKey → List Element → ℕ → List Left → List Left
+all_stopped columns keys elements cell [] = []
+all_stopped columns keys elements cell (c ∷ cells) =
+    stopped columns keys elements cell c cells ∷ all_stopped columns keys elements (suc cell) cells
+
 -- a cell that begins with a row so high, and has so many lines more below it
 abbrev pub begun : FormatKey → Content → ℕ → ℕ → Left
 begun k field height more = record {
@@ -72,11 +115,14 @@ begun k field height more = record {
   lead = if more == 0 then 0 else drop_of k.standing (lines_in k.key field) (height + more);
   gone = 0;
   rows = 0;
+  is_used = is_entry field;
+  stop = 0;
+  is_cut = false;
 }
 
 -- one that goes on with a cell of the row above, as that is left, under a key
 abbrev pub gone_on : FormatKey → Left → Left
-gone_on k c = record c { key = record k { key = c.key.key }; rows = c.rows + 1 }
+gone_on k c = record c { key = record k { key = c.key.key; has_no_width = c.key.has_no_width }; rows = c.rows + 1 }
 
 abbrev pub cell_by : Option ℕ → List Left → Left → Left
 cell_by None above new = new
@@ -93,12 +139,12 @@ cells_from keys above heights elements format fields cell (k ∷ own) =
 
 -- a cell in which nothing stands
 abbrev pub nothing_left : FormatKey → Left
-nothing_left k = record { key = k; field = Text []; lead = 0; gone = 0; rows = 0 }
+nothing_left k = record { key = k; field = Text []; lead = 0; gone = 0; rows = 0; is_used = false; stop = 0; is_cut = false }
 
 -- and those of the row that comes first of some elements, in a table of so many columns: where none comes, nothing stands in them
 abbrev pub cells_next : ℕ → List FormatKey → List Left → List ℕ → List Element → List Left
 cells_next columns keys above heights [] = map nothing_left (keys_behind columns 0 0)
 cells_next columns keys above heights (Row rules format fields ∷ elements) =
-    cells_from keys above heights elements format fields 0 (all_keys columns format)
+    all_stopped columns format.keys elements 0 (cells_from keys above heights elements format fields 0 (all_keys columns format))
 cells_next columns keys above heights (Rule sign ∷ elements) = cells_next columns keys above heights elements
 cells_next columns keys above heights (Command bytes ∷ elements) = cells_next columns keys above heights elements

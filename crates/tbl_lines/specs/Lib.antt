@@ -9,4 +9,4 @@ pub mod RowsLent
 pub mod RowsAlone
 pub mod RulePlaces
 pub mod RulesAlone
-pub mod PiecesApart
+pub mod CutEntries

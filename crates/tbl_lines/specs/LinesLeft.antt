@@ -1,9 +1,9 @@
 -- The lines of a table's picture, by what is left of the cells that stand on them (Lesk, "Tbl": Formatting).
-use Rattle.std.specs.Prelude.{ℕ, zero, suc, nat_lt, ◌+◌, ◌-◌, max, Bool, true, false, not, ◌&&◌, ◌||◌, ◌==◌, List, [], ◌∷◌, ◌++◌, drop, get_or, length, map, replicate, take, Option, None, Some, is_some, if◌then◌else◌}
+use Rattle.std.specs.Prelude.{ℕ, zero, suc, nat_lt, ◌+◌, ◌-◌, max, min, Bool, true, false, not, ◌&&◌, ◌||◌, ◌==◌, List, [], ◌∷◌, ◌++◌, drop, get_or, length, map, replicate, take, Option, None, Some, is_some, if◌then◌else◌}
 use Rattle.tbl_format.specs.Cells.{cell_behind}
-use Rattle.tbl_layout.specs.Columns.{bar_place, bars_begin, bars_end, place_in, place_of_rule, stands, widest_entry}
+use Rattle.tbl_layout.specs.Columns.{bar_place, bars_begin, bars_end, passes, place_in, place_of_rule, stands, widest_entry}
 use Rattle.tbl_layout.specs.DataLines.{is_same_sign, sign_byte}
-use Rattle.tbl_layout.specs.Entries.{Content, Repeated, Ruled, Run, Short, lines_of_field}
+use Rattle.tbl_layout.specs.Entries.{Content, Repeated, Ruled, Run, Short, columns_of, line_within, lines_of_field}
 use Rattle.tbl_layout.specs.LayoutLaws.{first_start, last_end}
 use Rattle.tbl_layout.specs.Spans.{as_one, cells_of}
 use Rattle.tbl_layout.specs.Widths.{edge_bars, inner_bars}
@@ -13,6 +13,7 @@ use Rattle.tbl_layout.specs.declared.data_lines.RuleSign.{RuleSign}
 use Rattle.tbl_layout.specs.declared.data_lines.RuleSign.TheVariants.{Single}
 use Rattle.tbl_options.specs.declared.options.Boxing.{Boxing}
 use Rattle.tbl_lines.specs.CellsLeft.{Left, goes_on}
+use Rattle.tbl_lines.specs.RowsLeft.{first_of}
 use Rattle.tbl_lines.specs.PictureLines.{Cell, OfKeys, RuleLine, Sheet, Whole, bar, bars_among, crossed_at, crossing, joint, line_of, nothing_there, one_run, repeated, sign_over, with_fronts}
 
 -- the rule that a cell shows on the line that comes, if it does; and the one that two cells beside each other both show
@@ -31,15 +32,24 @@ same_sign (Some sign) (Some next) = if is_same_sign sign next then Some sign els
 abbrev pub joined_here : Left → Left → Option RuleSign
 joined_here c d = same_sign (rule_here c) (rule_here d)
 
--- what a cell shows on a line: where, and whether it is a text, whose cell has come over so many rows
+-- what a cell shows on a line: where, and whether it is a text, whose cell has come over so many rows; and of which cell it is, if it runs
+-- on beyond its columns
 pub record Shown : Type 0 where
   pub at : ℕ
   pub runs : List Run
   pub is_text : Bool
   pub rows : ℕ
+  pub runs_on : Option Left
 
 abbrev pub drawn_at : ℕ → ℕ → ℕ → Shown
-drawn_at at b count = record { at = at; runs = repeated b count ∷ []; is_text = false; rows = 0 }
+drawn_at at b count = record { at = at; runs = repeated b count ∷ []; is_text = false; rows = 0; runs_on = None }
+
+-- whether what stands in a cell has no width and would pass an end of its columns: then it begins at their first place
+abbrev pub runs_on : Left → Column → Bool
+runs_on own c = own.key.has_no_width && (own.lead == 0 && passes c own.key.key (stands own.key.key own.field))
+
+abbrev pub place_of_text : Left → Column → ℕ
+place_of_text own c = if runs_on own c then 0 else place_in c own.key.key (stands own.key.key own.field)
 
 abbrev pub if_here : Left → Shown → Shown
 if_here c s = if c.lead == 0 then s else record s { runs = [] }
@@ -50,10 +60,11 @@ shown_by (Ruled sign) own c end = if_here own (drawn_at c.start (sign_byte sign)
 shown_by Short own c end = if_here own (drawn_at (c.start + place_of_rule c own.key.key) (sign_byte Single) (widest_entry c.needs))
 shown_by (Repeated b) own c end = if_here own (drawn_at c.start b c.width)
 shown_by field own c end = record {
-  at = c.start + place_in c own.key.key (stands own.key.key field);
+  at = c.start + place_of_text own c;
   runs = if own.lead == 0 then get_or (lines_of_field own.key.key field) own.gone [] else [];
   is_text = true;
   rows = own.rows;
+  runs_on = if runs_on own c then Some own else None;
 }
 
 abbrev pub shown : Left → Column → ℕ → Shown
@@ -71,12 +82,54 @@ abbrev pub in_order : List Shown → List Shown → List Shown
 in_order done [] = done
 in_order done (s ∷ others) = in_order (put s done) others
 
+-- where the next bar or rule stands on a line, behind what is shown by some of its cells: at its end none does
+abbrev pub is_there : List Run → Bool
+is_there runs = nat_lt 0 (columns_of runs)
+
+abbrev pub next_drawn : ℕ → List Cell → List Shown → ℕ
+next_drawn end [] [] = end
+next_drawn end (f ∷ fronts) [] = if is_there (first_of f) then f.at else end
+next_drawn end [] (s ∷ cells) = if not s.is_text && is_there s.runs then s.at else next_drawn end [] cells
+next_drawn end (f ∷ fronts) (s ∷ cells) =
+    if is_there (first_of f) then f.at else if not s.is_text && is_there s.runs then s.at else next_drawn end fronts cells
+
+-- what runs on ends in front of that, and of the column behind which its cell says
+abbrev pub end_of_columns : Sheet → ℕ → ℕ
+end_of_columns s column = get_or (map (λ c. c.start) s.columns) column s.width
+
+abbrev pub room_by : Sheet → ℕ → ℕ → Left → ℕ
+room_by s drawn at own = min drawn (end_of_columns s own.stop) - at
+
+-- and of what passes its room as much is shown as fits
+abbrev pub cut_to : ℕ → Left → Shown → Shown
+cut_to room own c =
+    if nat_lt room (columns_of c.runs) then record c { runs = line_within room own.key.key own.field own.gone } else c
+
+abbrev pub if_runs_on : Option Left → Sheet → ℕ → Shown → Shown
+if_runs_on None s drawn c = c
+if_runs_on (Some own) s drawn c = cut_to (room_by s drawn c.at own) own c
+
+abbrev pub all_cut : Sheet → List Cell → List Shown → List Shown
+all_cut s fronts [] = []
+all_cut s fronts (c ∷ cells) =
+    if_runs_on c.runs_on s (next_drawn s.width (drop 1 fronts) cells) c ∷ all_cut s (drop 1 fronts) cells
+
+-- the cells of which it was more
+abbrev pub if_cut : Option Left → Sheet → ℕ → Shown → List Left
+if_cut None s drawn c = []
+if_cut (Some own) s drawn c = if nat_lt (room_by s drawn c.at own) (columns_of c.runs) then own ∷ [] else []
+
+abbrev pub cut_cells : Sheet → List Cell → List Shown → List Left
+cut_cells s fronts [] = []
+cut_cells s fronts (c ∷ cells) =
+    if_cut c.runs_on s (next_drawn s.width (drop 1 fronts) cells) c ++ cut_cells s (drop 1 fronts) cells
+
 -- a line: what stands in front of each cell, and behind the last, and what the cells show
 abbrev pub shown_cell : Shown → Cell
 shown_cell s = record { at = s.at; lines = s.runs ∷ []; below = [] }
 
-abbrev pub line_by : List Cell → List Shown → List ℕ
-line_by fronts cells = line_of 0 (with_fronts fronts (map shown_cell (in_order [] cells)))
+abbrev pub line_by : Sheet → List Cell → List Shown → List ℕ
+line_by s fronts cells = line_of 0 (with_fronts fronts (map shown_cell (in_order [] (all_cut s fronts cells))))
 
 -- The lines of a row.
 
@@ -127,7 +180,13 @@ row_fronts s last cells columns =
 -- a line of a row whose cells are left so, with so many bars behind the last
 abbrev pub row_line : Sheet → ℕ → List Left → List ℕ
 row_line s last cells =
-    let columns = cells_of (map (λ c. c.key) cells) s.columns in line_by (row_fronts s last cells columns) (row_shown s.bars.boxing cells columns)
+    let columns = cells_of (map (λ c. c.key) cells) s.columns in line_by s (row_fronts s last cells columns) (row_shown s.bars.boxing cells columns)
+
+-- and the cells of which something is cut on it
+abbrev pub row_cut : Sheet → ℕ → List Left → List Left
+row_cut s last cells =
+    let columns = cells_of (map (λ c. c.key) cells) s.columns in
+    cut_cells s (row_fronts s last cells columns) (row_shown s.bars.boxing cells columns)
 
 -- Lines of rules, through which cells of the row below go that go on from the row above.
 
@@ -284,16 +343,31 @@ all_shown line all column from to (c ∷ d ∷ columns) =
     over_shown line column (over_at all column) from (c.start + c.width)
     ++ all_shown line all (suc column) (bars_end c d) to (d ∷ columns)
 
--- a line of rules in front of a row of which these cells go on: at an edge that it rules it begins and ends with the picture's bars
-abbrev pub rule_line_left : Sheet → RuleLine → List Left → Beside → Beside → List ℕ
-rule_line_left s line cells above below =
+-- what stands between the columns on a line of rules in front of a row of which these cells go on, with the edges of the picture, and what is
+-- shown over them: at an edge that it rules it begins and ends with the picture's bars
+abbrev pub rule_fronts : Sheet → RuleLine → List Left → Beside → Beside → List Cell
+rule_fronts s line cells above below =
     let count = length s.columns in
     let all = overs 0 cells s.columns in
     let left = bars_met s.bars count line all above below 0 in
     let right = bars_met s.bars count line all above below count in
-    let rules_left = rules_edge line (over_at all 0) in
-    let rules_right = rules_edge line (over_at all (count - 1)) in
-    let from = if rules_left then left else first_start left s.columns in
-    let to = if rules_right then s.width - right else last_end 0 s.columns in
-    line_by (edge rules_left 0 left ∷ fronts_between s line all above below 0 s.columns ++ edge rules_right (s.width - right) right ∷ [])
-    (all_shown line all 0 from to s.columns)
+    edge (rules_edge line (over_at all 0)) 0 left
+    ∷ fronts_between s line all above below 0 s.columns
+    ++ edge (rules_edge line (over_at all (count - 1))) (s.width - right) right ∷ []
+
+abbrev pub rule_shown : Sheet → RuleLine → List Left → Beside → Beside → List Shown
+rule_shown s line cells above below =
+    let count = length s.columns in
+    let all = overs 0 cells s.columns in
+    let left = bars_met s.bars count line all above below 0 in
+    let right = bars_met s.bars count line all above below count in
+    let from = if rules_edge line (over_at all 0) then left else first_start left s.columns in
+    let to = if rules_edge line (over_at all (count - 1)) then s.width - right else last_end 0 s.columns in
+    all_shown line all 0 from to s.columns
+
+-- the line, and the cells of which something is cut on it
+abbrev pub rule_line_left : Sheet → RuleLine → List Left → Beside → Beside → List ℕ
+rule_line_left s line cells above below = line_by s (rule_fronts s line cells above below) (rule_shown s line cells above below)
+
+abbrev pub rule_cut : Sheet → RuleLine → List Left → Beside → Beside → List Left
+rule_cut s line cells above below = cut_cells s (rule_fronts s line cells above below) (rule_shown s line cells above below)

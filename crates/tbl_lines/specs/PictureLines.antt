@@ -163,14 +163,15 @@ row_cells s format fields =
 abbrev pub height : List Cell → ℕ
 height cells = max 1 (greatest (map (λ c. length c.lines) cells))
 
--- a text that begins at a column of the page, behind what ends at a place: blanks stand between; and where it ends, if there is one
+-- a text that begins at a column of the page, behind what ends at a place: blanks stand between; and where it ends, if there is one. It
+-- begins where the place is reached, if that is further on
 abbrev pub at_column : ℕ → ℕ → List Run → List Run
 at_column at place [] = []
 at_column at place (run ∷ runs) = blanks (at - place) ∷ run ∷ runs
 
 abbrev pub end_of : ℕ → ℕ → List Run → ℕ
 end_of at place [] = place
-end_of at place (run ∷ runs) = at + columns_of (run ∷ runs)
+end_of at place (run ∷ runs) = max at place + columns_of (run ∷ runs)
 
 -- what stands on a line of some cells, from a place on
 abbrev pub written : ℕ → ℕ → List Cell → List Run

@@ -3,7 +3,7 @@ use Rattle.std.specs.Prelude.{◌≡◌, ℕ, zero, suc, false, List, [], ◌∷
 use Rattle.std.specs.List.{AllByRecursion}
 use Rattle.tbl_format.specs.FormatRows.{AreWithin}
 use Rattle.tbl_format.specs.declared.format.FormatKey.{FormatKey}
-use Rattle.tbl_layout.specs.Entries.{Block, Command, Content, Element, Row, Rule, Text, field_at}
+use Rattle.tbl_layout.specs.Entries.{Block, Command, Content, Element, Row, Rule, Text, field_at, is_entry}
 use Rattle.tbl_layout.specs.declared.columns.Column.{Column}
 use Rattle.tbl_lines.specs.CellsLeft.{Left, own_field}
 use Rattle.tbl_lines.specs.RulePlaces.{HasPlaces}
@@ -21,12 +21,31 @@ gone_behind line field = 0
 
 -- a cell under a key behind so many lines
 abbrev pub alone_at : ℕ → FormatKey → Content → Left
-alone_at line k field = record { key = k; field = field_behind line field; lead = 0; gone = gone_behind line field; rows = 0 }
+alone_at line k field = record {
+  key = k;
+  field = field_behind line field;
+  lead = 0;
+  gone = gone_behind line field;
+  rows = 0;
+  is_used = is_entry field;
+  stop = 0;
+  is_cut = false;
+}
 
 -- and those under these keys, the first of which has a cell with a number
 abbrev pub alone_from : ℕ → ℕ → List FormatKey → List Content → List Left
 alone_from line cell [] fields = []
 alone_from line cell (k ∷ keys) fields = alone_at line k (field_at fields cell) ∷ alone_from line (suc cell) keys fields
+
+-- keys without the letter `z`: what stands under them has a width
+abbrev pub HaveWidth : List FormatKey → Type 0
+HaveWidth keys = AllByRecursion (λ k. k.has_no_width ≡ false) keys
+
+abbrev pub AllHaveWidth : List Element → Type 0
+AllHaveWidth [] = ⊤
+AllHaveWidth (Row rules format fields ∷ elements) = HaveWidth format.keys × AllHaveWidth elements
+AllHaveWidth (Rule sign ∷ elements) = AllHaveWidth elements
+AllHaveWidth (Command bytes ∷ elements) = AllHaveWidth elements
 
 -- the cells of the rows of a table have no more columns than it
 abbrev pub AllWithin : ℕ → List Element → Type 0

@@ -1,5 +1,5 @@
 -- What is left of a row of a table's picture, as it is walked: of each field its lines that were not given.
-use Rattle.std.specs.Prelude.{ℕ, zero, suc, nat_lt, ◌+◌, ◌-◌, min, Bool, true, false, List, [], ◌∷◌, ◌++◌, drop, get_or, length, map, Option, None, Some, if◌then◌else◌, ◌==◌}
+use Rattle.std.specs.Prelude.{ℕ, zero, suc, nat_lt, ◌+◌, ◌-◌, max, min, Bool, true, false, List, [], ◌∷◌, ◌++◌, drop, get_or, length, map, Option, None, Some, if◌then◌else◌, ◌==◌}
 use Rattle.std.specs.List.{slice_range, flat_map}
 use Rattle.tbl_format.specs.Format.{FormatRow}
 use Rattle.tbl_format.specs.declared.format.FormatKey.{FormatKey}
@@ -201,15 +201,15 @@ given count place [] = []
 given count place (c ∷ cells) =
     given_of count (at_column c.at place (first_of c)) ++ given (one_less count) (end_of c.at place (first_of c)) cells
 
--- a word of a block whose line is so wide with it, what stands behind it on the line, and what is given behind that: the other
--- columns, with what stands in front of them
-abbrev pub word_given : List ℕ → ℕ → List Cell → ℕ → BlockWord → ℕ → BlockPlace → List RowColumn → List ℕ
-word_given bytes line fronts count w width behind [] = []
-word_given bytes line fronts count w width behind (r ∷ columns) =
+-- a word of a block whose line is so wide with it and begins behind what ends at a place, what stands behind it on the line, and what is
+-- given behind that: the other columns, with what stands in front of them
+abbrev pub word_given : List ℕ → ℕ → List Cell → ℕ → ℕ → BlockWord → ℕ → BlockPlace → List RowColumn → List ℕ
+word_given bytes line fronts count place w width behind [] = []
+word_given bytes line fronts count place w width behind (r ∷ columns) =
     let block = block_text bytes r.entry in
     let words = rest_of_line (measure_by r.entry.kind) width (parts_at block behind) in
     given_of count (run_of_word (word_at block w) ∷ further_words words)
-    ++ given (one_less count) (begins_at r + width_behind width words) (with_fronts fronts (map (cell_left bytes line) columns))
+    ++ given (one_less count) (max (begins_at r) place + width_behind width words) (with_fronts fronts (map (cell_left bytes line) columns))
 
 -- bytes that are given where columns are left up to the line's last glyph
 abbrev pub if_given : ℕ → List ℕ → List ℕ

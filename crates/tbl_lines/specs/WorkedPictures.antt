@@ -1,6 +1,6 @@
 -- The pictures of small tables, by the lines of their data.
 use Rattle.std.specs.Prelude.{ℕ, true, false, not, List, [], ◌∷◌, length, map, Option, ◌==◌}
-use Rattle.tbl_format.specs.Format.{FormatRow, nothing_asked}
+use Rattle.tbl_format.specs.Format.{FormatRow, nothing_asked, plain_key}
 use Rattle.tbl_format.specs.declared.format.Asked.{Asked}
 use Rattle.tbl_format.specs.declared.format.FormatKey.{FormatKey}
 use Rattle.tbl_format.specs.declared.format.Key.{Key}
@@ -15,6 +15,7 @@ use Rattle.tbl_layout.specs.RulesWorked.{row_of}
 use Rattle.tbl_layout.specs.Spans.{filled, laid}
 use Rattle.tbl_layout.specs.declared.bars.Bars.{Bars}
 use Rattle.tbl_layout.specs.Heights.{heights}
+use Rattle.tbl_lines.specs.CutEntries.{cut_entries}
 use Rattle.tbl_lines.specs.PictureLeft.{picture_left}
 use Rattle.tbl_layout.specs.declared.columns.Column.{Column}
 use Rattle.tbl_layout.specs.declared.data_lines.RuleSign.{RuleSign}
@@ -142,6 +143,18 @@ lines_left_of bars asked elements =
 abbrev pub tall_lines : Boxing → List ℕ → List Element → List ℕ
 tall_lines boxing bars elements =
     lines_left_of (record { boxing = boxing; front = 0; has_any = true }) (map (λ n. record nothing_asked { bars = n }) bars) elements
+
+-- how many of its entries are cut
+abbrev pub cut_in : Boxing → List ℕ → List Element → ℕ
+cut_in boxing bars elements =
+    let all = map (λ n. record nothing_asked { bars = n }) bars in
+    let own : Bars = record { boxing = boxing; front = 0; has_any = true } in
+    let table = laid own false 65 all elements in
+    cut_entries (record { bars = own; width = table.width; columns = table.columns }) (filled own 65 all elements)
+
+-- a key whose entries have no width
+abbrev pub free_key : ℕ → Key → ℕ → FormatKey
+free_key bars key column = record (plain_key bars key column) { has_no_width = true }
 
 -- a column that begins at a place, is so wide and has so many bars behind it
 abbrev pub column_from : ℕ → ℕ → ℕ → Column

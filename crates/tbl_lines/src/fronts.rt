@@ -34,6 +34,8 @@ pub enum Front {
 }
 
 /// What stands in front of a cell, or behind the last.
+// It is called for each cell of a picture with bars.
+#[inline(always)]
 pub fn front_at(row: &RowLent<'_>, at: usize) -> Front
     requires within { at < length (row_fronts_of (lent_row row.now)) }
     requires lies { LiesInColumns row.now }
@@ -51,6 +53,8 @@ pub fn front_at(row: &RowLent<'_>, at: usize) -> Front
 }
 
 /// What the keys of a row say that stands in front of a cell, or behind the last.
+// It is called for each cell of a picture with bars.
+#[inline(always)]
 fn front_by_keys(row: &RowLent<'_>, at: usize) -> Front
     requires within { at < length (fronts_by row.now.bars row.now.width (lent_format row.now)
         (lent_columns row.now) (lent_entries row.now)) }
@@ -77,6 +81,8 @@ fn front_by_keys(row: &RowLent<'_>, at: usize) -> Front
 }
 
 /// So many bars at an edge, which begin at a column of the page.
+// It is called for each cell of a picture with bars.
+#[inline(always)]
 fn edge_front(place: usize, bars: u8) -> Front
     ensures cell { cell_of_front result ≡ bars_at place bars }
     ensures some { HasBars result }
@@ -89,6 +95,8 @@ fn edge_front(place: usize, bars: u8) -> Front
 }
 
 /// So many bars between a cell and the next, which rules of this sign may cross.
+// It is called for each cell of a picture with bars.
+#[inline(always)]
 fn between(bars: u8, joined: Option<RuleSign>, column: Column, next: Column) -> Front
     requires { IsNarrow column }
     ensures cell { cell_of_front result ≡ bars_by joined bars column next }

@@ -10,9 +10,10 @@ ghost use Rattle.tbl_layout.specs.RuleKeys.{is_rule_row};
 ghost use Rattle.tbl_layout.specs.declared.columns.Column.{Column};
 ghost use Rattle.tbl_lines.specs.CellsLeft.{Left, all_keys, bars_at_end, behind_line};
 ghost use Rattle.tbl_lines.specs.CellsLeft.{cells_from, lines_over};
+ghost use Rattle.tbl_lines.specs.CutEntries.{FewAreCut};
 ghost use Rattle.tbl_lines.specs.PictureLeft.{row_lines};
 ghost use Rattle.tbl_lines.specs.PictureLines.{Sheet, lines_from, row_cells};
-ghost use Rattle.tbl_lines.specs.RowsAlone.{alone_from};
+ghost use Rattle.tbl_lines.specs.RowsAlone.{HaveWidth, alone_from};
 ghost use Rattle.tbl_lines.specs.PictureLines.{OfKeys, places_mark, sign_in_front, sign_over};
 ghost use Rattle.tbl_layout.specs.LayoutLaws.{StandInOrder};
 ghost use Rattle.tbl_layout.specs.declared.data_lines.RuleSign.{RuleSign};
@@ -43,8 +44,8 @@ pub fn behind_alone()
 /// The lines of such a row are those of its cells.
 pub fn row_alone()
     ensures { (s : Sheet) (format : FormatRow) (fields : List Content)
-        → AreWithin (length s.columns) format.keys → 0 < length s.columns → (lines line : ℕ)
-        → row_lines s (bars_at_end (length s.columns) format) lines
+        → AreWithin (length s.columns) format.keys → 0 < length s.columns → HaveWidth format.keys
+        → (lines line : ℕ) → row_lines s (bars_at_end (length s.columns) format) lines
         (alone_from line 0 (all_keys (length s.columns) format) fields)
         ≡ lines_from line lines (row_cells s format fields) }
 {}
@@ -91,4 +92,9 @@ pub fn whole_alike()
     ensures { (boxing : Boxing) (count : ℕ) (sign : RuleSign) (cells : List Left)
         (columns : List Column) (behind : Beside) → NoneGoOn cells
         → ShownAlike boxing count (OfRules (Whole sign) (overs 0 cells columns) behind) NoRow }
+{}
+
+/// No more entries are cut in a picture than texts stand in its table.
+pub fn few_cut()
+    ensures { FewAreCut }
 {}

@@ -4,7 +4,6 @@
 
 pub mod fronts;
 pub mod laws;
-pub mod piece_laws;
 pub mod plain_tables;
 pub mod row_columns;
 pub mod row_lent;
@@ -12,5 +11,6 @@ pub mod worked_bars;
 pub mod worked_boxes;
 pub mod worked_rule_keys;
 pub mod worked_rules;
+pub mod worked_running;
 pub mod worked_spans;
 pub mod worked_tall;

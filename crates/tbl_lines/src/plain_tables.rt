@@ -10,14 +10,14 @@ ghost use Rattle.tbl_layout.specs.Heights.{NoneAbove};
 ghost use Rattle.tbl_layout.specs.LayoutLaws.{StandInOrder};
 ghost use Rattle.tbl_lines.specs.PictureLeft.{table_lines};
 ghost use Rattle.tbl_lines.specs.PictureLines.{Sheet, picture_lines};
-ghost use Rattle.tbl_lines.specs.RowsAlone.{AllPlaced, AllWithin};
+ghost use Rattle.tbl_lines.specs.RowsAlone.{AllHaveWidth, AllPlaced, AllWithin};
 ghost use Rattle.tbl_lines.specs.RulePlaces.{HavePlaces};
 
-/// Where no cell of a table goes on with one above it, its lines are those of its rows, each by
-/// itself.
+/// Where no cell of a table goes on with one above it, and each has a width, its lines are those of
+/// its rows, each by itself.
 pub fn plain_table()
     ensures { (s : Sheet) (elements : List Element) → AllByRecursion NoneAbove elements
-        → 0 < length s.columns → AllWithin (length s.columns) elements
+        → 0 < length s.columns → AllWithin (length s.columns) elements → AllHaveWidth elements
         → StandInOrder s.bars s.width s.columns → AllPlaced s.bars.front s.columns elements
         → table_lines s elements ≡ picture_lines s elements }
 {}
@@ -26,6 +26,7 @@ pub fn plain_table()
 pub fn plain_kept()
     ensures { (bytes : List ℕ) (formats : List FormatRow) (s : Sheet) (elements : List KeptElement)
         → AllByRecursion NoneAbove (elements_of bytes formats elements)
+        → AllHaveWidth (elements_of bytes formats elements)
         → AllByRecursion (ElementLaid bytes formats (length s.columns)) elements
         → 0 < length s.columns → HavePlaces formats s
         → table_lines s (elements_of bytes formats elements)

@@ -2,10 +2,10 @@
 use Rattle.std.specs.Prelude.{ℕ, ◌≤◌, List, map, slice_range, take}
 use Rattle.std.specs.List.{AllByRecursion}
 use Rattle.tbl_options.specs.declared.message.Message.{Message}
-use Rattle.tbl_options.specs.declared.message.Message.TheVariants.{BadFormat as BadFormatMessage, LeftOut as LeftOutMessage, NotMeasured as NotMeasuredMessage, OptionIgnored as OptionIgnoredMessage, RequestInTextBlock as RequestInTextBlockMessage, TooManyFields as TooManyFieldsMessage}
+use Rattle.tbl_options.specs.declared.message.Message.TheVariants.{BadFormat as BadFormatMessage, EntryCut as EntryCutMessage, LeftOut as LeftOutMessage, NotMeasured as NotMeasuredMessage, OptionIgnored as OptionIgnoredMessage, RequestInTextBlock as RequestInTextBlockMessage, TooManyFields as TooManyFieldsMessage}
 use Rattle.tbl_options.specs.declared.message.Told.{Told}
 use Rattle.tbl_options.specs.declared.notes.Cause.{Cause}
-use Rattle.tbl_options.specs.declared.notes.Cause.TheVariants.{BadFormat, LeftOut, NotMeasured, OptionIgnored, RequestInTextBlock, TooManyFields}
+use Rattle.tbl_options.specs.declared.notes.Cause.TheVariants.{BadFormat, EntryCut, LeftOut, NotMeasured, OptionIgnored, RequestInTextBlock, TooManyFields}
 use Rattle.tbl_options.specs.declared.notes.KeptNote.{KeptNote}
 
 -- the message of an option that is ignored has 32 bytes of it at the most
@@ -24,10 +24,15 @@ message_of block (OptionIgnored from to) = ignored_message (slice_range block fr
 message_of block (LeftOut letter) = left_out_message letter
 message_of block (NotMeasured b) = NotMeasuredMessage b
 message_of block RequestInTextBlock = RequestInTextBlockMessage
+message_of block EntryCut = EntryCutMessage
 
 -- what is left out, as it is kept
 abbrev pub left_out_note : ℕ → ℕ → KeptNote
 left_out_note line letter = record { line = line; cause = LeftOut letter }
+
+-- an entry that is cut
+abbrev pub cut_note : ℕ → KeptNote
+cut_note line = record { line = line; cause = EntryCut }
 
 -- a message that names a line
 abbrev pub told_at : ℕ → Message → Told
@@ -47,6 +52,7 @@ IsWithin len (OptionIgnored from to) = (from ≤ to) × (to ≤ len)
 IsWithin len (LeftOut letter) = Unit {0}
 IsWithin len (NotMeasured b) = Unit {0}
 IsWithin len RequestInTextBlock = Unit {0}
+IsWithin len EntryCut = Unit {0}
 
 abbrev pub NotesWithin : ℕ → List KeptNote → Type 0
 NotesWithin len notes = AllByRecursion (λ note. IsWithin len note.cause) notes

@@ -22,6 +22,8 @@ pub enum Cause {
     NotMeasured(u8),
     /// A request in a text block.
     RequestInTextBlock,
+    /// An entry that is cut.
+    EntryCut,
 }
 
 /// A message that is kept.
@@ -53,6 +55,7 @@ impl KeptNote {
                 Cause::LeftOut(letter) => Message::LeftOut(letter),
                 Cause::NotMeasured(byte) => Message::NotMeasured(byte),
                 Cause::RequestInTextBlock => Message::RequestInTextBlock,
+                Cause::EntryCut => Message::EntryCut,
             },
         }
     }

@@ -9,7 +9,7 @@ use Rattle.tbl_lines.specs.PictureLines.{Cell, with_fronts}
 use Rattle.tbl_pieces.specs.PieceQueue.{Adds, KeptPieces}
 use Rattle.tbl_lines.specs.RowsLeft.{behind_first, block_text, cell_left, given, one_less, row_columns, then_fronts}
 use Rattle.tbl_lines.specs.RowsWalked.{LastHasGlyph, PlacesLie, StandsInFirst, StandsNext, front_count, most_steps, steps_of_cells, steps_of_columns}
-use Rattle.tbl_picture.specs.Walks.{AtColumn, InLine, IsOn, IsUnderWay, KeptWalk, OnLine, RowSteps, WalkedRow, row_fronts_of, at_word, cells_in_front, cells_left, columns_left, columns_walked, fields_left, fields_now, fronts_of, further_lines, next_column, passed, row_left, row_steps, steps_of_rest}
+use Rattle.tbl_picture.specs.Walks.{AtColumn, InLine, IsNear, IsOn, IsUnderWay, KeptWalk, OnLine, RowSteps, WalkedRow, row_fronts_of, at_word, cells_in_front, cells_left, columns_left, columns_walked, fields_left, fields_now, fronts_of, further_lines, next_column, passed, row_left, row_steps, steps_of_rest}
 use Rattle.tbl_lines.specs.declared.row_columns.RowColumn.{RowColumn}
 use Rattle.tbl_picture.specs.Nexts.{AtCell, AtFront, AtWord, Next}
 use Rattle.tbl_pieces.proofs.Adding.{adds-fitting}
@@ -134,13 +134,14 @@ module _ (row : WalkedRow) (w : KeptWalk) (r : RowColumn) (at : AtColumn row w r
       ∙ ap (λ (n : ℕ). take n cells) (sym (length-push w.behind p))
 
   -- the walk is on this line behind it
-  on-passed : (p : BlockPlace) (reached : ℕ) → IsWithin (block_text row.bytes r.entry) p
+  on-passed : (p : BlockPlace) (reached : ℕ) → IsNear (one_less w.count) reached → IsWithin (block_text row.bytes r.entry) p
       → cell_left row.bytes (suc w.line) (record r { place = p }) ≡ behind_first (cell_left row.bytes w.line r)
       → OnLine row (passed row.bars.has_any p reached w)
-  on-passed p reached within moved =
+  on-passed p reached near within moved =
       let b = at.line.on.before in
       record {
         before = record { line = b.line; short = b.short; room = b.room; narrow = b.narrow; lie = b.lie; fronts = b.fronts; places = b.places };
+        near = near;
         column = omega (arith, few-behind, length-push w.behind p);
         places = subst (λ (n : ℕ). PlacesLie row.bytes (take n row.entries) (w.behind ++ p ∷ [])) (sym (length-push w.behind p))
             (places-push row.bytes row.entries w.behind p r.entry (drop (suc (length w.behind)) row.entries) at.entries within at.line.on.places);
@@ -210,13 +211,13 @@ module _ (row : WalkedRow) (w : KeptWalk) (r : RowColumn) (at : AtColumn row w r
 
   -- a step that passes it
   pub steps-passed : (frame : List ℕ) (before after : KeptPieces) (p : BlockPlace) (reached : ℕ) (added : List ℕ)
-      → Adds row.bytes frame 4 before after added → IsWithin (block_text row.bytes r.entry) p
+      → Adds row.bytes frame 4 before after added → IsNear (one_less w.count) reached → IsWithin (block_text row.bytes r.entry) p
       → cell_left row.bytes (suc w.line) (record r { place = p }) ≡ behind_first (cell_left row.bytes w.line r)
       → row_left w.next row w ≡ (added ++ given (one_less w.count) reached cells_behind) ++ further_lines row w
       → steps_behind < row_steps w.next row w
       → RowSteps frame row w (passed row.bars.has_any p reached w) before after
-  steps-passed frame before after p reached added adds within moved left less =
-      let next = next-passed row.bars.has_any p reached refl (on-passed p reached within moved) in
+  steps-passed frame before after p reached added adds near within moved left less =
+      let next = next-passed row.bars.has_any p reached refl (on-passed p reached near within moved) in
       record {
         added = added;
         adds = adds-fitting row.bytes frame before after added adds;
@@ -242,16 +243,16 @@ module _ (row : WalkedRow) (w : KeptWalk) (r : RowColumn) (at : AtColumn row w r
 
   -- a step that passes it from the cell's beginning
   pub cell-passed : (frame : List ℕ) (before after : KeptPieces) (p : BlockPlace) (reached : ℕ) (added : List ℕ) → w.next ≡ AtCell
-      → Adds row.bytes frame 4 before after added → IsWithin (block_text row.bytes r.entry) p
+      → Adds row.bytes frame 4 before after added → IsNear (one_less w.count) reached → IsWithin (block_text row.bytes r.entry) p
       → cell_left row.bytes (suc w.line) (record r { place = p }) ≡ behind_first (cell_left row.bytes w.line r)
       → given w.count w.place (cell_left row.bytes w.line r ∷ cells_behind) ≡ added ++ given (one_less w.count) reached cells_behind
       → RowSteps frame row w (passed row.bars.has_any p reached w) before after
-  cell-passed frame before after p reached added next adds within moved split =
+  cell-passed frame before after p reached added next adds near within moved split =
       let left : row_left w.next row w ≡ (added ++ given (one_less w.count) reached cells_behind) ++ further_lines row w =
       ap (λ (n : Next). row_left n row w) next
       ∙ ap (λ (cells : List Cell). given w.count w.place cells ++ further_lines row w) cells-first
       ∙ ap (λ (bytes : List ℕ). bytes ++ further_lines row w) split in
-      steps-passed frame before after p reached added adds within moved left (omega (arith, steps-cell next))
+      steps-passed frame before after p reached added adds near within moved left (omega (arith, steps-cell next))
 
   -- a step that comes to a word
   pub steps-word : (frame : List ℕ) (before after : KeptPieces) (word : BlockWord) (width : ℕ) (p : BlockPlace) (added : List ℕ)
@@ -271,6 +272,7 @@ module _ (row : WalkedRow) (w : KeptWalk) (r : RowColumn) (at : AtColumn row w r
           line = record {
             on = record {
               before = record { line = b.line; short = b.short; room = b.room; narrow = b.narrow; lie = b.lie; fronts = b.fronts; places = b.places };
+              near = l.near;
               column = l.column;
               places = l.places;
               moved = l.moved;

@@ -127,8 +127,8 @@ module _ (bytes frame : List ℕ) (formats : List FormatRow) (rows : KeptRows) (
         subst (λ (k : KeptWalk). Steps bytes frame formats rows w k before after) (sym walk) (rule-given none adds)
 
   -- a row comes next
-  module _ (keys rules height : ℕ) (is_tall : Bool) (entries : List Entry) (elements : List KeptElement)
-      (at : drop w.element rows.elements ≡ Row keys rules height is_tall entries ∷ elements) where
+  module _ (keys rules height : ℕ) (entries : List Entry) (elements : List KeptElement)
+      (at : drop w.element rows.elements ≡ Row keys rules height entries ∷ elements) where
     abbrev pub stand : List Entry
     stand = all_entries (row_at formats keys) entries
 
@@ -142,14 +142,14 @@ module _ (bytes frame : List ℕ) (formats : List FormatRow) (rows : KeptRows) (
     pub row-starts : (place : ℕ) (text : List ℕ) (above : Neighbour) → AddsFitting bytes frame before after text
         → still_to_come bytes formats rows w
         ≡ text ++ lines_behind (sheet_of rows w) above (OneRow [] (row_at formats keys) fields ∷ boxed_from w.bars.boxing true behind)
-        → steps_before_row bytes formats rows (Row keys rules height is_tall entries ∷ elements) < steps_left bytes formats rows w
+        → steps_before_row bytes formats rows (Row keys rules height entries ∷ elements) < steps_left bytes formats rows w
         → Steps bytes frame formats rows w (row_begun stand (record w { place = place })) before after
     row-starts place text above adds lines fewer =
         let new = row_begun stand (record w { place = place }) in
         let row = walked bytes formats w.bars w.picture_width rows.columns keys height entries in
         let cells = row_cells (sheet_of rows w) (row_at formats keys) fields in
-        let laid = row-laid bytes frame formats rows w can before after within keys rules height is_tall entries elements at in
-        let plain = row-plain bytes frame formats rows w can before after within keys rules height is_tall entries elements at in
+        let laid = row-laid bytes frame formats rows w can before after within keys rules height entries elements at in
+        let plain = row-plain bytes frame formats rows w can before after within keys rules height entries elements at in
         let high : row_height cells ≡ height =
         row-high bytes formats w.bars w.picture_width rows.columns keys rules height entries laid plain in
         let front = lines_from 0 (row_height cells) cells in
@@ -198,12 +198,12 @@ module _ (bytes frame : List ℕ) (formats : List FormatRow) (rows : KeptRows) (
     rules-come new next some c =
         let first = keys - rules in
         let left = rules - 1 in
-        let all = Row keys rules height is_tall entries ∷ elements in
+        let all = Row keys rules height entries ∷ elements in
         let s = sheet_of rows w in
         let above = line_beside bytes formats false rows.elements w.above in
         let rule = c.rule in
         let come : KeptWalk = record w { next = AtRuleRow rule } in
-        let laid = row-laid bytes frame formats rows w can before after within keys rules height is_tall entries elements at in
+        let laid = row-laid bytes frame formats rows w can before after within keys rules height entries elements at in
         let within_rows : first < length formats = omega (arith, laid.serves, laid.in_front, some) in
         let rules_is : rules ≡ suc left = omega (arith, some) in
         let none : first - first ≡ 0 = omega arith in
@@ -236,10 +236,10 @@ module _ (bytes frame : List ℕ) (formats : List FormatRow) (rows : KeptRows) (
         subst (λ (k : KeptWalk). Steps bytes frame formats rows w k before before) (sym c.walk)
         (gives bytes frame formats rows w before before within come []
         (adds-fitting bytes frame before before [] (adds-fewer bytes frame 0 4 before before [] (omega arith) (adds-none bytes frame before)))
-        (old_lines ∙ from-keys bytes formats s keys rules height is_tall entries elements above first left within_rows ∙ sym new_lines)
+        (old_lines ∙ from-keys bytes formats s keys rules height entries elements above first left within_rows ∙ sym new_lines)
         (omega (
           arith,
-          ap length (old_lines ∙ from-keys bytes formats s keys rules height is_tall entries elements above first left within_rows),
+          ap length (old_lines ∙ from-keys bytes formats s keys rules height entries elements above first left within_rows),
           length-append (rule_line s (OfKeys (row_at formats first)) above
               (behind_rules (rows_at formats (suc first) left) (line_of_first bytes formats true all)))
               (lines_with_rules bytes formats s (OfRules (row_at formats first) above) (rows_at formats (suc first) left) all),

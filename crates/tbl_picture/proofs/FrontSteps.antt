@@ -13,10 +13,11 @@ use Rattle.tbl_pieces.specs.PieceQueue.{Adds, KeptPieces}
 use Rattle.tbl_lines.specs.RowsLeft.{cell_left, cell_of_front, first_of, from_line, given, given_of, if_given, one_less, then_fronts}
 use Rattle.tbl_lines.specs.declared.fronts.Front.TheVariants.{Ruled as RuledFront}
 use Rattle.tbl_lines.specs.RowsWalked.{HasGlyph, LastHasGlyph, front_count, most_steps, steps_of_cells, steps_of_columns}
-use Rattle.tbl_picture.specs.Walks.{FrontStands, InFront, IsOn, IsUnderWay, KeptWalk, OnLine, RowSteps, WalkedRow, cells_in_front, cells_left, columns_left, columns_walked, fields_left, fronts_of, row_fronts_of, front_passed, further_lines, next_behind, row_left, row_steps, steps_of_rest}
+use Rattle.tbl_picture.specs.Walks.{FrontStands, InFront, IsNear, IsOn, IsUnderWay, KeptWalk, OnLine, RowSteps, WalkedRow, cells_in_front, cells_left, columns_left, columns_walked, fields_left, fronts_of, row_fronts_of, front_passed, further_lines, reached_by, next_behind, row_left, row_steps, steps_of_rest}
 use Rattle.tbl_picture.specs.Nexts.{AtCell, AtFront, Next}
 use Rattle.tbl_pieces.proofs.Adding.{adds-fewer, adds-fitting, adds-none}
 use Rattle.tbl_lines.proofs.CellsGiven.{none-given, repeated-last, run-given}
+use Rattle.tbl_picture.proofs.PlaceReached.{given-reached, near-less}
 use Rattle.tbl_picture.proofs.ColumnSteps.{steps-cells}
 use Rattle.tbl_lines.proofs.FrontCells.{any-front, count-fronts}
 use Rattle.tbl_lines.proofs.RowColumns.{drop-none, length-places, length-row_columns, map-at}
@@ -80,12 +81,13 @@ module _ (row : WalkedRow) (w : KeptWalk) (at : ℕ) (f : Cell) (stands : FrontS
         length-row_columns row.bars.boxing row.format row.bytes 0 row.columns row.entries w.places b.short b.places,
       )
 
-  on-front : OnLine row new_walk
-  on-front =
+  on-front : IsNear (one_less w.count) reached → OnLine row new_walk
+  on-front near =
       let o = stands.front.on in
       let b = o.before in
       record {
         before = record { line = b.line; short = b.short; room = b.room; narrow = b.narrow; lie = b.lie; fronts = b.fronts; places = b.places };
+        near = near;
         column = o.column;
         places = o.places;
         moved = o.moved;
@@ -104,12 +106,12 @@ module _ (row : WalkedRow) (w : KeptWalk) (at : ℕ) (f : Cell) (stands : FrontS
   given_behind cells = given (one_less w.count) reached cells ++ further_lines row w
 
   -- where a column comes next, and where none does any more
-  cell-behind : cells_left row new_walk ≡ behind_now
+  cell-behind : IsNear (one_less w.count) reached → cells_left row new_walk ≡ behind_now
       → (steps_of_cells (most_steps row.bytes) (front_count row.columns - suc (length w.behind)) (drop (length w.behind) row.entries)
       < front_count row.columns - at + steps_of_columns (most_steps row.bytes) (drop (length w.behind) row.entries))
       → Behind AtCell
-  cell-behind same less = record {
-    can = record { on = on-front; last = subst (LastHasGlyph (one_less w.count)) (sym same) last-front };
+  cell-behind near same less = record {
+    can = record { on = on-front near; last = subst (LastHasGlyph (one_less w.count)) (sym same) last-front };
     on = tt;
     left = ap given_behind same;
     less = omega (arith, less);
@@ -119,12 +121,12 @@ module _ (row : WalkedRow) (w : KeptWalk) (at : ℕ) (f : Cell) (stands : FrontS
   many-places : length w.places ≡ length row.entries
   many-places = length-places row.bytes row.entries w.places stands.front.on.before.places
 
-  next-by : (t u : Bool) → nat_lt (length w.behind) (length w.places) ≡ t → nat_lt at (max 1 (length row.columns)) ≡ u
+  next-by : (t u : Bool) → IsNear (one_less w.count) reached → nat_lt (length w.behind) (length w.places) ≡ t → nat_lt at (max 1 (length row.columns)) ≡ u
       → Behind (next_behind t u at)
-  next-by true u is_field is =
+  next-by true u near is_field is =
       let few : length w.behind < length row.entries = omega (arith, many-places, ltb-true (length w.behind) (length w.places) is_field) in
       let same : suc at ≡ suc (length w.behind) = ap suc (stands.front.first few) in
-      cell-behind
+      cell-behind near
       (then-some (drop (suc (length w.behind)) (fronts_of row w.line)) (fields_left row w) (omega (arith, many-left, few))
       ∙ ap (λ (n : ℕ). behind_front (drop n (fronts_of row w.line)) (fields_left row w)) (sym same))
       (omega (
@@ -134,7 +136,7 @@ module _ (row : WalkedRow) (w : KeptWalk) (at : ℕ) (f : Cell) (stands : FrontS
         all-fronts,
         steps-cells (most_steps row.bytes) (front_count row.columns - suc (length w.behind)) (drop (length w.behind) row.entries),
       ))
-  next-by false true is_field is =
+  next-by false true near is_field is =
       let past : length row.entries ≤ length w.behind = omega (arith, many-places, ltb-false (length w.behind) (length w.places) is_field) in
       let inner = ltb-true at (max 1 (length row.columns)) is in
       let none : fields_left row w ≡ [] = none-long (fields_left row w) (omega (arith, many-left, past)) in
@@ -146,7 +148,7 @@ module _ (row : WalkedRow) (w : KeptWalk) (at : ℕ) (f : Cell) (stands : FrontS
       ∙ sym (ap (behind_front fronts) none) in
       record {
         can = record {
-          on = on-front;
+          on = on-front near;
           within = omega (arith, inner, all-fronts);
           first = λ few. absurd (omega (arith, few, past));
           last = subst (LastHasGlyph (one_less w.count)) (sym same) last-front;
@@ -155,7 +157,7 @@ module _ (row : WalkedRow) (w : KeptWalk) (at : ℕ) (f : Cell) (stands : FrontS
         left = ap given_behind same;
         less = omega (arith, inner);
       }
-  next-by false false is_field is =
+  next-by false false near is_field is =
       let past : length row.entries ≤ length w.behind = omega (arith, many-places, ltb-false (length w.behind) (length w.places) is_field) in
       let edge = ltb-false at (max 1 (length row.columns)) is in
       let all = row_fronts_of row in
@@ -164,7 +166,7 @@ module _ (row : WalkedRow) (w : KeptWalk) (at : ℕ) (f : Cell) (stands : FrontS
       let no_front : drop (suc at) (fronts_of row w.line) ≡ [] =
       drop_all (suc at) (fronts_of row w.line) (omega (arith, edge, all-fronts, length-map all (from_line w.line))) in
       let most = most_steps row.bytes in
-      cell-behind
+      cell-behind near
       (ap (then_fronts (drop (suc (length w.behind)) (fronts_of row w.line))) none
       ∙ sym (ap (λ (fronts : List Cell). behind_front fronts (fields_left row w)) no_front ∙ ap (behind_front []) none))
       (omega (
@@ -177,11 +179,11 @@ module _ (row : WalkedRow) (w : KeptWalk) (at : ℕ) (f : Cell) (stands : FrontS
 
   -- a step that gives it
   pub front-passed : (frame : List ℕ) (before after : KeptPieces) (added : List ℕ) → w.next ≡ AtFront at
-      → Adds row.bytes frame 4 before after added
+      → IsNear (one_less w.count) reached → Adds row.bytes frame 4 before after added
       → given w.count w.place (front_now ∷ behind_now) ≡ added ++ given (one_less w.count) reached behind_now
       → RowSteps frame row w new_walk before after
-  front-passed frame before after added next adds split =
-      let behind = next-by (nat_lt (length w.behind) (length w.places)) (nat_lt at (max 1 (length row.columns))) refl refl in
+  front-passed frame before after added next near adds split =
+      let behind = next-by (nat_lt (length w.behind) (length w.places)) (nat_lt at (max 1 (length row.columns))) near refl refl in
       record {
         added = added;
         adds = adds-fitting row.bytes frame before after added adds;
@@ -280,63 +282,68 @@ ruled-three count j n k sign =
 module _ (row : WalkedRow) (w : KeptWalk) (at : ℕ) (next : w.next ≡ AtFront at) (frame : List ℕ) where
   -- some bars
   pub bars-steps : (n : ℕ) (before after : KeptPieces) (place gap reached : ℕ) → 0 < n → FrontStands row at (bars_at place n) w
-      → gap ≡ place - w.place → reached ≡ place + n
+      → gap ≡ place - w.place → reached ≡ reached_by w.count w.place place n → IsNear (one_less w.count) reached
       → Adds row.bytes frame 4 before after (if_given w.count (replicate gap blank) ++ if_given w.count (replicate n bar))
       → RowSteps frame row w (front_passed row at reached w) before after
-  bars-steps zero before after place gap reached some stands gap_is reached_is adds = absurd (omega (arith, some))
-  bars-steps (suc m) before after place gap reached some stands gap_is reached_is adds =
+  bars-steps zero before after place gap reached some stands gap_is reached_is near adds = absurd (omega (arith, some))
+  bars-steps (suc m) before after place gap reached some stands gap_is reached_is near adds =
       let f = bars_at place (suc m) in
       let run = repeated bar (suc m) in
       let behind = behind_now row w at f stands reached in
       let first = bar-first w.line place m in
       let has : HasGlyph (run ∷ []) = omega arith in
       let text = if_given w.count (replicate (suc m) bar) in
-      front-passed row w at f stands reached frame before after (if_given w.count (replicate gap blank) ++ text) next adds
+      front-passed row w at f stands reached frame before after (if_given w.count (replicate gap blank) ++ text) next near adds
       (run-given w.count w.place (from_line w.line f) run behind first (λ _. subst HasGlyph (sym first) has)
-      ∙ ap (λ (last : List ℕ). (if_given w.count (replicate (place - w.place) blank) ++ last) ++ given (one_less w.count) (place + suc m) behind)
+      ∙ ap (λ (last : List ℕ). (if_given w.count (replicate (place - w.place) blank) ++ last) ++ given (one_less w.count) (max place w.place + suc m) behind)
       (repeated-last w.count bar (suc m) (λ _. has))
-      ∙ ap (λ (n : ℕ). (if_given w.count (replicate n blank) ++ text) ++ given (one_less w.count) (place + suc m) behind) (sym gap_is)
+      ∙ ap (λ (n : ℕ). (if_given w.count (replicate n blank) ++ text) ++ given (one_less w.count) (max place w.place + suc m) behind) (sym gap_is)
+      ∙ ap (λ (bytes : List ℕ). (if_given w.count (replicate gap blank) ++ text) ++ bytes) (given-reached w.count w.place place (suc m) behind)
       ∙ ap (λ (n : ℕ). (if_given w.count (replicate gap blank) ++ text) ++ given (one_less w.count) n behind) (sym reached_is))
 
   -- nothing
   pub nothing-steps : (pieces : KeptPieces) → FrontStands row at nothing_there w → RowSteps frame row w (front_passed row at w.place w) pieces pieces
   nothing-steps pieces stands =
-      front-passed row w at nothing_there stands w.place frame pieces pieces [] next
+      front-passed row w at nothing_there stands w.place frame pieces pieces [] next (near-less w.count w.place stands.front.on.near)
       (adds-fewer row.bytes frame 0 4 pieces pieces [] (omega arith) (adds-none row.bytes frame pieces))
       (none-given w.count w.place (from_line w.line nothing_there) (behind_now row w at nothing_there stands w.place) (nothing-first w.line))
 
   -- bars that are crossed
   pub crossing-steps : (n : ℕ) (before after : KeptPieces) (place end gap rest reached : ℕ) (sign : RuleSign) → 0 < n
       → FrontStands row at (crossed_at place n sign end) w → w.line ≡ 0
-      → gap ≡ place - w.place → rest ≡ end - (place + n) → reached ≡ place + (n + rest)
+      → gap ≡ place - w.place → rest ≡ end - (place + n) → reached ≡ reached_by w.count w.place place (n + rest)
+      → IsNear (one_less w.count) reached
       → Adds row.bytes frame 4 before after
       (if_given w.count (replicate gap blank) ++ (if_given w.count (replicate n crossing) ++ if_given w.count (replicate rest (sign_byte sign))))
       → RowSteps frame row w (front_passed row at reached w) before after
-  crossing-steps zero before after place end gap rest reached sign some stands line gap_is rest_is reached_is adds =
+  crossing-steps zero before after place end gap rest reached sign some stands line gap_is rest_is reached_is near adds =
       absurd (omega (arith, some))
-  crossing-steps (suc m) before after place end gap rest reached sign some stands line gap_is rest_is reached_is adds =
+  crossing-steps (suc m) before after place end gap rest reached sign some stands line gap_is rest_is reached_is near adds =
       let f = crossed_at place (suc m) sign end in
       let behind = behind_now row w at f stands reached in
       let runs : ℕ → List Run = λ n. repeated crossing (suc m) ∷ repeated (sign_byte sign) n ∷ [] in
       let more = if_given w.count (replicate (suc m) crossing) ++ if_given w.count (replicate rest (sign_byte sign)) in
       let g : List Run → List ℕ = λ text. given_of w.count (at_column place w.place text) ++ given (one_less w.count) (end_of place w.place text) behind in
-      let wide : place + columns_of (runs rest) ≡ reached = omega (arith, reached_is) in
-      front-passed row w at f stands reached frame before after (if_given w.count (replicate gap blank) ++ more) next adds
+      let wide : max place w.place + columns_of (runs rest) ≡ max place w.place + (suc m + rest) = omega arith in
+      front-passed row w at f stands reached frame before after (if_given w.count (replicate gap blank) ++ more) next near adds
       (ap (λ (n : ℕ). g (first_of (from_line n f))) line
       ∙ ap (λ (n : ℕ). g (runs n)) (sym rest_is)
-      ∙ ap (λ (n : ℕ). given_of w.count (blanks n ∷ runs rest) ++ given (one_less w.count) (place + columns_of (runs rest)) behind) (sym gap_is)
-      ∙ ap (λ (front : List ℕ). front ++ given (one_less w.count) (place + columns_of (runs rest)) behind) (crossing-given w.count gap m rest sign)
-      ∙ ap (λ (n : ℕ). (if_given w.count (replicate gap blank) ++ more) ++ given (one_less w.count) n behind) wide)
+      ∙ ap (λ (n : ℕ). given_of w.count (blanks n ∷ runs rest) ++ given (one_less w.count) (max place w.place + columns_of (runs rest)) behind) (sym gap_is)
+      ∙ ap (λ (front : List ℕ). front ++ given (one_less w.count) (max place w.place + columns_of (runs rest)) behind) (crossing-given w.count gap m rest sign)
+      ∙ ap (λ (n : ℕ). (if_given w.count (replicate gap blank) ++ more) ++ given (one_less w.count) n behind) wide
+      ∙ ap (λ (bytes : List ℕ). (if_given w.count (replicate gap blank) ++ more) ++ bytes)
+      (given-reached w.count w.place place (suc m + rest) behind ∙ ap (λ (n : ℕ). given (one_less w.count) n behind) (sym reached_is)))
 
   -- a rule that bars cross
   pub ruled-steps : (n : ℕ) (before after : KeptPieces) (from place end gap front rest reached : ℕ) (sign : RuleSign)
       → FrontStands row at (cell_of_front (RuledFront from sign place n end)) w
-      → gap ≡ from - w.place → front ≡ place - from → rest ≡ end - (place + n) → reached ≡ from + (front + n + rest)
+      → gap ≡ from - w.place → front ≡ place - from → rest ≡ end - (place + n)
+      → reached ≡ reached_by w.count w.place from (front + n + rest) → IsNear (one_less w.count) reached
       → Adds row.bytes frame 4 before after
       (if_given w.count (replicate gap blank) ++ (if_given w.count (replicate front (sign_byte sign))
       ++ (if_given w.count (replicate n crossing) ++ if_given w.count (replicate rest (sign_byte sign)))))
       → RowSteps frame row w (front_passed row at reached w) before after
-  ruled-steps n before after from place end gap front rest reached sign stands gap_is front_is rest_is reached_is adds =
+  ruled-steps n before after from place end gap front rest reached sign stands gap_is front_is rest_is reached_is near adds =
       let f = cell_of_front (RuledFront from sign place n end) in
       let now = from_line w.line f in
       let behind = behind_now row w at f stands reached in
@@ -352,10 +359,12 @@ module _ (row : WalkedRow) (w : KeptWalk) (at : ℕ) (next : w.next ≡ AtFront 
       ++ (if_given w.count (replicate n crossing) ++ if_given w.count (replicate rest (sign_byte sign))) in
       let g : List Run → List ℕ = λ text. given_of w.count (at_column from w.place text) ++ given (one_less w.count) (end_of from w.place text) behind in
       let last : ℕ → List ℕ = λ reached. given (one_less w.count) reached behind in
-      let wide : from + columns_of all ≡ reached = omega (arith, reached_is) in
-      front-passed row w at f stands reached frame before after (if_given w.count (replicate gap blank) ++ text) next adds
+      let wide : max from w.place + columns_of all ≡ max from w.place + (front + n + rest) = omega arith in
+      front-passed row w at f stands reached frame before after (if_given w.count (replicate gap blank) ++ text) next near adds
       (ap g first
-      ∙ ap (λ (k : ℕ). given_of w.count (blanks k ∷ all) ++ last (from + columns_of all)) (sym gap_is)
-      ∙ ap (λ (front : List ℕ). front ++ last (from + columns_of all))
+      ∙ ap (λ (k : ℕ). given_of w.count (blanks k ∷ all) ++ last (max from w.place + columns_of all)) (sym gap_is)
+      ∙ ap (λ (front : List ℕ). front ++ last (max from w.place + columns_of all))
       (given-before w.count (blanks gap) all has ∙ ap (λ (more : List ℕ). if_given w.count (replicate gap blank) ++ more) (ruled-three w.count front n rest sign))
-      ∙ ap (λ (k : ℕ). (if_given w.count (replicate gap blank) ++ text) ++ last k) wide)
+      ∙ ap (λ (k : ℕ). (if_given w.count (replicate gap blank) ++ text) ++ last k) wide
+      ∙ ap (λ (bytes : List ℕ). (if_given w.count (replicate gap blank) ++ text) ++ bytes)
+      (given-reached w.count w.place from (front + n + rest) behind ∙ ap last (sym reached_is)))

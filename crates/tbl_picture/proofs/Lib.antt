@@ -1,3 +1,4 @@
+pub mod PlaceReached
 pub mod CellSteps
 pub mod FrontSteps
 pub mod ColumnSteps

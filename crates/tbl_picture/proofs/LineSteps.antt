@@ -1,5 +1,5 @@
 -- What a step does that begins or ends a line of a row.
-use Rattle.std.proofs.Common.{◌≡◌, ◌≢◌, ℕ, suc, ◌+◌, ◌-◌, ◌≤◌, Bool, true, false, List, [], ◌∷◌, ◌++◌, length, take, drop, map, refl, sym, ap, subst, ◌∙◌, arith, append_assoc, codes}
+use Rattle.std.proofs.Common.{◌≡◌, ◌≢◌, ℕ, suc, ◌+◌, ◌-◌, ◌<◌, ◌≤◌, Bool, true, false, List, [], ◌∷◌, ◌++◌, length, take, drop, map, refl, sym, ap, subst, ◌∙◌, arith, append_assoc, codes}
 use Rattle.std.specs.Prelude.{nat_eq}
 use Rattle.std.proofs.lemmas.Bool.{eqb-true, eqb-false}
 use Rattle.std.proofs.lemmas.List.{drop_all, length-map, take_all}
@@ -8,25 +8,45 @@ use Rattle.tbl_layout.specs.Entries.{up_to_last_glyph}
 use Rattle.tbl_layout.specs.declared.entry.Entry.{Entry}
 use Rattle.tbl_lines.specs.PictureLines.{Cell, lines_from, with_fronts, written}
 use Rattle.tbl_pieces.specs.PieceQueue.{Adds, KeptPieces}
-use Rattle.tbl_lines.specs.RowsLeft.{behind_first, cell_left, given, row_columns, then_fronts}
+use Rattle.tbl_lines.specs.RowsLeft.{behind_first, cell_left, from_line, given, row_columns, then_fronts}
 use Rattle.tbl_lines.specs.RowsWalked.{AreGlyphless, LastHasGlyph, PlacesLie, front_count, most_steps, steps_of_cells, steps_of_columns}
-use Rattle.tbl_picture.specs.Walks.{BeforeLine, InLine, IsOn, IsUnderWay, KeptWalk, OnLine, RowEndsOrGoesOn, RowSteps, WalkedRow, row_fronts_of, cells_left, cells_now, columns_left, columns_walked, fields_now, fronts_of, further_lines, line_cells, next_column, row_left, row_steps, steps_of_rest}
+use Rattle.tbl_picture.specs.Walks.{BeforeLine, HasFronts, InLine, IsNear, IsOn, IsUnderWay, KeptWalk, OnLine, RowEndsOrGoesOn, RowSteps, WalkedRow, row_fronts_of, cells_left, cells_now, columns_left, columns_walked, fields_now, fronts_of, further_lines, line_cells, next_column, row_left, row_steps, steps_of_rest}
 use Rattle.tbl_lines.specs.declared.row_columns.RowColumn.{RowColumn}
 use Rattle.tbl_picture.specs.Nexts.{AtCell, AtFront, AtLine, Next}
 use Rattle.tbl_pieces.proofs.Adding.{adds-fitting}
 use Rattle.tbl_picture.proofs.ColumnSteps.{steps-cells, then-none}
-use Rattle.tbl_lines.proofs.FrontCells.{count-fronts, fronts-next, map-fronts, no-fronts}
+use Rattle.tbl_picture.proofs.PlaceReached.{near-begun}
+use Rattle.tbl_lines.proofs.FrontCells.{count-fronts, fronts-next, length-fronts, map-fronts, no-fronts}
 use Rattle.tbl_lines.proofs.RowColumns.{length-row_columns, none-left}
 use Rattle.tbl_lines.proofs.RunsGiven.{line-given, lines-behind}
+
+-- how many cells there are at the most, with what stands in front of them
+few-by : (t : Bool) (row : WalkedRow) (line : ℕ) → row.bars.has_any ≡ t → HasFronts row → length (fronts_of row line) ≤ front_count row.columns
+few-by false row line none has = omega (arith, ap length (no-fronts row line none))
+few-by true row line any has = omega (arith, length-map (row_fronts_of row) (from_line line), count-fronts row has any)
+
+few-cells : (row : WalkedRow) (w : KeptWalk) → BeforeLine row w → length row.columns < 4294967296
+    → length (cells_now row w) ≤ 4611686018427387904
+few-cells row w b small =
+    omega (
+      arith,
+      small,
+      b.short,
+      length-fronts (fronts_of row w.line) (fields_now row w),
+      few-by row.bars.has_any row w.line refl b.fronts,
+      length-map (columns_walked row w) (cell_left row.bytes w.line),
+      length-row_columns row.bars.boxing row.format row.bytes 0 row.columns row.entries w.places b.short b.places,
+    )
 
 -- a line begins, of which so many cells are given
 abbrev pub line_begun : Bool → ℕ → KeptWalk → KeptWalk
 line_begun has_bars count w = record w { count = count; place = 0; next = next_column has_bars 0; behind = [] }
 
-module _ (row : WalkedRow) (w : KeptWalk) (count : ℕ) (b : BeforeLine row w) (last : LastHasGlyph count (cells_now row w)) where
+module _ (row : WalkedRow) (w : KeptWalk) (count : ℕ) (b : BeforeLine row w) (near : IsNear count 0) (last : LastHasGlyph count (cells_now row w)) where
   on-begun : OnLine row (line_begun row.bars.has_any count w)
   on-begun = record {
     before = record { line = b.line; short = b.short; room = b.room; narrow = b.narrow; lie = b.lie; fronts = b.fronts; places = b.places };
+    near = near;
     column = omega arith;
     places = tt;
     moved = ap (map (cell_left row.bytes (suc w.line))) (none-left row.bars.boxing row.format 0 row.columns row.entries);
@@ -71,17 +91,18 @@ module _ (row : WalkedRow) (w : KeptWalk) (count : ℕ) (b : BeforeLine row w) (
   next-begun true is = boxed-begun is
 
 module _ (row : WalkedRow) (w : KeptWalk) (frame : List ℕ) (before after : KeptPieces) where
-  pub begun-line : (count : ℕ) → w.next ≡ AtLine → BeforeLine row w → count ≤ length (cells_now row w)
+  pub begun-line : (count : ℕ) → w.next ≡ AtLine → BeforeLine row w → length row.columns < 4294967296 → count ≤ length (cells_now row w)
       → LastHasGlyph count (cells_now row w) → AreGlyphless (drop count (cells_now row w))
       → Adds row.bytes frame 4 before after (codes "\\&")
       → RowSteps frame row w (line_begun row.bars.has_any count w) before after
-  begun-line count next b many last none adds =
+  begun-line count next b small many last none adds =
       let cells = cells_now row w in
       let n = row.height - suc w.line in
       let more : row.height - w.line ≡ suc n = omega (arith, b.line) in
       let line = up_to_last_glyph (written 0 0 cells) in
       let rest = lines_from 0 n (map behind_first cells) in
-      let begun = next-begun row w count b last row.bars.has_any refl in
+      let near = near-begun count (length cells) many (few-cells row w b small) in
+      let begun = next-begun row w count b near last row.bars.has_any refl in
       let old_steps : row_steps w.next row w
       ≡ suc (front_count row.columns + steps_of_columns (most_steps row.bytes) row.entries) + steps_of_rest row n =
       ap (λ (x : Next). row_steps x row w) next ∙ ap (steps_of_rest row) more in

@@ -107,12 +107,12 @@ pub front-some : (n : ℕ) → 0 < length (keys_front n)
 front-some n = omega (arith, length-append (codes "\\&") (replicate n bar))
 
 -- what is to come from rows of rule keys on in front of a row
-module _ (bytes : List ℕ) (formats : List FormatRow) (s : Sheet) (keys rules height : ℕ) (is_tall : Bool) (entries : List Entry) (elements : List KeptElement) where
+module _ (bytes : List ℕ) (formats : List FormatRow) (s : Sheet) (keys rules height : ℕ) (entries : List Entry) (elements : List KeptElement) where
   pub from-keys : (above : Neighbour) (row left : ℕ) → row < length formats
-      → lines_with_rules bytes formats s above (rows_at formats row (suc left)) (Row keys rules height is_tall entries ∷ elements)
+      → lines_with_rules bytes formats s above (rows_at formats row (suc left)) (Row keys rules height entries ∷ elements)
       ≡ rule_line s (OfKeys (row_at formats row)) above
-      (behind_rules (rows_at formats (suc row) left) (line_of_first bytes formats true (Row keys rules height is_tall entries ∷ elements)))
-      ++ lines_with_rules bytes formats s (OfRules (row_at formats row) above) (rows_at formats (suc row) left) (Row keys rules height is_tall entries ∷ elements)
+      (behind_rules (rows_at formats (suc row) left) (line_of_first bytes formats true (Row keys rules height entries ∷ elements)))
+      ++ lines_with_rules bytes formats s (OfRules (row_at formats row) above) (rows_at formats (suc row) left) (Row keys rules height entries ∷ elements)
   from-keys above row left within =
       let format = row_at formats keys in
       let fields = fields_of bytes format entries in

@@ -153,10 +153,10 @@ module _ (bytes frame : List ℕ) (formats : List FormatRow) (rows : KeptRows) (
         (omega (arith, steps-at (Rule sign ∷ elements) at, ap (steps_on bytes formats rows) behind)) new r
 
     -- a row
-    module _ (keys rules height : ℕ) (is_tall : Bool) (entries : List Entry) (elements : List KeptElement)
-        (at : drop w.element rows.elements ≡ Row keys rules height is_tall entries ∷ elements) where
+    module _ (keys rules height : ℕ) (entries : List Entry) (elements : List KeptElement)
+        (at : drop w.element rows.elements ≡ Row keys rules height entries ∷ elements) where
       abbrev pub row-first : List KeptElement
-      row-first = Row keys rules height is_tall entries ∷ elements
+      row-first = Row keys rules height entries ∷ elements
 
       abbrev pub lines-with : List FormatRow → List ℕ
       lines-with rs =
@@ -194,7 +194,7 @@ module _ (bytes frame : List ℕ) (formats : List FormatRow) (rows : KeptRows) (
       row-begins none both =
           let format = row_at formats keys in
           let fields = fields_of bytes format entries in
-          row-starts bytes frame formats rows w can before before within keys rules height is_tall entries elements at w.place [] above
+          row-starts bytes frame formats rows w can before before within keys rules height entries elements at w.place [] above
           (adds-fitting bytes frame before before [] (adds-fewer bytes frame 0 4 before before [] (omega arith) (adds-none bytes frame before)))
           (lines-alone none
           ∙ ap (lines_behind sheet above) (boxed-row w.bars.boxing (is_row w.above) [] format fields (elements_of bytes formats elements) both))
@@ -204,7 +204,7 @@ module _ (bytes frame : List ℕ) (formats : List FormatRow) (rows : KeptRows) (
           → Steps bytes frame formats rows w new before after
       row-at-element new (RuleRowsCome some come pieces) =
           subst (λ (k : KeptPieces). Steps bytes frame formats rows w new before k) (sym pieces)
-          (rules-come bytes frame formats rows w can before after within keys rules height is_tall entries elements at new next some come)
+          (rules-come bytes frame formats rows w can before after within keys rules height entries elements at new next some come)
       row-at-element new (BehindRow none both r) = between-comes new none both r
       row-at-element new (RowBegin none both walk pieces) =
           subst (λ (k : KeptWalk). Steps bytes frame formats rows w k before after) (sym walk)

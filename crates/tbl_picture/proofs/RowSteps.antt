@@ -20,7 +20,7 @@ use Rattle.tbl_picture.specs.Nexts.{AtCell, AtElement, AtEnd, AtFront, AtLine, A
 use Rattle.tbl_format.proofs.CellColumns.{cells-few}
 use Rattle.tbl_layout.specs.KeptEntries.{all_entries}
 use Rattle.tbl_layout.specs.Spans.{cells_of}
-use Rattle.tbl_lines.proofs.AllLaid.{all-short}
+use Rattle.tbl_kept.proofs.AllLaid.{all-short}
 use Rattle.tbl_lines.proofs.CellsLent.{length-cells_of}
 use Rattle.tbl_lines.proofs.RowColumns.{drop-next, drop-none}
 use Rattle.tbl_picture.proofs.RowsOn.{some-on, steps-on}
@@ -40,7 +40,7 @@ within-drop n xs x rest is = omega (arith, length-drop n xs, ap length is)
 pub rows-served : (bytes : List ℕ) (formats : List FormatRow) (columns : ℕ) (elements : List KeptElement)
     → AllByRecursion (ElementLaid bytes formats columns) elements → AreServed formats elements
 rows-served bytes formats columns [] all = tt
-rows-served bytes formats columns (Row keys rules height is_tall entries ∷ elements) all =
+rows-served bytes formats columns (Row keys rules height entries ∷ elements) all =
     (record { serves = all.0.serves; in_front = all.0.in_front }, rows-served bytes formats columns elements all.1)
 rows-served bytes formats columns (Rule sign ∷ elements) all = (tt, rows-served bytes formats columns elements all.1)
 rows-served bytes formats columns (Command from to ∷ elements) all = (tt, rows-served bytes formats columns elements all.1)
@@ -77,7 +77,7 @@ stand-short bytes formats columns keys rules entries laid =
 fits-first : (bytes : List ℕ) (formats : List FormatRow) (columns room : ℕ) (elements : List KeptElement)
     → AllByRecursion (ElementLaid bytes formats columns) elements → columns ≤ room → FirstFits room formats elements
 fits-first bytes formats columns room [] all fits = tt
-fits-first bytes formats columns room (Row keys rules height is_tall entries ∷ elements) all fits =
+fits-first bytes formats columns room (Row keys rules height entries ∷ elements) all fits =
     omega (arith, stand-few bytes formats columns keys rules entries all.0, fits)
 fits-first bytes formats columns room (Rule sign ∷ elements) all fits = tt
 fits-first bytes formats columns room (Command from to ∷ elements) all fits = tt
@@ -144,7 +144,7 @@ under-on (AtWord word width place) row w under = tt
 module _ (bytes frame : List ℕ) (formats : List FormatRow) (rows : KeptRows) (w : KeptWalk) (can : CanWalk bytes formats rows w)
     (before after : KeptPieces) (within : AreWithin bytes frame before.pieces) where
   -- a row that is walked
-  module _ (keys rules height : ℕ) (is_tall : Bool) (entries : List Entry) (elements : List KeptElement) (at : drop w.element rows.elements ≡ Row keys rules height is_tall entries ∷ elements) where
+  module _ (keys rules height : ℕ) (entries : List Entry) (elements : List KeptElement) (at : drop w.element rows.elements ≡ Row keys rules height entries ∷ elements) where
     abbrev pub row : WalkedRow
     row = walked bytes formats w.bars w.picture_width rows.columns keys height entries
 
@@ -183,7 +183,7 @@ module _ (bytes frame : List ℕ) (formats : List FormatRow) (rows : KeptRows) (
     stands-within k same bars width on under =
         let left : Bars → ℕ → Type 0 = λ b n. IsUnderWay k.next (walked bytes formats b n rows.columns keys height entries) k in
         let there : left k.bars k.picture_width = subst (λ (b : Bars). left b k.picture_width) (sym bars) (subst (λ (n : ℕ). left w.bars n) (sym width) under) in
-        let first : drop k.element rows.elements ≡ Row keys rules height is_tall entries ∷ elements = ap (λ (n : ℕ). drop n rows.elements) same ∙ at in
+        let first : drop k.element rows.elements ≡ Row keys rules height entries ∷ elements = ap (λ (n : ℕ). drop n rows.elements) same ∙ at in
         stands-on bytes formats rows k (drop k.element rows.elements) k.next on (subst (IsInRow bytes formats rows k) (sym first) there)
 
     places-within : (k : KeptWalk) → k.bars ≡ w.bars → k.picture_width ≡ w.picture_width → HavePlaces formats (sheet_of rows k)
@@ -202,10 +202,10 @@ module _ (bytes frame : List ℕ) (formats : List FormatRow) (rows : KeptRows) (
 
     -- what is known of an element
     pub row-laid : RowLaid bytes formats (length rows.columns) keys rules entries
-    row-laid = all-at (ElementLaid bytes formats (length rows.columns)) w.element rows.elements (Row keys rules height is_tall entries) elements can.laid.elements at
+    row-laid = all-at (ElementLaid bytes formats (length rows.columns)) w.element rows.elements (Row keys rules height entries) elements can.laid.elements at
 
     pub row-plain : height ≡ height_of entries
-    row-plain = all-at IsPlain w.element rows.elements (Row keys rules height is_tall entries) elements can.plain at
+    row-plain = all-at IsPlain w.element rows.elements (Row keys rules height entries) elements can.plain at
 
     -- a step within the row
     row-goes-on : (new : KeptWalk) → IsUnderWay w.next row w → RowSteps frame row w new before after → Steps bytes frame formats rows w new before after
@@ -236,10 +236,10 @@ module _ (bytes frame : List ℕ) (formats : List FormatRow) (rows : KeptRows) (
     row-ends mid under s =
         let on = under-on w.next row w under in
         let new = gone_on true mid in
-        let first : drop mid.element rows.elements ≡ Row keys rules height is_tall entries ∷ elements = ap (λ (n : ℕ). drop n rows.elements) s.stays.element ∙ at in
+        let first : drop mid.element rows.elements ≡ Row keys rules height entries ∷ elements = ap (λ (n : ℕ). drop n rows.elements) s.stays.element ∙ at in
         let next_is : mid.element + 1 ≡ suc mid.element = omega arith in
         let there : drop (mid.element + 1) rows.elements ≡ elements =
-        ap (λ (n : ℕ). drop n rows.elements) next_is ∙ drop-next mid.element rows.elements (Row keys rules height is_tall entries) elements first in
+        ap (λ (n : ℕ). drop n rows.elements) next_is ∙ drop-next mid.element rows.elements (Row keys rules height entries) elements first in
         let left : Bars → ℕ → List ℕ = λ b n.
         lines_on (record { bars = b; width = n; columns = rows.columns }) true (OfRow (height == 1) (row_at formats keys) fields) (elements_of bytes formats elements) in
         let new_lines : still_to_come bytes formats rows new ≡ behind-row =
@@ -258,7 +258,7 @@ module _ (bytes frame : List ℕ) (formats : List FormatRow) (rows : KeptRows) (
           narrow = can.narrow;
           places = places-within mid s.stays.bars s.stays.width;
           room = omega (arith, can.room, s.stays.room);
-          element = omega (arith, within-drop mid.element rows.elements (Row keys rules height is_tall entries) elements first);
+          element = omega (arith, within-drop mid.element rows.elements (Row keys rules height entries) elements first);
           above = subst IsRowFirst (sym first) tt;
           next = tt;
         })

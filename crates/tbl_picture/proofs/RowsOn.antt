@@ -23,7 +23,7 @@ some-on (AtFront at) row w on can =
 some-on AtCell row w on can = omega (arith, length-append (given w.count w.place (cells_left row w)) (further_lines row w))
 some-on (AtWord word width place) row w on can =
     let fronts = drop (suc (length w.behind)) (fronts_of row w.line) in
-    let front = word_given row.bytes w.line fronts w.count word width place (columns_left row w) in
+    let front = word_given row.bytes w.line fronts w.count w.place word width place (columns_left row w) in
     omega (arith, length-append front (further_lines row w))
 
 some-columns : (most : ℕ) (entries : List Entry) → 0 < most → 0 < steps_of_columns most entries

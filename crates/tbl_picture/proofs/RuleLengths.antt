@@ -31,7 +31,7 @@ served-at formats elements rest e at all is = served-first formats (drop at elem
 -- the rows of rule keys in front of a row are those of its place
 rows-first : (formats : List FormatRow) (elements : List KeptElement) → rows_of formats (rules_first elements) ≡ rules_of_first formats elements
 rows-first formats [] = refl
-rows-first formats (Row keys rules height is_tall entries ∷ elements) = refl
+rows-first formats (Row keys rules height entries ∷ elements) = refl
 rows-first formats (Rule sign ∷ elements) = refl
 rows-first formats (Command from to ∷ elements) = refl
 

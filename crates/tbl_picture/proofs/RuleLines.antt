@@ -72,7 +72,7 @@ module _ (boxing : Boxing) (is_first : Bool) (format : FormatRow) (fields : List
 
 -- how many bars a line of a row that stands there shows behind a column, in front of a cell that isn't the first
 module _ (boxing : Boxing) (bytes : List ℕ) (formats : List FormatRow) (is_below : Bool) (elements : List KeptElement) (at keys rules height : ℕ)
-    (is_tall : Bool) (entries : List Entry) (rest : List KeptElement) (column : ℕ) (is : drop at elements ≡ Row keys rules height is_tall entries ∷ rest) where
+    (entries : List Entry) (rest : List KeptElement) (column : ℕ) (is : drop at elements ≡ Row keys rules height entries ∷ rest) where
   abbrev format : FormatRow
   format = row_at formats keys
 

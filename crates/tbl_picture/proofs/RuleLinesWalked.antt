@@ -143,16 +143,16 @@ module _ (bytes frame : List ℕ) (formats : List FormatRow) (rows : KeptRows) (
           refl
 
       -- of a row of rule keys, in front of a row
-      module _ (keys rules height : ℕ) (is_tall : Bool) (entries : List Entry) (elements : List KeptElement)
-          (at : drop w.element rows.elements ≡ Row keys rules height is_tall entries ∷ elements) (row : ℕ) where
+      module _ (keys rules height : ℕ) (entries : List Entry) (elements : List KeptElement)
+          (at : drop w.element rows.elements ≡ Row keys rules height entries ∷ elements) (row : ℕ) where
         abbrev pub row-first : List KeptElement
-        row-first = Row keys rules height is_tall entries ∷ elements
+        row-first = Row keys rules height entries ∷ elements
 
         last-ends : rule.line ≡ KeysBegun row 0
             → Steps bytes frame formats rows w (row_begun (all_entries (row_at formats keys) entries) (record w { place = place })) before after
         last-ends line =
             let above = above_by (KeysBegun row 0) bytes formats rows w row-first in
-            row-starts bytes frame formats rows w can before after within keys rules height is_tall entries elements at place line-left (OfRules (row_at formats row) above)
+            row-starts bytes frame formats rows w can before after within keys rules height entries elements at place line-left (OfRules (row_at formats row) above)
             (adds-fitting bytes frame before after line-left adds)
             (rule-lines-now
             ∙ ap (λ (l : LineBegun). line-left ++ behind_line_by l bytes formats rows w kept-behind) line
@@ -171,7 +171,7 @@ module _ (bytes frame : List ℕ) (formats : List FormatRow) (rows : KeptRows) (
             let s = sheet_of rows w in
             let above : ℕ → Neighbour = λ r. above_by (KeysBegun r 0) bytes formats rows w row-first in
             let come : KeptWalk = record w { place = place; next = AtRuleRow n.next } in
-            let laid = row-laid bytes frame formats rows w can before after within keys rules height is_tall entries elements at in
+            let laid = row-laid bytes frame formats rows w can before after within keys rules height entries elements at in
             let there : IsRuleOf formats row (suc left) row-first =
             (subst (λ (es : List KeptElement). StandsBelow (KeysBegun row (suc left)) rule.below.line formats w es) at
             (subst (λ (l : LineBegun). StandsBelow l rule.below.line formats w kept-behind) line rule-stands-now.lies.stands)).1 in
@@ -198,7 +198,7 @@ module _ (bytes frame : List ℕ) (formats : List FormatRow) (rows : KeptRows) (
             ∙ ap (λ (l : LineBegun). behind l kept-behind) line
             ∙ ap (λ (es : List KeptElement). behind (KeysBegun row (suc left)) es) at
             ∙ ap (λ (xs : List ℕ). line-left ++ xs)
-            (from-keys bytes formats s keys rules height is_tall entries elements (OfRules (row_at formats row) (above row)) (suc row) left within_rows ∙ sym new_lines))
+            (from-keys bytes formats s keys rules height entries elements (OfRules (row_at formats row) (above row)) (suc row) left within_rows ∙ sym new_lines))
             some-now
             (record {
               laid = can.laid;
@@ -235,11 +235,11 @@ module _ (bytes frame : List ℕ) (formats : List FormatRow) (rows : KeptRows) (
       keys-end [] row left at line stands e = absurd stands.1
       keys-end (Rule sign ∷ elements) row left at line stands e = absurd stands.1
       keys-end (Command from to ∷ elements) row left at line stands e = absurd stands.1
-      keys-end (Row keys rules height is_tall entries ∷ elements) row zero at line stands e =
+      keys-end (Row keys rules height entries ∷ elements) row zero at line stands e =
           let walk = subst (λ (es : List KeptElement). FirstBegins formats es (record w { place = place }) new) at e in
-          subst (λ (k : KeptWalk). Steps bytes frame formats rows w k before after) (sym walk) (last-ends keys rules height is_tall entries elements at row line)
-      keys-end (Row keys rules height is_tall entries ∷ elements) row (suc left) at line stands e =
-          next-comes keys rules height is_tall entries elements at row left line e
+          subst (λ (k : KeptWalk). Steps bytes frame formats rows w k before after) (sym walk) (last-ends keys rules height entries elements at row line)
+      keys-end (Row keys rules height entries ∷ elements) row (suc left) at line stands e =
+          next-comes keys rules height entries elements at row left line e
 
       line-ends : (line : LineBegun) → rule.line ≡ line → LineEnded line bytes formats rows rule (record w { place = place }) new
           → Steps bytes frame formats rows w new before after

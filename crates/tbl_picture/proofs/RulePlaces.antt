@@ -143,7 +143,7 @@ module _ (front : ℕ) (columns : List Column) where
 
     first-placed : (is_below : Bool) (elements : List KeptElement) → IsPlaced front columns (line_of_first bytes formats is_below elements)
     first-placed is_below [] = tt
-    first-placed is_below (Row keys rules height is_tall entries ∷ elements) = row-placed formats keys all
+    first-placed is_below (Row keys rules height entries ∷ elements) = row-placed formats keys all
     first-placed is_below (Rule sign ∷ elements) = tt
     first-placed is_below (Command from to ∷ elements) = tt
 
@@ -154,7 +154,7 @@ module _ (front : ℕ) (columns : List Column) where
 
     rules-placed : (elements : List KeptElement) → AllByRecursion (HasPlaces front columns) (rules_of_first formats elements)
     rules-placed [] = tt
-    rules-placed (Row keys rules height is_tall entries ∷ elements) = take-placed rules (drop (keys - rules) formats) (drop-placed (keys - rules) formats all)
+    rules-placed (Row keys rules height entries ∷ elements) = take-placed rules (drop (keys - rules) formats) (drop-placed (keys - rules) formats all)
     rules-placed (Rule sign ∷ elements) = tt
     rules-placed (Command from to ∷ elements) = tt
 

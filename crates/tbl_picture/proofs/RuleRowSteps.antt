@@ -79,10 +79,10 @@ module _ (bytes : List ℕ) (formats : List FormatRow) (rows : KeptRows) (w : Ke
       }
 
 -- rows of rule keys come next, in front of a row
-module _ (bytes : List ℕ) (formats : List FormatRow) (rows : KeptRows) (w : KeptWalk) (keys rules height : ℕ) (is_tall : Bool) (entries : List Entry)
-    (elements : List KeptElement) (at : drop w.element rows.elements ≡ Row keys rules height is_tall entries ∷ elements) (served : RowServed formats keys rules) where
+module _ (bytes : List ℕ) (formats : List FormatRow) (rows : KeptRows) (w : KeptWalk) (keys rules height : ℕ) (entries : List Entry)
+    (elements : List KeptElement) (at : drop w.element rows.elements ≡ Row keys rules height entries ∷ elements) (served : RowServed formats keys rules) where
   abbrev pub row-first : List KeptElement
-  row-first = Row keys rules height is_tall entries ∷ elements
+  row-first = Row keys rules height entries ∷ elements
 
   abbrev pub first_rule : (count left right : ℕ) → Option Lengths → RuleBegun
   first_rule count left right lengths = record {
@@ -253,11 +253,11 @@ module _ (bytes : List ℕ) (formats : List FormatRow) (rows : KeptRows) (w : Ke
       λ some. absurd (omega (arith, some, ap (λ (x : RuleRows). x.count) is))
   rules-come-by (Command from to ∷ elements) at r left right lengths narrow above is =
       λ some. absurd (omega (arith, some, ap (λ (x : RuleRows). x.count) is))
-  rules-come-by (Row keys rules height is_tall entries ∷ elements) at r left right lengths narrow above is =
+  rules-come-by (Row keys rules height entries ∷ elements) at r left right lengths narrow above is =
       subst (λ (x : RuleRows). RulesComeBy x left right lengths) (sym is)
       (λ some lengths_are last left_is right_is.
-      first-comes bytes formats rows w keys rules height is_tall entries elements at
-      (all-at (IsServed formats) w.element rows.elements (Row keys rules height is_tall entries) elements served at)
+      first-comes bytes formats rows w keys rules height entries elements at
+      (all-at (IsServed formats) w.element rows.elements (Row keys rules height entries) elements served at)
       (rules - 1) left right lengths (omega (arith, some)) narrow above lengths_are last left_is right_is)
 
   pub next-comes-by : (es : List KeptElement) → drop w.element rows.elements ≡ es → (rule next : RuleBegun) (row count : ℕ)
@@ -267,6 +267,6 @@ module _ (bytes : List ℕ) (formats : List FormatRow) (rows : KeptRows) (w : Ke
   next-comes-by [] at rule next row count line b stands of = absurd of
   next-comes-by (Rule sign ∷ elements) at rule next row count line b stands of = absurd of
   next-comes-by (Command from to ∷ elements) at rule next row count line b stands of = absurd of
-  next-comes-by (Row keys rules height is_tall entries ∷ elements) at rule next row count line b stands of =
-      next-comes bytes formats rows w keys rules height is_tall entries elements at
-      (all-at (IsServed formats) w.element rows.elements (Row keys rules height is_tall entries) elements served at) rule next row count line b stands
+  next-comes-by (Row keys rules height entries ∷ elements) at rule next row count line b stands of =
+      next-comes bytes formats rows w keys rules height entries elements at
+      (all-at (IsServed formats) w.element rows.elements (Row keys rules height entries) elements served at) rule next row count line b stands

@@ -64,7 +64,7 @@ among-by : (line : LineBegun) (below : Beside) (formats : List FormatRow) (w : K
     → StandsBelow line below formats w elements → IsAmong formats line
 among-by (WholeBegun sign is_last) below formats w elements served stands = tt
 among-by (KeysBegun row left) below formats w [] served stands = absurd stands.1
-among-by (KeysBegun row left) below formats w (Row keys rules height is_tall entries ∷ elements) served stands = omega (arith, stands.1.1, served.0.serves)
+among-by (KeysBegun row left) below formats w (Row keys rules height entries ∷ elements) served stands = omega (arith, stands.1.1, served.0.serves)
 among-by (KeysBegun row left) below formats w (Rule sign ∷ elements) served stands = absurd stands.1
 among-by (KeysBegun row left) below formats w (Command from to ∷ elements) served stands = absurd stands.1
 

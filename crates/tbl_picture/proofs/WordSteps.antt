@@ -1,5 +1,5 @@
 -- What a step does that begins a line of a block, or gives a word of it.
-use Rattle.std.proofs.Common.{◌≡◌, ℕ, ◌+◌, ◌-◌, List, [], ◌∷◌, ◌++◌, drop, map, get_or, replicate, sym, ap, ◌∙◌, arith, append_assoc}
+use Rattle.std.proofs.Common.{◌≡◌, ℕ, ◌+◌, ◌-◌, max, List, [], ◌∷◌, ◌++◌, drop, map, get_or, replicate, sym, ap, ◌∙◌, arith, append_assoc}
 use Rattle.std.proofs.lemmas.List.Sums.{sum_by-cons}
 use Rattle.roff_source.specs.Bytes.{blank}
 use Rattle.tbl_layout.specs.Entries.{Run, blanks, block_line, columns_of, further_words, run_of_word}
@@ -80,8 +80,8 @@ module _ (row : WalkedRow) (w : KeptWalk) (r : RowColumn) (at : AtColumn row w r
         sum_by-cons (λ (x : Run). x.columns) (blanks (leading_of word)) (run ∷ further_words words),
       ) in
       let f : List Run → List ℕ = λ runs. (given_of w.count (at_column cell.at w.place runs) ++ given (one_less w.count) (end_of cell.at w.place runs) cells) ++ further in
-      let g : ℕ → ℕ → List ℕ = λ n end. (given_of w.count (blanks n ∷ blanks (leading_of word) ∷ run ∷ further_words words) ++ given (one_less w.count) (begins_at r + end) cells) ++ further in
-      let behind = given (one_less w.count) (begins_at r + width_behind begun words) cells in
+      let g : ℕ → ℕ → List ℕ = λ n end. (given_of w.count (blanks n ∷ blanks (leading_of word) ∷ run ∷ further_words words) ++ given (one_less w.count) (max (begins_at r) w.place + end) cells) ++ further in
+      let behind = given (one_less w.count) (max (begins_at r) w.place + width_behind begun words) cells in
       let words_left = given_of w.count (run ∷ further_words words) in
       let h : ℕ → List ℕ = λ n. ((if_given w.count (replicate gap blank) ++ if_given w.count (replicate n blank)) ++ words_left ++ behind) ++ further in
       let left : row_left w.next row w ≡ added ++ ((words_left ++ behind) ++ further) =
@@ -95,8 +95,8 @@ module _ (row : WalkedRow) (w : KeptWalk) (r : RowColumn) (at : AtColumn row w r
       ∙ ap (λ (front : List ℕ). front ++ further) (append_assoc added words_left behind)
       ∙ append_assoc added (words_left ++ behind) further in
       let word_left : row_left (AtWord word width p) row (at_word word width p w) ≡ (words_left ++ behind) ++ further =
-      ap (λ (cs : List RowColumn). word_given row.bytes w.line (fronts_behind row w r at) w.count word width p cs ++ further) at.first
-      ∙ ap (λ (n : ℕ). word_given row.bytes w.line (fronts_behind row w r at) w.count word n p (r ∷ columns_behind row w r at) ++ further) width_is in
+      ap (λ (cs : List RowColumn). word_given row.bytes w.line (fronts_behind row w r at) w.count w.place word width p cs ++ further) at.first
+      ∙ ap (λ (n : ℕ). word_given row.bytes w.line (fronts_behind row w r at) w.count w.place word n p (r ∷ columns_behind row w r at) ++ further) width_is in
       let new_steps : row_steps (AtWord word width p) row w ≡ left_at text p + 1 + steps_behind row w r at =
       ap (λ (entries : List Entry). steps_of_word row.bytes p entries + steps_behind row w r at) at.entries in
       steps-word row w r at frame before after word width p added adds

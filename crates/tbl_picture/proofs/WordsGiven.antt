@@ -1,5 +1,5 @@
 -- What a step does that gives a word of a block.
-use Rattle.std.proofs.Common.{◌≡◌, ℕ, zero, suc, ◌+◌, ◌<◌, ◌≤◌, List, [], ◌∷◌, ◌++◌, length, drop, map, min, replicate, refl, sym, ap, subst, ◌∙◌, arith, append_assoc}
+use Rattle.std.proofs.Common.{◌≡◌, ℕ, zero, suc, ◌+◌, ◌<◌, ◌≤◌, max, List, [], ◌∷◌, ◌++◌, length, drop, map, min, replicate, refl, sym, ap, subst, ◌∙◌, arith, append_assoc}
 use Rattle.std.specs.List.{slice_range}
 use Rattle.roff_source.specs.Bytes.{blank}
 use Rattle.tbl_layout.specs.Entries.{blanks, block_line, further_words, run_of_word}
@@ -8,10 +8,11 @@ use Rattle.tbl_layout.specs.KeptEntries.{Lies, measure_by}
 use Rattle.tbl_pieces.specs.PieceQueue.{Adds, KeptPieces}
 use Rattle.tbl_lines.specs.RowsLeft.{begins_at, block_text, end_given, given, given_of, if_given, one_less, word_given}
 use Rattle.tbl_lines.specs.RowsWalked.{StandsInFirst, StandsNext, steps_of_word}
-use Rattle.tbl_picture.specs.Walks.{AtColumn, InWord, KeptWalk, RowSteps, WalkedRow, at_word, further_lines, passed, row_left, row_steps}
+use Rattle.tbl_picture.specs.Walks.{AtColumn, InWord, IsNear, KeptWalk, RowSteps, WalkedRow, at_word, further_lines, passed, reached_by, row_left, row_steps}
 use Rattle.tbl_lines.specs.declared.row_columns.RowColumn.{RowColumn}
 use Rattle.tbl_picture.specs.Nexts.{AtWord, Next}
 use Rattle.tbl_lines.proofs.BlockColumns.{word-glyph}
+use Rattle.tbl_picture.proofs.PlaceReached.{given-reached}
 use Rattle.tbl_picture.proofs.ColumnSteps.{cells_behind, fronts_behind, steps-passed, steps-word, steps_behind}
 use Rattle.tbl_lines.proofs.RunsGiven.{given-last, given-two, last_given}
 use Rattle.tbl_lines.proofs.WordRuns.{block-moved, drop-of-none, slice-in}
@@ -68,10 +69,10 @@ module _ (row : WalkedRow) (w : KeptWalk) (r : RowColumn) (at : AtColumn row w r
 
   left-word : row_left w.next row w
       ≡ (given_of w.count (run_of_word (word_at (block_text row.bytes r.entry) word) ∷ further_words words_of_line)
-      ++ given (one_less w.count) (begins_at r + width_behind width words_of_line) (cells_behind row w r at)) ++ further_lines row w
+      ++ given (one_less w.count) (max (begins_at r) w.place + width_behind width words_of_line) (cells_behind row w r at)) ++ further_lines row w
   left-word =
       ap (λ (n : Next). row_left n row w) next
-      ∙ ap (λ (cs : List RowColumn). word_given row.bytes w.line (fronts_behind row w r at) w.count word width p cs ++ further_lines row w) at.first
+      ∙ ap (λ (cs : List RowColumn). word_given row.bytes w.line (fronts_behind row w r at) w.count w.place word width p cs ++ further_lines row w) at.first
 
   steps-of-word : (q : BlockPlace) (word_then : BlockWord) (wider : ℕ) → row_steps (AtWord word_then wider q) row w
       ≡ left_at (block_text row.bytes r.entry) q + 1 + steps_behind row w r at
@@ -103,18 +104,18 @@ module _ (row : WalkedRow) (w : KeptWalk) (r : RowColumn) (at : AtColumn row w r
       let further = further_lines row w in
       let added = if_given w.count text ++ if_given w.count (replicate then_word.gap blank) in
       let rest = given_of w.count (then_run ∷ further_words words) in
-      let cells_given = given (one_less w.count) (begins_at r + width_behind wider words) cells in
-      let f : List Part → List ℕ = λ ws. (given_of w.count (run ∷ further_words ws) ++ given (one_less w.count) (begins_at r + width_behind width ws) cells) ++ further in
+      let cells_given = given (one_less w.count) (max (begins_at r) w.place + width_behind wider words) cells in
+      let f : List Part → List ℕ = λ ws. (given_of w.count (run ∷ further_words ws) ++ given (one_less w.count) (max (begins_at r) w.place + width_behind width ws) cells) ++ further in
       let left : row_left w.next row w ≡ added ++ ((rest ++ cells_given) ++ further) =
       left-word
       ∙ ap f line
-      ∙ ap (λ (n : ℕ). (given_of w.count (run ∷ blanks then_word.gap ∷ then_run ∷ further_words words) ++ given (one_less w.count) (begins_at r + width_behind n words) cells) ++ further) (sym wider_is)
+      ∙ ap (λ (n : ℕ). (given_of w.count (run ∷ blanks then_word.gap ∷ then_run ∷ further_words words) ++ given (one_less w.count) (max (begins_at r) w.place + width_behind n words) cells) ++ further) (sym wider_is)
       ∙ ap (λ (front : List ℕ). (front ++ cells_given) ++ further) (given-two w.count run (blanks then_word.gap) (then_run ∷ further_words words) (word-glyph block then_word (further_words words) lies))
       ∙ ap (λ (bytes : List ℕ). (((if_given w.count bytes ++ if_given w.count (replicate then_word.gap blank)) ++ rest) ++ cells_given) ++ further) (sym text_is)
       ∙ ap (λ (front : List ℕ). front ++ further) (append_assoc added rest cells_given)
       ∙ append_assoc added (rest ++ cells_given) further in
       let then_left : row_left (AtWord then_word wider q) row (at_word then_word wider q w) ≡ (rest ++ cells_given) ++ further =
-      ap (λ (cs : List RowColumn). word_given row.bytes w.line (fronts_behind row w r at) w.count then_word wider q cs ++ further) at.first in
+      ap (λ (cs : List RowColumn). word_given row.bytes w.line (fronts_behind row w r at) w.count w.place then_word wider q cs ++ further) at.first in
       steps-word row w r at frame before after then_word wider q added adds
       (record {
         block = stands.block;
@@ -129,22 +130,23 @@ module _ (row : WalkedRow) (w : KeptWalk) (r : RowColumn) (at : AtColumn row w r
   pub ends-steps : (frame : List ℕ) (before after : KeptPieces) (reached : ℕ) (text : List ℕ)
       → rest_of_line (measure_by r.entry.kind) width (parts_at (block_text row.bytes r.entry) p) ≡ []
       → text ≡ last_given w.count (run_of_word (word_at (block_text row.bytes r.entry) word))
-      → given (one_less w.count) reached (cells_behind row w r at) ≡ given (one_less w.count) (begins_at r + width) (cells_behind row w r at)
+      → reached ≡ reached_by w.count w.place (begins_at r) width → IsNear (one_less w.count) reached
       → Adds row.bytes frame 4 before after text
       → RowSteps frame row w (passed row.bars.has_any p reached w) before after
-  ends-steps frame before after reached text line text_is reached_is adds =
+  ends-steps frame before after reached text line text_is reached_is near adds =
       let block = block_text row.bytes r.entry in
       let m = measure_by r.entry.kind in
       let run = run_of_word (word_at block word) in
       let cells = cells_behind row w r at in
       let further = further_lines row w in
-      let f : List Part → List ℕ = λ ws. (given_of w.count (run ∷ further_words ws) ++ given (one_less w.count) (begins_at r + width_behind width ws) cells) ++ further in
+      let f : List Part → List ℕ = λ ws. (given_of w.count (run ∷ further_words ws) ++ given (one_less w.count) (max (begins_at r) w.place + width_behind width ws) cells) ++ further in
       let left : row_left w.next row w ≡ (text ++ given (one_less w.count) reached cells) ++ further =
       left-word
       ∙ ap f line
-      ∙ ap (λ (front : List ℕ). (front ++ given (one_less w.count) (begins_at r + width) cells) ++ further) (given-last w.count run ∙ sym text_is)
-      ∙ ap (λ (bytes : List ℕ). (text ++ bytes) ++ further) (sym reached_is) in
+      ∙ ap (λ (front : List ℕ). (front ++ given (one_less w.count) (max (begins_at r) w.place + width) cells) ++ further) (given-last w.count run ∙ sym text_is)
+      ∙ ap (λ (bytes : List ℕ). (text ++ bytes) ++ further)
+      (given-reached w.count w.place (begins_at r) width cells ∙ ap (λ (n : ℕ). given (one_less w.count) n cells) (sym reached_is)) in
       let behind : behind_rest m width (parts_at block p) ≡ parts_at block p = drop-of-none (joined_count m width (parts_at block p)) (parts_at block p) line in
-      steps-passed row w r at frame before after p reached text adds stands.within
+      steps-passed row w r at frame before after p reached text adds near stands.within
       (block-moved row.bytes w.line r stands.block p (ap (λ (ps : List Part). map block_line (lines_of m ps)) (sym behind) ∙ stands.rest))
       left (omega (arith, steps-old))

@@ -47,7 +47,7 @@ lines_behind_rule false s elements = lines_on s false NoRow elements
 -- follows
 abbrev pub lines_with_rules : List ℕ → List FormatRow → Sheet → Neighbour → List FormatRow → List KeptElement → List ℕ
 lines_with_rules bytes formats s above rules [] = []
-lines_with_rules bytes formats s above rules (Row keys others height is_tall entries ∷ elements) =
+lines_with_rules bytes formats s above rules (Row keys others height entries ∷ elements) =
     lines_behind s above
     (OneRow rules (row_at formats keys) (fields_of bytes (row_at formats keys) entries) ∷ boxed_from s.bars.boxing true (elements_of bytes formats elements))
 lines_with_rules bytes formats s above rules (Rule sign ∷ elements) = []
@@ -73,7 +73,7 @@ from_line_by rule bytes formats rows w elements =
 -- what is to come of elements, the first of which is a row that is walked
 abbrev pub row_to_come : List ℕ → List FormatRow → KeptRows → KeptWalk → List KeptElement → List ℕ
 row_to_come bytes formats rows w [] = []
-row_to_come bytes formats rows w (Row keys rules height is_tall entries ∷ elements) =
+row_to_come bytes formats rows w (Row keys rules height entries ∷ elements) =
     row_left w.next (walked bytes formats w.bars w.picture_width rows.columns keys height entries) w
     ++ lines_on (sheet_of rows w) true (OfRow (height == 1) (row_at formats keys) (fields_of bytes (row_at formats keys) entries))
     (elements_of bytes formats elements)
@@ -110,7 +110,7 @@ started bars width w =
 -- the first of the elements is a row that is walked
 abbrev pub IsInRow : List ℕ → List FormatRow → KeptRows → KeptWalk → List KeptElement → Type 0
 IsInRow bytes formats rows w [] = ⊥
-IsInRow bytes formats rows w (Row keys rules height is_tall entries ∷ elements) =
+IsInRow bytes formats rows w (Row keys rules height entries ∷ elements) =
     IsUnderWay w.next (walked bytes formats w.bars w.picture_width rows.columns keys height entries) w
 IsInRow bytes formats rows w (Rule sign ∷ elements) = ⊥
 IsInRow bytes formats rows w (Command from to ∷ elements) = ⊥
@@ -118,14 +118,14 @@ IsInRow bytes formats rows w (Command from to ∷ elements) = ⊥
 -- what stands in the first element has no more columns than these
 abbrev pub FirstFits : ℕ → List FormatRow → List KeptElement → Type 0
 FirstFits room formats [] = Unit {0}
-FirstFits room formats (Row keys rules height is_tall entries ∷ elements) = length (all_entries (row_at formats keys) entries) ≤ room
+FirstFits room formats (Row keys rules height entries ∷ elements) = length (all_entries (row_at formats keys) entries) ≤ room
 FirstFits room formats (Rule sign ∷ elements) = Unit {0}
 FirstFits room formats (Command from to ∷ elements) = Unit {0}
 
 -- the first of some elements is this row
 abbrev pub FirstIs : ℕ → ℕ → List Entry → List KeptElement → Type 0
 FirstIs keys rules entries [] = ⊥
-FirstIs keys rules entries (Row first_keys first_rules height is_tall first_entries ∷ elements) =
+FirstIs keys rules entries (Row first_keys first_rules height first_entries ∷ elements) =
     (first_keys ≡ keys) × (first_rules ≡ rules) × (first_entries ≡ entries)
 FirstIs keys rules entries (Rule sign ∷ elements) = ⊥
 FirstIs keys rules entries (Command from to ∷ elements) = ⊥
@@ -182,7 +182,7 @@ steps_of_row bytes format columns entries height =
 
 abbrev pub steps_of : List ℕ → List FormatRow → List Column → List KeptElement → ℕ
 steps_of bytes formats columns [] = 0
-steps_of bytes formats columns (Row keys rules height is_tall entries ∷ elements) =
+steps_of bytes formats columns (Row keys rules height entries ∷ elements) =
     suc (rules * suc (rule_steps columns) + steps_of_row bytes (row_at formats keys) columns entries height)
     + (rule_steps columns + steps_of bytes formats columns elements)
 steps_of bytes formats columns (Rule sign ∷ elements) = suc (rule_steps columns + steps_of bytes formats columns elements)
@@ -205,7 +205,7 @@ steps_behind_rule false bytes formats rows elements = steps_on bytes formats row
 -- of elements, the first of which is a row that is walked
 abbrev pub steps_in_row : List ℕ → List FormatRow → KeptRows → KeptWalk → List KeptElement → ℕ
 steps_in_row bytes formats rows w [] = 0
-steps_in_row bytes formats rows w (Row keys rules height is_tall entries ∷ elements) =
+steps_in_row bytes formats rows w (Row keys rules height entries ∷ elements) =
     row_steps w.next (walked bytes formats w.bars w.picture_width rows.columns keys height entries) w
     + (rule_steps rows.columns + steps_on bytes formats rows elements)
 steps_in_row bytes formats rows w (Rule sign ∷ elements) = 0
@@ -214,7 +214,7 @@ steps_in_row bytes formats rows w (Command from to ∷ elements) = 0
 -- of a row and what follows, before its first line
 abbrev pub steps_before_row : List ℕ → List FormatRow → KeptRows → List KeptElement → ℕ
 steps_before_row bytes formats rows [] = 0
-steps_before_row bytes formats rows (Row keys rules height is_tall entries ∷ elements) =
+steps_before_row bytes formats rows (Row keys rules height entries ∷ elements) =
     steps_of_row bytes (row_at formats keys) rows.columns entries height + (rule_steps rows.columns + steps_on bytes formats rows elements)
 steps_before_row bytes formats rows (Rule sign ∷ elements) = 0
 steps_before_row bytes formats rows (Command from to ∷ elements) = 0

@@ -33,7 +33,7 @@ is_row (RowBeside at) = true
 -- the first of some elements is a row
 abbrev pub IsRowFirst : List KeptElement → Type 0
 IsRowFirst [] = ⊥
-IsRowFirst (Row keys rules height is_tall entries ∷ elements) = Unit {0}
+IsRowFirst (Row keys rules height entries ∷ elements) = Unit {0}
 IsRowFirst (Rule sign ∷ elements) = ⊥
 IsRowFirst (Command from to ∷ elements) = ⊥
 
@@ -48,7 +48,7 @@ pub record RowServed (formats : List FormatRow) (keys rules : ℕ) : Type 0 wher
   pub in_front : rules ≤ keys
 
 abbrev pub IsServed : List FormatRow → KeptElement → Type 0
-IsServed formats (Row keys rules height is_tall entries) = RowServed formats keys rules
+IsServed formats (Row keys rules height entries) = RowServed formats keys rules
 IsServed formats (Rule sign) = Unit {0}
 IsServed formats (Command from to) = Unit {0}
 
@@ -58,7 +58,7 @@ AreServed formats elements = AllByRecursion (IsServed formats) elements
 -- the line of the first of some elements that stands directly below a rule, or directly above it
 abbrev pub line_of_first : List ℕ → List FormatRow → Bool → List KeptElement → Neighbour
 line_of_first bytes formats is_below [] = NoRow
-line_of_first bytes formats is_below (Row keys rules height is_tall entries ∷ elements) =
+line_of_first bytes formats is_below (Row keys rules height entries ∷ elements) =
     OfRow (is_below || height == 1) (row_at formats keys) (fields_of bytes (row_at formats keys) entries)
 line_of_first bytes formats is_below (Rule sign ∷ elements) = NoRow
 line_of_first bytes formats is_below (Command from to ∷ elements) = NoRow
@@ -70,7 +70,7 @@ line_beside bytes formats is_below elements (RowBeside at) = line_of_first bytes
 -- the rows of rule keys that stand directly in front of it
 abbrev pub rules_of_first : List FormatRow → List KeptElement → List FormatRow
 rules_of_first formats [] = []
-rules_of_first formats (Row keys rules height is_tall entries ∷ elements) = rows_in_front formats keys rules
+rules_of_first formats (Row keys rules height entries ∷ elements) = rows_in_front formats keys rules
 rules_of_first formats (Rule sign ∷ elements) = []
 rules_of_first formats (Command from to ∷ elements) = []
 
@@ -81,7 +81,7 @@ rules_beside formats elements (RowBeside at) = rules_of_first formats (drop at e
 -- and where they stand among all rows of the formats
 abbrev pub rules_first : List KeptElement → RuleRows
 rules_first [] = record { first = 0; count = 0 }
-rules_first (Row keys rules height is_tall entries ∷ elements) = record { first = keys - rules; count = rules }
+rules_first (Row keys rules height entries ∷ elements) = record { first = keys - rules; count = rules }
 rules_first (Rule sign ∷ elements) = record { first = 0; count = 0 }
 rules_first (Command from to ∷ elements) = record { first = 0; count = 0 }
 
@@ -141,7 +141,7 @@ sheet_of rows w = record { bars = w.bars; width = w.picture_width; columns = row
 -- how many rows of rule keys in front of the first of some elements are above one of them
 abbrev pub rules_passed : List KeptElement → ℕ → ℕ
 rules_passed [] row = 0
-rules_passed (Row keys rules height is_tall entries ∷ elements) row = row - (keys - rules)
+rules_passed (Row keys rules height entries ∷ elements) row = row - (keys - rules)
 rules_passed (Rule sign ∷ elements) row = 0
 rules_passed (Command from to ∷ elements) row = 0
 
@@ -184,7 +184,7 @@ rule_front line left = codes "\\&" ++ replicate left (edge_byte line)
 -- a row of rule keys is among those in front of the first of some elements: so many follow it there
 abbrev pub IsRuleOf : List FormatRow → ℕ → ℕ → List KeptElement → Type 0
 IsRuleOf formats row left [] = ⊥
-IsRuleOf formats row left (Row keys rules height is_tall entries ∷ elements) = (keys - rules ≤ row) × (row + suc left ≡ keys)
+IsRuleOf formats row left (Row keys rules height entries ∷ elements) = (keys - rules ≤ row) × (row + suc left ≡ keys)
 IsRuleOf formats row left (Rule sign ∷ elements) = ⊥
 IsRuleOf formats row left (Command from to ∷ elements) = ⊥
 
@@ -307,7 +307,7 @@ pub record RuleRowNext (bytes : List ℕ) (formats : List FormatRow) (rows : Kep
 -- the row that is the first of some elements begins
 abbrev pub FirstBegins : List FormatRow → List KeptElement → KeptWalk → KeptWalk → Type 0
 FirstBegins formats [] old new = ⊥
-FirstBegins formats (Row keys rules height is_tall entries ∷ elements) old new = new ≡ row_begun (all_entries (row_at formats keys) entries) old
+FirstBegins formats (Row keys rules height entries ∷ elements) old new = new ≡ row_begun (all_entries (row_at formats keys) entries) old
 FirstBegins formats (Rule sign ∷ elements) old new = ⊥
 FirstBegins formats (Command from to ∷ elements) old new = ⊥
 

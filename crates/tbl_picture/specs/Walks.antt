@@ -1,5 +1,5 @@
 -- A walk over the lines of a table's picture: how far it has come, and what is to come.
-use Rattle.std.specs.Prelude.{◌≡◌, ℕ, suc, ◌+◌, ◌-◌, ◌≤◌, ◌<◌, max, Bool, true, false, List, [], ◌∷◌, ◌++◌, drop, length, map, take, nat_lt, vec_capacity}
+use Rattle.std.specs.Prelude.{◌≡◌, ℕ, zero, suc, ◌+◌, ◌-◌, ◌*◌, ◌≤◌, ◌<◌, max, Bool, true, false, List, [], ◌∷◌, ◌++◌, drop, length, map, take, nat_lt, vec_capacity}
 use Rattle.std.specs.List.{AllByRecursion}
 use Rattle.roff_source.specs.Bytes.{newline}
 use Rattle.tbl_layout.specs.declared.bars.Bars.{Bars}
@@ -39,7 +39,7 @@ kept_by a = record {
   element = a.element;
   line = a.line;
   count = a.count;
-  place = a.place + a.width;
+  place = a.place;
   next = next_by a.next a.rule;
   places = a.places.items;
   behind = a.behind.items;
@@ -93,7 +93,7 @@ row_left AtLine row w = lines_from 0 (row.height - w.line) (cells_now row w)
 row_left (AtFront at) row w = given w.count w.place (cells_in_front at row w) ++ further_lines row w
 row_left AtCell row w = given w.count w.place (cells_left row w) ++ further_lines row w
 row_left (AtWord word width place) row w =
-    word_given row.bytes w.line (drop (suc (length w.behind)) (fronts_of row w.line)) w.count word width place (columns_left row w)
+    word_given row.bytes w.line (drop (suc (length w.behind)) (fronts_of row w.line)) w.count w.place word width place (columns_left row w)
     ++ further_lines row w
 
 -- a row is before one of its lines
@@ -106,9 +106,21 @@ pub record BeforeLine (row : WalkedRow) (w : KeptWalk) : Type 0 where
   pub fronts : HasFronts row
   pub places : PlacesLie row.bytes row.entries w.places
 
+-- where a text is given that begins at a column of the page, or where the line is reached, and has so many columns, the place behind it;
+-- where nothing is given any more, the place stays
+abbrev pub reached_by : ℕ → ℕ → ℕ → ℕ → ℕ
+reached_by zero place at width = place
+reached_by (suc count) place at width = max at place + width
+
+-- the line is reached up to a place where no sum overflows, however far the texts begin and end that are given still, of which there are
+-- so many: each is counted with 2 ^ 65 columns, all of them with 2 ^ 127
+abbrev pub IsNear : ℕ → ℕ → Type 0
+IsNear count place = place + count * 36893488147419103232 ≤ 170141183460469231731687303715884105728
+
 -- a row is within one of its lines: the blocks of the columns that are behind the walk go on behind this line
 pub record OnLine (row : WalkedRow) (w : KeptWalk) : Type 0 where
   pub before : BeforeLine row w
+  pub near : IsNear w.count w.place
   pub column : length w.behind ≤ length row.entries
   pub places : PlacesLie row.bytes (take (length w.behind) row.entries) w.behind
   pub moved : map (cell_left row.bytes (suc w.line)) (row_columns row.bars.boxing row.format 0 row.columns row.entries w.behind)

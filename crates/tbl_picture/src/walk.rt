@@ -75,10 +75,8 @@ pub struct Walk {
     line: u32,
     /// How many columns are left up to the line's last glyph.
     count: usize,
-    /// The column of the page at which the text begins that was given last on the line.
-    place: usize,
-    /// How many columns it has.
-    width: usize,
+    /// The column of the page that is reached on the line.
+    place: u128,
     next: Next,
     /// The line of rules on which the walk stands, if it does.
     rule: RuleBegun,
@@ -121,7 +119,6 @@ impl Walk {
             line: 0,
             count: 0,
             place: 0,
-            width: 0,
             next: Next::AtElement,
             rule: RuleBegun::NOTHING,
             places: Vec::with_capacity(alloc, columns as usize)?,

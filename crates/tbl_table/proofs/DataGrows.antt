@@ -147,8 +147,8 @@ module _ (bytes more : List ℕ) (d : TableData) (ends : EndsBy (length bytes) d
 
   element-less : (formats : List FormatRow) (columns : ℕ) (e : KeptElement) → ElementEnds (length bytes) e → ElementKept (bytes ++ more) formats columns e
       → ElementKept bytes formats columns e
-  element-less formats columns (Row keys rules height is_tall entries) within kept =
-      record { serves = kept.serves; in_front = kept.in_front; ruled = kept.ruled; cells = kept.cells; short = kept.short; kept = fields-less (row_at formats keys) 0 entries within kept.kept; low = kept.low; alone = kept.alone }
+  element-less formats columns (Row keys rules height entries) within kept =
+      record { serves = kept.serves; in_front = kept.in_front; ruled = kept.ruled; cells = kept.cells; short = kept.short; kept = fields-less (row_at formats keys) 0 entries within kept.kept; low = kept.low }
   element-less formats columns (Rule sign) within kept = tt
   element-less formats columns (Command from to) within kept = record { order = kept.order; within = within }
 

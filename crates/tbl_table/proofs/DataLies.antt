@@ -45,12 +45,12 @@ fields-laid bytes format cell (e ∷ entries) laid =
     (laid-lies e.kind bytes (key_at format cell) e laid.0, fields-laid bytes format (suc cell) entries laid.1)
 
 element-kept : (bytes : List ℕ) (formats : List FormatRow) (columns : ℕ) (e : KeptElement) → ElementKept bytes formats columns e → ElementEnds (length bytes) e
-element-kept bytes formats columns (Row keys rules height is_tall entries) kept = fields-kept bytes (row_at formats keys) 0 entries kept.kept
+element-kept bytes formats columns (Row keys rules height entries) kept = fields-kept bytes (row_at formats keys) 0 entries kept.kept
 element-kept bytes formats columns (Rule sign) kept = tt
 element-kept bytes formats columns (Command from to) kept = kept.within
 
 element-laid : (bytes : List ℕ) (formats : List FormatRow) (columns : ℕ) (e : KeptElement) → ElementLaid bytes formats columns e → ElementEnds (length bytes) e
-element-laid bytes formats columns (Row keys rules height is_tall entries) laid = fields-laid bytes (row_at formats keys) 0 entries laid.laid
+element-laid bytes formats columns (Row keys rules height entries) laid = fields-laid bytes (row_at formats keys) 0 entries laid.laid
 element-laid bytes formats columns (Rule sign) laid = tt
 element-laid bytes formats columns (Command from to) laid = laid.within
 
@@ -77,7 +77,7 @@ fields-longer a b [] less lies = tt
 fields-longer a b (e ∷ entries) less lies = (omega (arith, less, lies.0), fields-longer a b entries less lies.1)
 
 element-longer : (a b : ℕ) (e : KeptElement) → a ≤ b → ElementEnds a e → ElementEnds b e
-element-longer a b (Row keys rules height is_tall entries) less lies = fields-longer a b entries less lies
+element-longer a b (Row keys rules height entries) less lies = fields-longer a b entries less lies
 element-longer a b (Rule sign) less lies = tt
 element-longer a b (Command from to) less lies = omega (arith, less, lies)
 
@@ -104,7 +104,7 @@ module _ (bytes more : List ℕ) where
       ∙ ap (λ (cs : List Content). content_of bytes e ∷ cs) (contents-same entries lies.1)
 
   element-same : (formats : List FormatRow) (e : KeptElement) → ElementEnds (length bytes) e → element_of (bytes ++ more) formats e ≡ element_of bytes formats e
-  element-same formats (Row keys rules height is_tall entries) lies =
+  element-same formats (Row keys rules height entries) lies =
       ap (λ (fields : List Content). OneRow (rows_in_front formats keys rules) (row_at formats keys) (completed (row_at formats keys) fields)) (contents-same entries lies)
   element-same formats (Rule sign) lies = refl
   element-same formats (Command from to) lies = ap OneCommand (part-more bytes more from to lies)

@@ -80,7 +80,7 @@ part-behind some more all first second = record {
 part-longer : (field : List ℕ) (some all : List (List ℕ)) → IsPart some all → IsPart (field ∷ some) (field ∷ all)
 part-longer field some all part = record { fewer = omega (arith, part.fewer); shorter = omega (arith, part.shorter) }
 
-len-least : (all : List (List ℕ)) → length all ≤ len_of_fields all
+pub len-least : (all : List (List ℕ)) → length all ≤ len_of_fields all
 len-least [] = omega arith
 len-least (field ∷ all) = omega (arith, len-least all)
 

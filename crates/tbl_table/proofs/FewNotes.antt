@@ -1,23 +1,27 @@
 -- How many messages a table may have, line by line.
 use Rattle.std.proofs.Common.{◌≡◌, ℕ, suc, ◌+◌, ◌-◌, ◌≤◌, Bool, true, false, List, [], ◌∷◌, ◌++◌, length, map, take, drop, Option, Some, None, refl, ap, arith, length-append, length-drop, if◌then◌else◌}
-use Rattle.std.proofs.lemmas.List.{length-take}
+use Rattle.std.proofs.lemmas.List.{length-replicate, length-take}
 use Rattle.roff_source.specs.Bytes.{newline}
 use Rattle.tbl_format.specs.Format.{Format, format_byte, format_read, if_letter, left_out_at, left_out_behind, letters_left_out}
 use Rattle.tbl_options.specs.Notes.{ignored_message, told_at}
 use Rattle.tbl_options.specs.Options.{ignored_options, options_end}
 use Rattle.tbl_format.specs.declared.format.FormatPlace.{FormatPlace}
 use Rattle.tbl_format.specs.declared.format.FormatPlace.TheVariants.{AtEnd, AtFault, InRows}
-use Rattle.tbl_options.specs.declared.message.Message.TheVariants.{BadFormat, LeftOut}
+use Rattle.tbl_options.specs.declared.message.Message.TheVariants.{BadFormat, EntryCut, LeftOut}
 use Rattle.tbl_options.specs.declared.message.Told.{Told}
+use Rattle.tbl_layout.specs.Texts.{texts_of}
+use Rattle.tbl_lines.specs.CutEntries.{cut_entries}
+use Rattle.tbl_lines.proofs.CutEntries.{cut-few}
 use Rattle.tbl_kept.specs.Joined.{Joined, behind_joined, ends_joined, goes_on}
 use Rattle.tbl_data.specs.DataRead.{closed_block, whole_line, with_pending}
-use Rattle.tbl_table.specs.MayTell.{fault_may_come, line_may_tell, may_tell}
-use Rattle.tbl_table.specs.Table.{behind_format, closed, closed_line, ended, ended_in, format_line, head_line, left_out_notes, line_in, line_read, notes, told_at_cut, with_options}
+use Rattle.tbl_table.specs.MayTell.{fault_may_come, line_may_tell, may_cut, may_tell}
+use Rattle.tbl_table.specs.Table.{behind_format, body_filled, closed, closed_line, cut_told, ended, ended_in, format_line, head_line, left_out_notes, line_in, line_read, notes, sheet_of, told_at_cut, with_options}
 use Rattle.tbl_data.specs.TableRead.{RowBegun, TableRead, no_lines, with_notes}
 use Rattle.tbl_data.specs.declared.phase.Phase.{Phase}
 use Rattle.tbl_data.specs.declared.phase.Phase.TheVariants.{AtHead, Bad, InData, InFormat}
 use Rattle.tbl_table.proofs.IgnoredOptions.{ignored-most}
 use Rattle.tbl_table.proofs.FewFields.{whole_most, whole_pending}
+use Rattle.tbl_table.proofs.FewTexts.{joined-len, joined-less, texts-filled, texts_closed}
 
 -- a fault alone at first
 pub one_at_first : may_tell no_lines ≡ 1
@@ -89,13 +93,6 @@ head-few (Some end) n line t =
     omega (arith, options-few n (take end line) (drop (suc end) line) t, length-parts end line)
 
 -- and of the data
-joined-len : (pending : Option Joined) (line : List ℕ) → length (behind_joined pending line) ≤ line_may_tell pending + length line
-joined-len None line = omega arith
-joined-len (Some j) line = omega (arith, length-append j.bytes line)
-
-joined-less : (pending : Option Joined) (line : List ℕ) → length (behind_joined pending line) + 1 ≤ line_may_tell pending + length line + 1
-joined-less pending line = omega (arith, joined-len pending line)
-
 data-few : (on : Bool) (n : ℕ) (line : List ℕ) (t : TableRead)
     → may_tell (if on then with_pending n line t else whole_line (ends_joined t.pending) n (behind_joined t.pending line) t) ≤ may-tell-yet t + length line + 1
 unfolding may_tell
@@ -136,19 +133,23 @@ few_closed t =
     let whole = closed_line t.pending t in
     omega (arith, closed-few t.pending t, block-same whole.begun whole)
 
-ended-most : (phase : Phase) (n : ℕ) (t : TableRead) → length (ended_in phase n t).notes ≤ length t.notes + 1
-ended-most AtHead n t = omega (arith, one-more t.notes (told_at n BadFormat))
-ended-most InFormat n t = omega (arith, one-more t.notes (told_at n BadFormat))
-ended-most InData n t = omega arith
-ended-most Bad n t = omega arith
+ended-most : (phase : Phase) (n line_length : ℕ) (t : TableRead) → length (ended_in phase n line_length t).notes ≤ length t.notes + texts_of t.body + 1
+ended-most AtHead n line_length t = omega (arith, one-more t.notes (told_at n BadFormat))
+ended-most InFormat n line_length t = omega (arith, one-more t.notes (told_at n BadFormat))
+ended-most InData n line_length t =
+    let sheet = sheet_of line_length t in
+    let body = body_filled line_length t in
+    let same = texts-filled sheet.bars line_length t.format.asked t.body in
+    omega (arith, length-append t.notes (cut_told n line_length t), length-replicate (cut_entries sheet body) (told_at n EntryCut), cut-few sheet body, same)
+ended-most Bad n line_length t = omega arith
 
--- one more at most at its end
-pub few_at_end : (line line_length : ℕ) (t : TableRead) → length (notes (ended line line_length t)) ≤ may_tell t + 1
+-- one more at most at its end, and one for each text
+pub few_at_end : (line line_length : ℕ) (t : TableRead) → length (notes (ended line line_length t)) ≤ may_tell t + may_cut t + 1
 unfolding notes ended closed
 few_at_end line line_length t =
     let whole = closed_line t.pending t in
     let done = closed_block whole.begun whole in
-    omega (arith, ended-most done.phase line done, few_closed t)
+    omega (arith, ended-most done.phase line line_length done, few_closed t, texts_closed t)
 
 -- no more where it is cut
 pub few_at_cut : (t : TableRead) → length (told_at_cut t) ≤ may_tell t

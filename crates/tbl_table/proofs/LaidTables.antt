@@ -14,9 +14,11 @@ use Rattle.tbl_format.specs.Format.{FormatRow}
 use Rattle.tbl_format.specs.FormatLaws.{RowHeld}
 use Rattle.tbl_format.specs.declared.format.Asked.{Asked}
 use Rattle.tbl_format.specs.declared.limits.TblLimits.{TblLimits}
+use Rattle.tbl_options.specs.Notes.{NotesWithin}
+use Rattle.tbl_options.specs.declared.notes.KeptNote.{KeptNote}
 use Rattle.tbl_options.specs.declared.options.Options.{Options}
 use Rattle.tbl_kept.specs.Joined.{Joined, behind_joined}
-use Rattle.tbl_kept.specs.Rows.{KeptRows, RowsLaid, SameRoom}
+use Rattle.tbl_kept.specs.Rows.{KeptRows, RowsLaid, SameRoom, elements_of}
 use Rattle.tbl_kept.specs.TableText.{KeptText, block_of}
 use Rattle.tbl_kept.proofs.RowsKeeping.{RowsLaid-more, elements_of-laid-more}
 use Rattle.tbl_layout.specs.Columns.{columns_from, equal_widths, gaps, gaps_from, greatest, placed, placed_with, share, spread, total, width_of_all, with_equal, with_widths}
@@ -31,12 +33,13 @@ use Rattle.tbl_layout.proofs.PlacesBetween.{bars-laid, bars-placed_with, bars_of
 use Rattle.tbl_layout.proofs.Spreading.{length-all_fitted}
 use Rattle.tbl_layout.proofs.Shares.{share-grows, share-most}
 use Rattle.tbl_lines.specs.RowsWalked.{AreNarrow}
+use Rattle.tbl_lines.specs.CutEntries.{cut_entries}
 use Rattle.tbl_lines.specs.PictureLeft.{table_lines}
 use Rattle.tbl_lines.specs.PictureLines.{Sheet}
 use Rattle.tbl_table.specs.Kept.{PartsFit, row_open, table_of}
 use Rattle.tbl_table.specs.Laying.{IsLaid, body_of, columns_by, lacking_by}
 use Rattle.tbl_table.specs.MayTell.{line_may_tell}
-use Rattle.tbl_giving.specs.Giving.{HasCells, IsLaidOut, lines_laid}
+use Rattle.tbl_giving.specs.Giving.{HasCells, IsLaidOut, cuts_laid, lines_laid}
 use Rattle.tbl_lines.specs.RulePlaces.{HavePlaces}
 use Rattle.tbl_table.specs.Table.{body_filled, laid_out}
 use Rattle.tbl_table.specs.declared.begun.Begun.{Begun}
@@ -150,10 +153,13 @@ module _ (l : TblLimits) (phase : Phase) (begun : Begun) (text : KeptText) (d : 
       fits.keys.rows.wide (omega (arith, served, length-append f.earlier f.rows))
 
   -- it passes as one behind a fault
-  pub laid-fits : (rows : KeptRows) (escapes : KeptEscapes) → SameRoom d.rows rows → AllByRecursion (ElementEnds (length text.settled)) rows.elements
-      → PartsFit l Bad Nothing text (record d { rows = rows; escapes = escapes; notes = record d.notes { to_tell = d.notes.notes } })
-  laid-fits rows escapes rooms lies =
-      let reads = data-reads l phase begun text d fits is in
+  pub notes-settled : NotesWithin (length text.settled) d.notes.notes
+  notes-settled = (data-reads l phase begun text d fits is).fits.notes
+
+  pub laid-fits : (rows : KeptRows) (escapes : KeptEscapes) (told : List KeptNote) → NotesWithin (length text.settled) told
+      → SameRoom d.rows rows → AllByRecursion (ElementEnds (length text.settled)) rows.elements
+      → PartsFit l Bad Nothing text (record d { rows = rows; escapes = escapes; notes = record d.notes { to_tell = told } })
+  laid-fits rows escapes told within rooms lies =
       record {
         rooms = record {
           text = fits.rooms.text;
@@ -183,8 +189,8 @@ module _ (l : TblLimits) (phase : Phase) (begun : Begun) (text : KeptText) (d : 
           entries = omega (arith, ap line_may_tell none);
           elements = omega (arith, none-open-by text.pending d.open none closed);
         };
-        messages = record { few = omega (arith, fits.messages.few); telling = reads.fits.notes };
-        by_phase = record { alone = none; lies = lies; fits = record { closed = closed; notes = reads.fits.notes } };
+        messages = record { few = omega (arith, fits.messages.few); telling = within };
+        by_phase = record { alone = none; lies = lies; fits = record { closed = closed; notes = notes-settled } };
       }
 
   module _ (line_length : ℕ) (options : Options) (new : TableData)
@@ -253,16 +259,31 @@ module _ (l : TblLimits) (phase : Phase) (begun : Begun) (text : KeptText) (d : 
       small = omega (arith, fits.bytes.most, fits.bytes.block, fits.rooms.small, behind-len text.pending text.line, length-append text.settled (behind_joined text.pending text.line), length-append text.settled (behind_joined text.pending []));
     }
 
+    -- whatever is made of its columns and its rows
+    laid-are : {A : Type 0} (made : Sheet → List Element → A) (width more : ℕ) → more ≡ lacking_by bars options.expanded line_length text.settled d
+        → RowsLaid text.settled (all_rows d.format.format) bars.boxing.is_inside (places more)
+        → made (record { bars = bars; width = width; columns = (places more).columns }) (elements_of (block_of text) (all_rows d.format.format) (places more).elements)
+        ≡ made (record { bars = bars; width = width; columns = (laid_out line_length (table_of phase options text d)).columns })
+        (body_filled line_length (table_of phase options text d))
+    laid-are made width more more_is rows =
+        let asked = d.format.format.asked in
+        let body = filled bars line_length asked (body_of text.settled d) in
+        let sheet : List Column → Sheet = λ cs. record { bars = bars; width = width; columns = cs } in
+        ap (λ (es : List Element). made (sheet (placed_with bars more asked new.rows.columns)) es)
+        (elements_of-laid-more text.settled (behind_joined text.pending text.line) (all_rows d.format.format) bars.boxing.is_inside (places more) rows ∙ laid.body)
+        ∙ ap (λ (cs : List Column). made (sheet (placed_with bars more asked cs)) body) laid.columns
+        ∙ ap (λ (n : ℕ). made (sheet (placed_with bars n asked (columns_by bars line_length text.settled d))) body) more_is
+
     pub lines-are : (width more : ℕ) → more ≡ lacking_by bars options.expanded line_length text.settled d
         → RowsLaid text.settled (all_rows d.format.format) bars.boxing.is_inside (places more)
         → lines_laid bars width text (places more) d.format
         ≡ table_lines (record { bars = bars; width = width; columns = (laid_out line_length (table_of phase options text d)).columns })
         (body_filled line_length (table_of phase options text d))
-    lines-are width more more_is rows =
-        let asked = d.format.format.asked in
-        let body = filled bars line_length asked (body_of text.settled d) in
-        let sheet : List Column → Sheet = λ cs. record { bars = bars; width = width; columns = cs } in
-        ap (λ (es : List Element). table_lines (sheet (placed_with bars more asked new.rows.columns)) es)
-        (elements_of-laid-more text.settled (behind_joined text.pending text.line) (all_rows d.format.format) bars.boxing.is_inside (places more) rows ∙ laid.body)
-        ∙ ap (λ (cs : List Column). table_lines (sheet (placed_with bars more asked cs)) body) laid.columns
-        ∙ ap (λ (n : ℕ). table_lines (sheet (placed_with bars n asked (columns_by bars line_length text.settled d))) body) more_is
+    lines-are = laid-are table_lines
+
+    pub cuts-are : (width more : ℕ) → more ≡ lacking_by bars options.expanded line_length text.settled d
+        → RowsLaid text.settled (all_rows d.format.format) bars.boxing.is_inside (places more)
+        → cuts_laid bars width text (places more) d.format
+        ≡ cut_entries (record { bars = bars; width = width; columns = (laid_out line_length (table_of phase options text d)).columns })
+        (body_filled line_length (table_of phase options text d))
+    cuts-are = laid-are cut_entries

@@ -1,5 +1,6 @@
 pub mod IgnoredOptions
 pub mod FewFields
+pub mod FewTexts
 pub mod FewNotes
 pub mod NotesStaying
 pub mod RowsBehind
@@ -24,3 +25,4 @@ pub mod LastLines
 pub mod LastPlaces
 pub mod FewerNotes
 pub mod LastRows
+pub mod PicturesGiven

@@ -17,7 +17,7 @@ use Rattle.tbl_layout.specs.declared.data_lines.LineKind.TheVariants.{Command, F
 use Rattle.tbl_data.specs.DataRead.{closed_block, behind_block, cells, field_notes, fields_with_block, keyed, serving, surplus_notes, whole_line, with_block_line, with_fields, with_line, with_open_row, with_pending, with_whole}
 use Rattle.tbl_data.proofs.FieldSteps.{content-of}
 use Rattle.tbl_table.specs.NotesStay.{Begins, NotesStay}
-use Rattle.tbl_table.specs.Table.{behind_format, closed, closed_line, ended, ended_in, format_line, head_line, left_out_notes, line_in, line_read, notes, told_at_cut, with_options}
+use Rattle.tbl_table.specs.Table.{behind_format, closed, closed_line, cut_told, ended, ended_in, format_line, head_line, left_out_notes, line_in, line_read, notes, told_at_cut, with_options}
 use Rattle.tbl_data.specs.TableRead.{RowBegun, TableRead, with_notes}
 use Rattle.tbl_data.specs.declared.phase.Phase.{Phase}
 use Rattle.tbl_data.specs.declared.phase.Phase.TheVariants.{AtHead, Bad, InData, InFormat}
@@ -135,16 +135,16 @@ cut_closed t =
     let whole = closed_line t.pending t in
     begins_behind t.notes whole.notes (closed_block whole.begun whole).notes (closed_line_stays t.pending t) (closed_block_stays whole.begun whole)
 
-ended_stays : (phase : Phase) (n : ℕ) (t : TableRead) → Begins t.notes (ended_in phase n t).notes
-ended_stays AtHead n t = begins_longer t.notes _
-ended_stays InFormat n t = begins_longer t.notes _
-ended_stays InData n t = begins_same t.notes
-ended_stays Bad n t = begins_same t.notes
+ended_stays : (phase : Phase) (n line_length : ℕ) (t : TableRead) → Begins t.notes (ended_in phase n line_length t).notes
+ended_stays AtHead n line_length t = begins_longer t.notes _
+ended_stays InFormat n line_length t = begins_longer t.notes _
+ended_stays InData n line_length t = begins_longer t.notes (cut_told n line_length t)
+ended_stays Bad n line_length t = begins_same t.notes
 
 -- behind the line that goes on
 pub behind_closed : (line line_length : ℕ) (t : TableRead) → Begins (notes (closed t)) (notes (ended line line_length t))
 unfolding notes closed ended
-behind_closed line line_length t = ended_stays (closed t).phase line (closed t)
+behind_closed line line_length t = ended_stays (closed t).phase line line_length (closed t)
 
 line_behind : (line : ℕ) (bytes : List ℕ) (t : TableRead) → Begins (told_at_cut t) (told_at_cut (line_read line bytes t))
 unfolding told_at_cut notes line_read
@@ -153,7 +153,7 @@ line_behind line bytes t = line_stays t.phase line bytes t
 end_behind : (line line_length : ℕ) (t : TableRead) → Begins (told_at_cut t) (notes (ended line line_length t))
 unfolding told_at_cut notes closed ended
 end_behind line line_length t =
-    begins_behind t.notes (closed t).notes (ended_in (closed t).phase line (closed t)).notes (cut_closed t) (ended_stays (closed t).phase line (closed t))
+    begins_behind t.notes (closed t).notes (ended_in (closed t).phase line line_length (closed t)).notes (cut_closed t) (ended_stays (closed t).phase line line_length (closed t))
 
 pub notes_stay : NotesStay
 notes_stay = record { behind_line = line_behind; closing = cut_closed; at_end = end_behind }

@@ -6,7 +6,7 @@ use Rattle.roff_num.specs.declared.limit.Limit.{Limit}
 use Rattle.roff_num.specs.declared.limit.Limit.TheVariants.{Rows, Width}
 use Rattle.tbl_data.specs.DataRead.{closed_block}
 use Rattle.tbl_data.specs.TableData.{begun_by}
-use Rattle.tbl_data.specs.TableRead.{RowBegun}
+use Rattle.tbl_data.specs.TableRead.{RowBegun, with_notes}
 use Rattle.tbl_data.specs.declared.table_data.OpenBlock.{OpenBlock}
 use Rattle.tbl_data.specs.declared.table_data.OpenBlock.TheVariants.{Dropped, Kept, Nothing}
 use Rattle.tbl_format.specs.declared.limits.TblLimits.{TblLimits}
@@ -17,7 +17,7 @@ use Rattle.tbl_table.specs.Reading.{Reading, given_at_end, given_behind, limit_a
 use Rattle.tbl_table.specs.Steps.{given_within, width_met}
 use Rattle.tbl_data.specs.declared.phase.Phase.{Phase}
 use Rattle.tbl_data.specs.declared.phase.Phase.TheVariants.{InData}
-use Rattle.tbl_table.specs.Table.{TableRead, closed, closed_line, ended, ended_in, notes, output, output_in, picture_of, rows, told_at_cut, width, width_in}
+use Rattle.tbl_table.specs.Table.{TableRead, closed, closed_line, cut_told, ended, ended_in, notes, output, output_in, picture_of, rows, told_at_cut, width, width_in}
 use Rattle.tbl_table.proofs.FewFields.{whole_pending}
 
 -- a table that is closed has no line that goes on, and no block that is open
@@ -75,7 +75,7 @@ module _ (l : TblLimits) (number line_length : ℕ) where
   unfolding notes
   told-some t limit is = ap (λ (o : Option Limit). told_behind o number line_length t) is
 
-  told-none : (t : TableRead) → None ≡ limit_at_end l line_length t → (ended_in (closed t).phase number (closed t)).notes ≡ told_at_end l number line_length t
+  told-none : (t : TableRead) → None ≡ limit_at_end l line_length t → (ended_in (closed t).phase number line_length (closed t)).notes ≡ told_at_end l number line_length t
   unfolding notes ended
   told-none t is = ap (λ (o : Option Limit). told_behind o number line_length t) is
 
@@ -84,27 +84,33 @@ module _ (l : TblLimits) (number line_length : ℕ) where
   told-cut t is = told-some t Rows (rows-met t is)
 
   pub told-by : (r : Option Limit) (t : TableRead) (told : List Told) → r ≡ limit_at_end l line_length t
-      → (r ≡ None → told ≡ (ended_in (closed t).phase number (closed t)).notes) → (is_some r ≡ true → told ≡ (closed t).notes)
+      → (r ≡ None → told ≡ (ended_in (closed t).phase number line_length (closed t)).notes) → (is_some r ≡ true → told ≡ (closed t).notes)
       → told ≡ told_at_end l number line_length t
   told-by None t told is none some = none refl ∙ told-none t is
   told-by (Some limit) t told is none some = some refl ∙ told-some t limit is
 
   -- and the bytes
   given-none : (r : Reading) → None ≡ limit_at_end l line_length r.table
-      → output_or_read (output_in (ended_in (closed r.table).phase number (closed r.table)).phase line_length (ended_in (closed r.table).phase number (closed r.table))) r.read ++ r.line
+      → output_or_read (output_in (ended_in (closed r.table).phase number line_length (closed r.table)).phase line_length (ended_in (closed r.table).phase number line_length (closed r.table))) r.read ++ r.line
       ≡ given_at_end l number line_length r
   unfolding output ended
   given-none r is = ap (λ (o : Option Limit). given_behind o number line_length r) is
 
   pub given-by : (met : Option Limit) (r : Reading) → met ≡ limit_at_end l line_length r.table
-      → given_within met (output_or_read (output_in (ended_in (closed r.table).phase number (closed r.table)).phase line_length (ended_in (closed r.table).phase number (closed r.table))) r.read ++ r.line)
+      → given_within met (output_or_read (output_in (ended_in (closed r.table).phase number line_length (closed r.table)).phase line_length (ended_in (closed r.table).phase number line_length (closed r.table))) r.read ++ r.line)
       ≡ given_at_end l number line_length r
   given-by None r is = given-none r is
   given-by (Some limit) r is = ap (λ (o : Option Limit). given_behind o number line_length r) is
 
 -- what stands in the place of a table in its data
 pub picture-out : (t : TableRead) (number line_length : ℕ) → t.phase ≡ InData
-    → output_in (ended_in t.phase number t).phase line_length (ended_in t.phase number t) ≡ Some (picture_of line_length t)
+    → output_in (ended_in t.phase number line_length t).phase line_length (ended_in t.phase number line_length t) ≡ Some (picture_of line_length t)
 picture-out t number line_length is =
-    ap (λ (p : Phase). output_in (ended_in p number t).phase line_length (ended_in p number t)) is
-    ∙ ap (λ (p : Phase). output_in p line_length t) is
+    let told = with_notes (cut_told number line_length t) t in
+    ap (λ (p : Phase). output_in (ended_in p number line_length t).phase line_length (ended_in p number line_length t)) is
+    ∙ ap (λ (p : Phase). output_in p line_length told) is
+
+-- and what is told then
+pub picture-told : (t : TableRead) (number line_length : ℕ) → t.phase ≡ InData
+    → (ended_in t.phase number line_length t).notes ≡ t.notes ++ cut_told number line_length t
+picture-told t number line_length is = ap (λ (p : Phase). (ended_in p number line_length t).notes) is

@@ -1,11 +1,11 @@
 -- What a line of a table does to the parts that keep it.
-use Rattle.std.specs.Prelude.{◌≡◌, ◌<◌, ◌≤◌, ◌+◌, ℕ, suc, drop, nat_lt, Bool, true, false, List, [], ◌∷◌, ◌++◌, length, Option, None, Some, map, take, if◌then◌else◌}
+use Rattle.std.specs.Prelude.{◌≡◌, ◌<◌, ◌≤◌, ◌+◌, ℕ, suc, drop, nat_lt, Bool, true, false, List, [], ◌∷◌, ◌++◌, length, Option, None, Some, map, replicate, take, if◌then◌else◌}
 use Rattle.roff_num.specs.declared.limit.Limit.{Limit}
 use Rattle.roff_num.specs.declared.limit.Limit.TheVariants.{Width}
 use Rattle.roff_source.specs.Bytes.{newline}
 use Rattle.tbl_format.specs.Format.{Format, format_read, letters_left_out, no_format}
 use Rattle.tbl_format.specs.FormatRows.{keeping}
-use Rattle.tbl_options.specs.Notes.{ignored_message, left_out_note, told_at}
+use Rattle.tbl_options.specs.Notes.{cut_note, ignored_message, left_out_note, told_at}
 use Rattle.tbl_options.specs.Options.{ignored_options}
 use Rattle.tbl_format.specs.RowsServed.{all_rows}
 use Rattle.tbl_kept.specs.RowsLaying.{AreOpened}
@@ -33,6 +33,10 @@ use Rattle.tbl_options.specs.declared.notes.Cause.TheVariants.{BadFormat}
 -- one message more
 abbrev pub with_cause : ℕ → Cause → KeptNotes → KeptNotes
 with_cause line cause k = record k { notes = k.notes ++ record { line = line; cause = cause } ∷ [] }
+
+-- all are to tell, and then of so many entries that they are cut
+abbrev pub with_cut : ℕ → ℕ → KeptNotes → KeptNotes
+with_cut line count k = record k { to_tell = k.notes ++ replicate count (cut_note line) }
 
 -- nothing is kept
 abbrev pub emptied : TableData → TableData

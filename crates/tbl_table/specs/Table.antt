@@ -1,12 +1,12 @@
 -- A table, line by line: what it is behind each of them, and what is written in its place (Lesk, "Tbl").
-use Rattle.std.specs.Prelude.{ℕ, suc, ◌+◌, Bool, true, false, not, ◌&&◌, List, [], ◌∷◌, ◌++◌, length, map, take, drop, Option, None, Some, is_some, if◌then◌else◌, ◌==◌}
+use Rattle.std.specs.Prelude.{ℕ, suc, ◌+◌, Bool, true, false, not, ◌&&◌, List, [], ◌∷◌, ◌++◌, length, map, replicate, take, drop, Option, None, Some, is_some, if◌then◌else◌, ◌==◌}
 use Rattle.roff_source.specs.Bytes.{newline}
 use Rattle.tbl_format.specs.Format.{Format, format_read, letters_left_out, no_format}
 use Rattle.tbl_options.specs.Notes.{ignored_message, told_at}
 use Rattle.tbl_options.specs.Options.{ignored_options, options_end, options_read}
 use Rattle.tbl_format.specs.declared.format.FormatPlace.{FormatPlace}
 use Rattle.tbl_format.specs.declared.format.FormatPlace.TheVariants.{AtEnd, AtFault, InRows}
-use Rattle.tbl_options.specs.declared.message.Message.TheVariants.{LeftOut}
+use Rattle.tbl_options.specs.declared.message.Message.TheVariants.{EntryCut, LeftOut}
 use Rattle.tbl_options.specs.declared.message.Told.{Told}
 use Rattle.tbl_kept.specs.Joined.{Joined, behind_joined, goes_on}
 use Rattle.tbl_layout.specs.Columns.{Laid}
@@ -15,6 +15,7 @@ use Rattle.tbl_layout.specs.Entries.{Element}
 use Rattle.tbl_layout.specs.Spans.{filled, laid}
 use Rattle.tbl_layout.specs.Widths.{table_bars}
 use Rattle.tbl_giving.specs.Frame.{indent, picture}
+use Rattle.tbl_lines.specs.CutEntries.{cut_entries}
 use Rattle.tbl_lines.specs.PictureLeft.{table_lines}
 use Rattle.tbl_lines.specs.PictureLines.{Sheet}
 use Rattle.tbl_data.specs.DataRead.{closed_block, data_line, whole_line}
@@ -120,15 +121,34 @@ closed_line (Some j) t = whole_line j.ends 0 j.bytes t
 unfoldable pub closed : TableRead → TableRead
 closed t = let whole = closed_line t.pending t in closed_block whole.begun whole
 
--- at the line that ends the table, by what was read then: a format that is open lacks its end
-abbrev pub ended_in : Phase → ℕ → TableRead → TableRead
-ended_in AtHead n t = bad n t
-ended_in InFormat n t = bad n t
-ended_in InData n t = t
-ended_in Bad n t = t
+-- its columns, and how wide its picture is
+abbrev pub laid_out : ℕ → TableRead → Laid
+laid_out line_length t = laid (table_bars t.options.boxing t.format) t.options.expanded line_length t.format.asked t.body
+
+-- its bars, and how wide it and its columns are
+abbrev pub sheet_of : ℕ → TableRead → Sheet
+sheet_of line_length t =
+    let table = laid_out line_length t in
+    record { bars = table_bars t.options.boxing t.format; width = table.width; columns = table.columns }
+
+-- what stands in it, each text block with its measure
+abbrev pub body_filled : ℕ → TableRead → List Element
+body_filled line_length t = filled (table_bars t.options.boxing t.format) line_length t.format.asked t.body
+
+-- the messages of its entries that are cut
+abbrev pub cut_told : ℕ → ℕ → TableRead → List Told
+cut_told n line_length t =
+    replicate (cut_entries (sheet_of line_length t) (body_filled line_length t)) (told_at n EntryCut)
+
+-- at the line that ends the table, by what was read then: a format that is open lacks its end, and of each entry that is cut it is told
+abbrev pub ended_in : Phase → ℕ → ℕ → TableRead → TableRead
+ended_in AtHead n line_length t = bad n t
+ended_in InFormat n line_length t = bad n t
+ended_in InData n line_length t = with_notes (cut_told n line_length t) t
+ended_in Bad n line_length t = t
 
 unfoldable pub ended : ℕ → ℕ → TableRead → TableRead
-ended n line_length t = ended_in (closed t).phase n (closed t)
+ended n line_length t = ended_in (closed t).phase n line_length (closed t)
 
 -- whether it passes as it was read
 abbrev pub is_bad_phase : Phase → Bool
@@ -148,16 +168,7 @@ notes t = t.notes
 unfoldable pub told_at_cut : TableRead → List Told
 told_at_cut t = notes t
 
--- its columns, and how wide its picture is
-abbrev pub laid_out : ℕ → TableRead → Laid
-laid_out line_length t = laid (table_bars t.options.boxing t.format) t.options.expanded line_length t.format.asked t.body
-
--- its bars, and how wide it and its columns are
-abbrev pub sheet_of : ℕ → TableRead → Sheet
-sheet_of line_length t =
-    let table = laid_out line_length t in
-    record { bars = table_bars t.options.boxing t.format; width = table.width; columns = table.columns }
-
+-- how wide it is
 abbrev pub width_in : Phase → ℕ → TableRead → ℕ
 width_in AtHead line_length t = 0
 width_in InFormat line_length t = 0
@@ -166,10 +177,6 @@ width_in Bad line_length t = 0
 
 unfoldable pub width : ℕ → TableRead → ℕ
 width line_length t = width_in t.phase line_length t
-
--- what stands in it, each text block with its measure
-abbrev pub body_filled : ℕ → TableRead → List Element
-body_filled line_length t = filled (table_bars t.options.boxing t.format) line_length t.format.asked t.body
 
 -- what is written in its place
 abbrev pub picture_of : ℕ → TableRead → List ℕ

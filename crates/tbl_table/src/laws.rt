@@ -9,7 +9,8 @@ pub fn stable()
     ensures { NotesStay }
 {}
 
-/// A line has at most one message for each of its bytes and its newline, and the table's end one.
+/// A line has at most one message for each of its bytes and its newline, and the table's end one,
+/// and one for each text, of which a line has no more.
 pub fn few_messages()
     ensures { NotesAreFew }
 {}

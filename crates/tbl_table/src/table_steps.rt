@@ -5,6 +5,7 @@ ghost use Rattle.std.specs.Prelude.{false, true, IfOk, IfSome, take, unwrap_or, 
 ghost use Rattle.tbl_format.specs.Format.{Format, format_read};
 ghost use Rattle.tbl_format.specs.KeyCounts.{Counts, IsCount, StandsOnLine};
 ghost use Rattle.tbl_format.specs.FormatRows.{key_count};
+ghost use Rattle.tbl_giving.specs.Giving.{IsLaidOut, cuts_laid};
 ghost use Rattle.tbl_kept.specs.Joined.{goes_on};
 ghost use Rattle.tbl_format.specs.RowsServed.{all_rows};
 ghost use Rattle.tbl_kept.specs.TableText.{block_of};
@@ -12,7 +13,7 @@ ghost use Rattle.tbl_options.specs.Notes.{NotesWithin, told_of_all};
 ghost use Rattle.tbl_table.specs.Steps.{BlockEnds, CanEnd, data_behind};
 ghost use Rattle.tbl_table.specs.Steps.{emptied, fault_noted, head_letters, is_open, letters_noted};
 ghost use Rattle.tbl_table.specs.Steps.{options_told, phase_at_last, phase_behind, roomy};
-ghost use Rattle.tbl_table.specs.Steps.{with_cause, with_keys};
+ghost use Rattle.tbl_table.specs.Steps.{with_cause, with_cut, with_keys};
 ghost use Rattle.tbl_options.specs.declared.notes.Cause.TheVariants.{BadFormat};
 ghost use Rattle.tbl_data.specs.declared.phase.Phase.TheVariants.{Bad};
 
@@ -23,9 +24,11 @@ use tbl_data::table_data::{OpenBlock, TableData};
 use tbl_format::format::FormatPlace;
 use tbl_format::format_rows::FormatRows;
 use tbl_format::key_count::KeyCount;
+use tbl_giving::giving::Giving;
 use tbl_kept::rows::TableRows;
 use tbl_kept::table_notes::TableNotes;
 use tbl_kept::table_text::TableText;
+use tbl_layout::bars::Bars;
 use tbl_options::notes::{Cause, KeptNote};
 use tbl_options::options::read_options;
 
@@ -187,6 +190,35 @@ pub fn tell_options(end: Option<usize>, notes: &mut TableNotes, block: &[u8], li
         Some(end) => notes.push_ignored(block, 0, end, line),
         None => {}
     }
+}
+
+/// All messages of a table are to tell, and behind them, for this line, those of the entries that
+/// are cut in its picture, which has these bars and is so wide. What was to give is given up.
+pub fn tell_cut(
+    giving: &mut Giving,
+    kept: &mut TableData,
+    text: &TableText,
+    number: u32,
+    bars: Bars,
+    width: usize,
+)
+    requires { IsLaidOut bars width text.now kept.old.rows kept.old.format giving.old.columns }
+    ensures kept { kept.new ≡ record kept.old {
+      notes = with_cut number
+          (cuts_laid bars width text.now kept.old.rows kept.old.format) kept.old.notes;
+      escapes = kept.new.escapes;
+    } }
+    ensures room { giving.new.columns ≡ giving.old.columns }
+{
+    let count = giving.count_cut(
+        &mut kept.escapes,
+        text,
+        &kept.rows,
+        &kept.format,
+        bars,
+        width,
+    );
+    kept.notes.tell_with_cut(count, number);
 }
 
 /// Reports what is left out of the keys of a first line without a newline, whose options end there,

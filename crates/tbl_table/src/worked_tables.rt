@@ -2,7 +2,7 @@
 
 ghost use Rattle.std.specs.Prelude.{◌≡◌, [], ◌∷◌, Some, None, codes};
 ghost use Rattle.tbl_options.specs.Notes.{told_at};
-ghost use Rattle.tbl_options.specs.declared.message.Message.TheVariants.{BadFormat, LeftOut};
+ghost use Rattle.tbl_options.specs.declared.message.Message.TheVariants.{BadFormat, EntryCut, LeftOut};
 ghost use Rattle.tbl_options.specs.declared.message.Message.TheVariants.{NotMeasured};
 ghost use Rattle.tbl_options.specs.declared.message.Message.TheVariants.{RequestInTextBlock};
 ghost use Rattle.tbl_options.specs.declared.message.Message.TheVariants.{TooManyFields};
@@ -49,13 +49,16 @@ pub fn pictures()
         ≡ codes "\\&a      | bb\n\\&longer |  c\n" }
     ensures double_box { lines_after 65 (codes "doublebox;" ∷ codes "l." ∷ codes "ab" ∷ [])
         ≡ codes "\\&++====++\n\\&|| ab ||\n\\&++====++\n" }
+    ensures without_width { lines_after 65 (codes "tab(:);" ∷ codes "l l" ∷ codes "lz l."
+        ∷ codes "x:y" ∷ codes "abcdef:z" ∷ codes "abcdef:" ∷ [])
+        ≡ codes "\\&x   y\n\\&abcdz\n\\&abcde\n" }
     ensures spanned { lines_after 65 (codes "box;" ∷ codes "c s s" ∷ codes "l r n." ∷ codes "Title"
         ∷ codes "a\tbb\t1.5" ∷ codes "longer\tc\t10" ∷ [])
         ≡ codes "\\&+--------------------+\n\\&|       Title        |\n\\&| a        bb    1.5 |\n\\&| longer    c   10   |\n\\&+--------------------+\n" }
 {}
 
 /// Tables that are reported.
-#[tactic(auto, unfolding(tbl_data::specs::TableRead::no_lines, crate::specs::Table::line_read, crate::specs::Table::closed, crate::specs::Table::ended, crate::specs::Table::notes, crate::specs::Table::output, tbl_format::specs::FormatSteps::step))]
+#[tactic(auto, unfolding(tbl_data::specs::TableRead::no_lines, crate::specs::Table::line_read, crate::specs::Table::closed, crate::specs::Table::ended, crate::specs::Table::notes, crate::specs::Table::output, tbl_format::specs::FormatSteps::step, tbl_lines::specs::CutEntries::cut_entries))]
 pub fn reports()
     ensures letter { notes_after (codes "lx." ∷ codes "a" ∷ []) ≡ told_at 1 (LeftOut 120) ∷ [] }
     ensures measures { notes_after (codes "l l." ∷ codes "\\nxb\t\\(em\\w'x'" ∷ [])
@@ -94,6 +97,13 @@ pub fn reports()
     ensures joined_from_above { notes_after (codes "l l." ∷ codes "_\t\\" ∷ codes "\\^" ∷ [])
         ≡ [] }
     ensures no_dot { notes_after (codes "l" ∷ []) ≡ told_at 2 BadFormat ∷ [] }
+    ensures cut { notes_after (codes "tab(:);" ∷ codes "l l" ∷ codes "lz l." ∷ codes "x:y:w"
+        ∷ codes "abcdef\\nx:z" ∷ codes "abcdef:z" ∷ [])
+        ≡ told_at 4 TooManyFields ∷ told_at 5 (NotMeasured 110) ∷ told_at 7 EntryCut
+        ∷ told_at 7 EntryCut ∷ [] }
+    ensures cut_but_not_ended { notes_after (codes "tab(:);" ∷ codes "l l" ∷ codes "lz l."
+        ∷ codes "x:y" ∷ codes "abcdef:z" ∷ codes ".T&" ∷ codes "r" ∷ [])
+        ≡ told_at 8 BadFormat ∷ [] }
     ensures not_ended { notes_after (codes "l." ∷ codes "a" ∷ codes ".T&" ∷ codes "l" ∷ [])
         ≡ told_at 5 BadFormat ∷ [] }
 {}

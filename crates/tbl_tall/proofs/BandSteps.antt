@@ -7,7 +7,7 @@ use Rattle.tbl_layout.specs.declared.bars.Bars.{Bars}
 use Rattle.tbl_options.specs.declared.options.Boxing.{Boxing}
 use Rattle.tbl_lines.specs.LinesLeft.{Beside, OfRules, Over, bars_met, is_within, over_at, own_bars, rules_boundary, shown_bars}
 use Rattle.tbl_lines.specs.PictureLines.{RuleLine}
-use Rattle.tbl_tall.specs.Bands.{AlikeLines, AlikeOvers, BandFits, BandStands, GoThrough, KeptBand, ShowBars, ShowSame, band_line, lines_among, lines_behind, passed_bars, rest_shown}
+use Rattle.tbl_tall.specs.Bands.{AlikeLines, AlikeOvers, BandFits, BandStands, KeptBand, ShowSame, band_line, lines_among, lines_behind, passed_bars, rest_shown}
 use Rattle.tbl_tall.proofs.BandsAlike.{alike-self, among-alike, rules-alike, shown-alike}
 
 -- what a line of rules shows, by whether it rules a boundary, and whether that stands within a cell; and how many bars meet there
@@ -54,12 +54,6 @@ module _ (formats : List FormatRow) (boxing : Boxing) (columns : ℕ) (b : KeptB
       ap (λ (n : ℕ). shown_bars boxing columns (lines_among formats b.wholes b.first all at n below) boundary) left
       ∙ ap (λ (m : ℕ). shown_by (ruled_at at) inside (own_at at) (behind m)) next
 
-  -- behind the last one the line below
-  pub rest-end : (at : ℕ) → b.wholes + b.count ≤ at → rest_at at ≡ shown_bars boxing columns below boundary
-  rest-end at past =
-      let left : b.wholes + b.count - at ≡ 0 = omega (arith, past) in
-      ap (λ (n : ℕ). shown_bars boxing columns (lines_among formats b.wholes b.first all at n below) boundary) left
-
   -- along lines that don't rule a boundary, which is not within a cell
   module _ (out : inside ≡ false) (start most : ℕ) where
     pub stretch-ruled : (at : ℕ) → at < b.wholes + b.count → ruled_at at ≡ true → max most (rest_at at) ≡ rest_at start → most ≡ rest_at start
@@ -70,15 +64,6 @@ module _ (formats : List FormatRow) (boxing : Boxing) (columns : ℕ) (b : KeptB
         → max (max own most) (rest_at (at + 1)) ≡ rest_at start
     stretch-next at own more free is so_far =
         omega (arith, so_far, is, rest-line at more, more-shown (ruled_at at) inside (own_at at) (rest_at (at + 1)) free out)
-
-    pub stretch-end : (at bars : ℕ) → b.wholes + b.count ≤ at → bars ≡ shown_bars boxing columns below boundary
-        → max most (rest_at at) ≡ rest_at start
-        → max bars most ≡ rest_at start
-    stretch-end at bars past is so_far = omega (arith, so_far, is, rest-end at past)
-
-met-within : (w r : Bool) (own above rest : ℕ) → w ≡ true → met_by w r own above rest ≡ 0
-met-within true r own above rest is = refl
-met-within false r own above rest is = absurd (cc)
 
 met-crossed : (w r : Bool) (own above rest : ℕ) → w ≡ false → r ≡ true → met_by w r own above rest ≡ max above rest
 met-crossed true r own above rest out is = absurd (cc)
@@ -115,12 +100,6 @@ module _ (formats : List FormatRow) (bars : Bars) (columns : ℕ) (b : KeptBand)
   meets = bars_met (record bars { has_any = true }) columns (band_line formats b b.at) all above (lines_behind formats b all
       (b.at + 1) below) boundary
 
-  meets-by : meets ≡ met_by cut ruled own up (rest (b.at + 1))
-  meets-by = refl
-
-  pub meets-inside : cut ≡ true → meets ≡ 0
-  meets-inside is = met-within cut ruled own up (rest (b.at + 1)) is
-
   pub meets-ruled : cut ≡ false → ruled ≡ true → max (rest (b.at + 1)) kept ≡ meets
   meets-ruled out is =
       omega (
@@ -152,16 +131,6 @@ module _ (formats : List FormatRow) (bars : Bars) (columns : ℕ) (b : KeptBand)
         more-shown ruled cut own (rest (b.at + 1)) free out,
         met-open cut ruled own up (rest (b.at + 1)) out free,
       )
-
--- in a picture that may have bars, and in one that has none
-pub meets-any : (has : Bool) (bars : Bars) (columns : ℕ) (line : RuleLine) (all : List Over) (above below : Beside) (boundary : ℕ)
-    → bars.has_any ≡ has
-    → bars_met bars columns line all above below boundary
-    ≡ (if has then bars_met (record bars { has_any = true }) columns line all above below boundary else 0)
-meets-any true bars columns line all above below boundary is =
-    ap (λ (h : Bool). bars_met (record bars { has_any = h }) columns line all above below boundary) is
-meets-any false bars columns line all above below boundary is =
-    ap (λ (h : Bool). bars_met (record bars { has_any = h }) columns line all above below boundary) is
 
 -- behind the line
 passed-met : (r w : Bool) (own up rest : ℕ) → max (if r then 0 else met_by w r own up rest) rest ≡ max (shown_by r w own up) rest
@@ -267,20 +236,6 @@ pass-stands formats bars columns b all other line above below xs stands next man
     stands-alike formats bars columns (record b { above = xs; at = b.at + 1 }) all other (OfRules (band_line formats b b.at) all above)
     (OfRules line all above) below (passed-stands formats bars columns b all above below stands next xs many are) cells
     (λ boundary few. sym (shown-alike bars.boxing columns line (band_line formats b b.at) all all lines (overs-self all) above above boundary refl))
-
--- in front of all lines
-pub band-begun : (formats : List FormatRow) (bars : Bars) (columns : ℕ) (b : KeptBand) (all : List Over) (above below : Beside) → BandFits formats b
-    → length b.through ≡ columns → b.at ≡ 0 → GoThrough b.through all → ShowBars bars.boxing columns b.above above
-    → ShowBars bars.boxing columns b.below below
-    → BandStands formats bars columns b all above below
-band-begun formats bars columns b all above below fits as_many begun through up down = record {
-  fits = fits;
-  as_many = as_many;
-  through = through;
-  below_shown = down;
-  met = λ boundary few. ap (λ (n : ℕ). max n (rest_shown formats bars.boxing columns b all below b.at boundary)) (up.shown boundary few);
-  held = λ boundary few some more free. absurd (omega (arith, some, begun));
-}
 
 -- one boundary more
 pub counts-next : (f : ℕ → ℕ) (xs : List ℕ) (v n : ℕ) → length xs ≡ n → v ≡ f n → ((boundary : ℕ) → boundary < n → get_or xs boundary 0 ≡ f boundary)

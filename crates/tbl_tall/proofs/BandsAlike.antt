@@ -116,7 +116,7 @@ rest-key Short l = refl
 rest-key (Repeated b) l = refl
 rest-key Above l = refl
 
-abbrev through_by : Bool → Bool → Left → Left
+abbrev pub through_by : Bool → Bool → Left → Left
 through_by up is_here l = if up then (if is_here then rest_by l.field l else record l { lead = l.lead - 1 }) else l
 
 through-by-rows : (up is_here : Bool) (l : Left) → (through_by up is_here l).rows ≡ l.rows
@@ -200,41 +200,44 @@ alike-read all other free within = record {
   within = λ boundary. within-read all boundary ∙ ap (λ (f : List Bool). get_or f boundary false) within ∙ sym (within-read other boundary);
 }
 
+-- cells of the same columns and rows go through the same
+module _ (f : Left → Left) (key : (l : Left) → (f l).key ≡ l.key) (rows : (l : Left) → (f l).rows ≡ l.rows) where
+  frees-map : (cells : List Left) (from : ℕ) (columns : List Column)
+      → map is_free (overs from (map f cells) columns) ≡ map is_free (overs from cells columns)
+  frees-map [] from columns = refl
+  frees-map (own ∷ cells) from columns =
+      let next = f own in
+      let by : ℕ → List Bool = λ end. map is_free (overs_of next (take (end - from) columns) ++ overs end (map f cells) (drop (end - from) columns)) in
+      let front = take (own.key.end - from) columns in
+      let behind = drop (own.key.end - from) columns in
+      let rest = overs own.key.end (map f cells) behind in
+      ap by (ap (λ k. k.end) (key own))
+      ∙ map-append is_free (overs_of next front) rest
+      ∙ ap (λ (bs : List Bool). bs ++ map is_free rest)
+      (frees-of next front ∙ ap (λ (n : ℕ). replicate (length front) (not (nat_lt 0 n))) (rows own) ∙ sym (frees-of own front))
+      ∙ ap (λ (bs : List Bool). map is_free (overs_of own front) ++ bs) (frees-map cells own.key.end behind)
+      ∙ sym (map-append is_free (overs_of own front) (overs own.key.end cells behind))
+
+  withins-map : (cells : List Left) (from : ℕ) (columns : List Column)
+      → map is_within (overs from (map f cells) columns) ≡ map is_within (overs from cells columns)
+  withins-map [] from columns = refl
+  withins-map (own ∷ cells) from columns =
+      let next = f own in
+      let by : ℕ → List Bool = λ end. map is_within (overs_of next (take (end - from) columns) ++ overs end (map f cells) (drop (end - from) columns)) in
+      let front = take (own.key.end - from) columns in
+      let behind = drop (own.key.end - from) columns in
+      let rest = overs own.key.end (map f cells) behind in
+      ap by (ap (λ k. k.end) (key own))
+      ∙ map-append is_within (overs_of next front) rest
+      ∙ ap (λ (bs : List Bool). bs ++ map is_within rest)
+      (withins-of next front ∙ ap (λ (n : ℕ). within_flags (nat_lt 0 n) (length front)) (rows own) ∙ sym (withins-of own front))
+      ∙ ap (λ (bs : List Bool). map is_within (overs_of own front) ++ bs) (withins-map cells own.key.end behind)
+      ∙ sym (map-append is_within (overs_of own front) (overs own.key.end cells behind))
+
+  pub overs-map : (cells : List Left) (columns : List Column) → AlikeOvers (overs 0 (map f cells) columns) (overs 0 cells columns)
+  overs-map cells columns =
+      alike-read (overs 0 (map f cells) columns) (overs 0 cells columns) (frees-map cells 0 columns) (withins-map cells 0 columns)
+
 -- cells behind a line of rules go through the next one as they went through it
-frees-through : (cells : List Left) (from : ℕ) (columns : List Column)
-    → map is_free (overs from (map through_rule cells) columns) ≡ map is_free (overs from cells columns)
-frees-through [] from columns = refl
-frees-through (own ∷ cells) from columns =
-    let next = through_rule own in
-    let f : ℕ → List Bool = λ end. map is_free (overs_of next (take (end - from) columns) ++ overs end (map through_rule cells) (drop
-    (end - from) columns)) in
-    let front = take (own.key.end - from) columns in
-    let behind = drop (own.key.end - from) columns in
-    let rest = overs own.key.end (map through_rule cells) behind in
-    ap f (ap (λ k. k.end) (through-key own))
-    ∙ map-append is_free (overs_of next front) rest
-    ∙ ap (λ (bs : List Bool). bs ++ map is_free rest)
-    (frees-of next front ∙ ap (λ (n : ℕ). replicate (length front) (not (nat_lt 0 n))) (through-rows own) ∙ sym (frees-of own front))
-    ∙ ap (λ (bs : List Bool). map is_free (overs_of own front) ++ bs) (frees-through cells own.key.end behind)
-    ∙ sym (map-append is_free (overs_of own front) (overs own.key.end cells behind))
-
-withins-through : (cells : List Left) (from : ℕ) (columns : List Column)
-    → map is_within (overs from (map through_rule cells) columns) ≡ map is_within (overs from cells columns)
-withins-through [] from columns = refl
-withins-through (own ∷ cells) from columns =
-    let next = through_rule own in
-    let f : ℕ → List Bool = λ end. map is_within (overs_of next (take (end - from) columns) ++ overs end (map through_rule cells) (drop
-    (end - from) columns)) in
-    let front = take (own.key.end - from) columns in
-    let behind = drop (own.key.end - from) columns in
-    let rest = overs own.key.end (map through_rule cells) behind in
-    ap f (ap (λ k. k.end) (through-key own))
-    ∙ map-append is_within (overs_of next front) rest
-    ∙ ap (λ (bs : List Bool). bs ++ map is_within rest)
-    (withins-of next front ∙ ap (λ (n : ℕ). within_flags (nat_lt 0 n) (length front)) (through-rows own) ∙ sym (withins-of own front))
-    ∙ ap (λ (bs : List Bool). map is_within (overs_of own front) ++ bs) (withins-through cells own.key.end behind)
-    ∙ sym (map-append is_within (overs_of own front) (overs own.key.end cells behind))
-
 pub overs-alike : (cells : List Left) (columns : List Column) → AlikeOvers (overs 0 (map through_rule cells) columns) (overs 0 cells columns)
-overs-alike cells columns =
-    alike-read (overs 0 (map through_rule cells) columns) (overs 0 cells columns) (frees-through cells 0 columns) (withins-through cells 0 columns)
+overs-alike = overs-map through_rule through-key through-rows

@@ -123,14 +123,14 @@ first-taken (suc n) at formats format rules more is =
     (first, ap (λ (m : ℕ). take m (drop (at + 1) formats)) here ∙ ap (λ (m : ℕ). take n (drop m formats)) next ∙ others)
 
 -- a line of rules that comes next, by the first element
-abbrev RuleOf : List Element → RuleLine → List Element → Type 0
+abbrev pub RuleOf : List Element → RuleLine → List Element → Type 0
 RuleOf [] line rest = ⊥
 RuleOf (Row [] row fields ∷ elements) line rest = ⊥
 RuleOf (Row (format ∷ rules) row fields ∷ elements) line rest = (line ≡ OfKeys format) × (rest ≡ Row rules row fields ∷ elements)
 RuleOf (Rule sign ∷ elements) line rest = (line ≡ Whole sign) × (rest ≡ elements)
 RuleOf (Command bytes ∷ elements) line rest = ⊥
 
-rule-of : (elements rest : List Element) (line : RuleLine) → RuleComes elements line rest → RuleOf elements line rest
+pub rule-of : (elements rest : List Element) (line : RuleLine) → RuleComes elements line rest → RuleOf elements line rest
 rule-of _ _ _ WholeComes = (refl, refl)
 rule-of _ _ _ KeysCome = (refl, refl)
 

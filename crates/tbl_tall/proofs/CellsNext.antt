@@ -1,18 +1,20 @@
 -- The cells of the row that comes next, one by one: what is left of each, its key, and over how many rows it has come.
-use Rattle.std.proofs.Common.{◌≡◌, ℕ, zero, suc, ◌+◌, ◌-◌, ◌<◌, ◌≤◌, Bool, List, [], ◌∷◌, ◌++◌, drop, get_or, length, map, refl, sym, ap, subst, ◌∙◌, arith, append_assoc, length-append}
+use Rattle.std.proofs.Common.{◌≡◌, ℕ, zero, suc, ◌+◌, ◌-◌, ◌<◌, ◌≤◌, Bool, false, if◌then◌else◌, List, [], ◌∷◌, ◌++◌, drop, get_or, length, map, refl, sym, ap, subst, ◌∙◌, arith, append_assoc, length-append}
 use Rattle.std.specs.List.{AllByRecursion}
 use Rattle.std.specs.Prelude.{Option, None, Some, unwrap_or}
-use Rattle.tbl_format.specs.Cells.{cell_count}
+use Rattle.tbl_format.specs.Cells.{cell_count, same_cell}
 use Rattle.tbl_format.specs.Format.{FormatRow, columns_of}
 use Rattle.tbl_format.specs.FormatRows.{AreWithin}
 use Rattle.tbl_format.specs.RowsServed.{row_at}
 use Rattle.tbl_format.specs.declared.format.FormatKey.{FormatKey}
 use Rattle.tbl_format.specs.declared.format.Key.TheVariants.{Left as LeftKey}
 use Rattle.tbl_kept.proofs.HeightSteps.{length-in_front}
-use Rattle.tbl_kept.specs.KeptHeights.{cell_above_kept}
+use Rattle.tbl_kept.proofs.CellHeights.{above-seen}
+use Rattle.tbl_kept.specs.KeptHeights.{cell_above_kept, field_kept}
 use Rattle.tbl_kept.specs.Rows.{Command as CommandKept, ElementLaid, KeptElement, Row as RowKept, Rule as RuleKept}
-use Rattle.tbl_kept.specs.RowsLaying.{ElementWithin, element_at}
+use Rattle.tbl_kept.specs.RowsLaying.{ElementWithin, element_at, goes_on}
 use Rattle.tbl_layout.specs.Entries.{key_at}
+use Rattle.tbl_layout.specs.KeptEntries.{all_entries, no_entry}
 use Rattle.tbl_layout.specs.declared.entry.Entry.{Entry}
 use Rattle.tbl_lines.specs.CellsLeft.{Left, all_keys, cell_by, gone_on, keys_behind}
 use Rattle.tbl_line_cells.specs.KeptCells.{AllLeft, IsKeyAt, IsLeft}
@@ -185,21 +187,21 @@ letter-at columns format cell k is =
 pub within-lie : (formats : List FormatRow) (columns : ℕ) (elements : List KeptElement) → AllByRecursion (ElementLies formats columns) elements
     → AllByRecursion (ElementWithin formats) elements
 within-lie formats columns [] lie = tt
-within-lie formats columns (RowKept keys rules height is_tall entries ∷ elements) lie = (lie.0.serves, within-lie formats columns elements lie.1)
+within-lie formats columns (RowKept keys rules height entries ∷ elements) lie = (lie.0.serves, within-lie formats columns elements lie.1)
 within-lie formats columns (RuleKept sign ∷ elements) lie = (tt, within-lie formats columns elements lie.1)
 within-lie formats columns (CommandKept from to ∷ elements) lie = (tt, within-lie formats columns elements lie.1)
 
 pub fronts-lie : (formats : List FormatRow) (columns : ℕ) (elements : List KeptElement) → AllByRecursion (ElementLies formats columns) elements
     → AllByRecursion (HasInFront formats) elements
 fronts-lie formats columns [] lie = tt
-fronts-lie formats columns (RowKept keys rules height is_tall entries ∷ elements) lie =
+fronts-lie formats columns (RowKept keys rules height entries ∷ elements) lie =
     (length-in_front formats keys rules lie.0.serves lie.0.in_front, fronts-lie formats columns elements lie.1)
 fronts-lie formats columns (RuleKept sign ∷ elements) lie = (tt, fronts-lie formats columns elements lie.1)
 fronts-lie formats columns (CommandKept from to ∷ elements) lie = (tt, fronts-lie formats columns elements lie.1)
 
 -- rows that are laid lie so
 laid-lies : (bytes : List ℕ) (formats : List FormatRow) (columns : ℕ) (e : KeptElement) → ElementLaid bytes formats columns e → ElementLies formats columns e
-laid-lies bytes formats columns (RowKept keys rules height is_tall entries) laid =
+laid-lies bytes formats columns (RowKept keys rules height entries) laid =
     record { serves = laid.serves; in_front = laid.in_front; cells = laid.cells }
 laid-lies bytes formats columns (RuleKept sign) laid = tt
 laid-lies bytes formats columns (CommandKept from to) laid = tt
@@ -210,22 +212,32 @@ rows-lie bytes formats columns [] laid = tt
 rows-lie bytes formats columns (e ∷ elements) laid = (laid-lies bytes formats columns e laid.0, rows-lie bytes formats columns elements laid.1)
 
 -- the cell of the row above is that of its keys
-above-by : (bytes : List ℕ) (formats : List FormatRow) (cell above rules height : ℕ) (is_tall : Bool) (entries : List Entry) (row : KeptElement)
-    → cell_above_kept bytes formats cell (RowKept above rules height is_tall entries) row
+above-by : (bytes : List ℕ) (formats : List FormatRow) (cell above rules height : ℕ) (entries : List Entry) (row : KeptElement)
+    → cell_above_kept bytes formats cell (RowKept above rules height entries) row
     ≡ above_kept bytes formats (row_at formats above).keys row cell
-above-by bytes formats cell above rules height is_tall entries (RowKept keys own_rules own_height own_tall fields) = refl
-above-by bytes formats cell above rules height is_tall entries (RuleKept sign) = refl
-above-by bytes formats cell above rules height is_tall entries (CommandKept from to) = refl
+above-by bytes formats cell above rules height entries (RowKept keys own_rules own_height fields) = refl
+above-by bytes formats cell above rules height entries (RuleKept sign) = refl
+above-by bytes formats cell above rules height entries (CommandKept from to) = refl
 
 pub above-is : (bytes : List ℕ) (formats : List FormatRow) (elements : List KeptElement) (above : Option ℕ) (at : ℕ) (keys : List FormatKey) (cell : ℕ)
     (row : KeptElement) → above ≡ Some at → RowAbove formats elements above keys
     → cell_above_kept bytes formats cell (element_at elements at) row ≡ above_kept bytes formats keys row cell
 above-is bytes formats elements above at keys cell row is NoneAbove = absurd cc
-above-is bytes formats elements above at keys cell row is (OneAbove {above = other} {keys = ks} {rules = rules} {height = height} {is_tall = is_tall} {entries = entries} there) =
+above-is bytes formats elements above at keys cell row is (OneAbove {above = other} {keys = ks} {rules = rules} {height = height} {entries = entries} there) =
     let same : other ≡ at = ap (λ (o : Option ℕ). unwrap_or o 0) is in
     ap (λ (n : ℕ). cell_above_kept bytes formats cell (element_at elements n) row) (sym same)
     ∙ ap (λ (e : KeptElement). cell_above_kept bytes formats cell e row) there
-    ∙ above-by bytes formats cell ks rules height is_tall entries row
+    ∙ above-by bytes formats cell ks rules height entries row
+
+-- a cell whose field isn't that of the cell above goes on with none
+pub none-above : (bytes : List ℕ) (formats : List FormatRow) (above : List FormatKey) (row : KeptElement) (cell : ℕ)
+    → goes_on (field_kept formats cell row).kind ≡ false → above_kept bytes formats above row cell ≡ None
+none-above bytes formats above (RowKept keys rules height entries) cell not =
+    let format = row_at formats keys in
+    let field = get_or (all_entries format entries) cell no_entry in
+    ap (λ (t : Bool). if t then same_cell above format.keys cell else None) (above-seen bytes format.bars format.keys entries cell field.kind refl ∙ not)
+none-above bytes formats above (RuleKept sign) cell not = refl
+none-above bytes formats above (CommandKept from to) cell not = refl
 
 -- the keys of a row, as they are lent
 pub key-lent : (formats : List FormatRow) (keys columns bars cell : ℕ) (lent : List FormatKey) (k : FormatKey) → lent ≡ (row_at formats keys).keys
@@ -239,7 +251,7 @@ key-lent formats keys columns bars cell lent k is many at =
 pub row-within : (formats : List FormatRow) (columns : ℕ) (elements : List KeptElement) (row : RowComing) → row.at < length elements → RowIsAt elements row
     → AllByRecursion (ElementLies formats columns) elements → AreWithin columns (row_at formats row.keys).keys
 row-within formats columns elements row some is lie =
-    let own = RowKept row.keys row.rules row.height is.is_tall is.entries in
+    let own = RowKept row.keys row.rules row.height is.entries in
     let there : element_at elements row.at ≡ own = get-drop elements row.at own (CommandKept 0 0) (drop (suc row.at) elements) is.is in
     let lies : ElementLies formats columns own
     = subst (λ (e : KeptElement). ElementLies formats columns e) there (all-at (ElementLies formats columns) elements row.at (CommandKept 0 0) some lie) in

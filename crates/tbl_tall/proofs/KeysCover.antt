@@ -151,6 +151,7 @@ pub fewer-line : (c : LineCells) (columns most : ℕ) → columns ≤ most → L
 fewer-line c columns most few room = record {
   signs = omega (arith, few, room.signs);
   cells = omega (arith, few, room.cells);
+  cut = omega (arith, few, room.cut);
   fronts = omega (arith, few, room.fronts);
   columns = omega (arith, few, room.columns);
   keys = omega (arith, few, room.keys);

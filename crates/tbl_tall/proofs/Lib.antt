@@ -3,6 +3,7 @@ pub mod BandsAlike
 pub mod BandsBelow
 pub mod BarsFit
 pub mod BarsMet
+pub mod CellStops
 pub mod CellsBegun
 pub mod CellsCover
 pub mod CellsNext
@@ -14,7 +15,6 @@ pub mod KeysOf
 pub mod LinesBelow
 pub mod LinesLent
 pub mod LinesOver
-pub mod Repeats
 pub mod RowBars
 pub mod RowsBegun
 pub mod RowsComing
@@ -23,3 +23,7 @@ pub mod RowsGoOn
 pub mod RowsPassed
 pub mod RuleFits
 pub mod RuleGivens
+pub mod CutsMarked
+pub mod MarksApart
+pub mod StopsBelow
+pub mod StopsSet

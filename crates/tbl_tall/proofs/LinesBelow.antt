@@ -1,5 +1,5 @@
 -- How far a cell goes on below its row, row by row: the cell below goes up to the same column.
-use Rattle.std.proofs.Common.{◌≡◌, ℕ, zero, suc, ◌+◌, ◌<◌, ◌≤◌, ◌==◌, Bool, true, false, ◌&&◌, List, [], ◌∷◌, drop, length, refl, sym, ap, subst, ◌∙◌, arith}
+use Rattle.std.proofs.Common.{◌≡◌, ℕ, zero, suc, ◌+◌, ◌<◌, ◌≤◌, ◌==◌, Bool, true, false, ◌&&◌, List, [], ◌∷◌, drop, refl, sym, ap, subst, ◌∙◌, arith}
 use Rattle.std.proofs.lemmas.Bool.{eqb-true}
 use Rattle.std.specs.Prelude.{if◌then◌else◌, IfSome, Option, None, Some, unwrap_or}
 use Rattle.tbl_format.proofs.CellColumns.{end_behind, end_of-behind}
@@ -13,7 +13,7 @@ use Rattle.tbl_kept.specs.RowsLaying.{HasFewRules, element_at}
 use Rattle.tbl_layout.specs.Entries.{Content, field_at}
 use Rattle.tbl_layout.specs.Heights.{cell_below, if_above, is_above, rules_between}
 use Rattle.tbl_layout.specs.declared.entry.Entry.{Entry}
-use Rattle.tbl_tall.proofs.CellsNext.{drop-past, get-drop}
+use Rattle.tbl_tall.proofs.CellsNext.{get-drop}
 use Rattle.tbl_tall.specs.LinesOver.{lines_kept, over_by}
 use Rattle.tbl_tall.specs.RowsNext.{end_kept}
 use Rattle.tbl_tall.specs.TallRows.{ElementLies}
@@ -50,20 +50,20 @@ below-ends keys below fields cell other is =
 
 pub kept-ends : (bytes : List ℕ) (formats : List FormatRow) (row below : KeptElement) (cell other : ℕ)
     → cell_below_kept bytes formats cell row below ≡ Some other → end_kept formats row cell ≡ end_kept formats below other
-kept-ends bytes formats (RowKept keys rules height is_tall entries) (RowKept own own_rules own_height own_tall fields) cell other is =
+kept-ends bytes formats (RowKept keys rules height entries) (RowKept own own_rules own_height fields) cell other is =
     sym (below-ends (row_at formats keys).keys (row_at formats own).keys (fields_of bytes (row_at formats own) fields) cell other is)
-kept-ends bytes formats (RowKept keys rules height is_tall entries) (RuleKept sign) cell other is = absurd cc
-kept-ends bytes formats (RowKept keys rules height is_tall entries) (CommandKept from to) cell other is = absurd cc
+kept-ends bytes formats (RowKept keys rules height entries) (RuleKept sign) cell other is = absurd cc
+kept-ends bytes formats (RowKept keys rules height entries) (CommandKept from to) cell other is = absurd cc
 kept-ends bytes formats (RuleKept sign) below cell other is = absurd cc
 kept-ends bytes formats (CommandKept from to) below cell other is = absurd cc
 
 -- and it is one of few
 kept-before : (bytes : List ℕ) (formats : List FormatRow) (columns : ℕ) (row below : KeptElement) (cell other : ℕ)
     → cell_below_kept bytes formats cell row below ≡ Some other → ElementLies formats columns below → other < end_kept formats below other
-kept-before bytes formats columns (RowKept keys rules height is_tall entries) (RowKept own own_rules own_height own_tall fields) cell other is lies =
+kept-before bytes formats columns (RowKept keys rules height entries) (RowKept own own_rules own_height fields) cell other is lies =
     cell-before-end (row_at formats own).keys other lies.cells.cells
-kept-before bytes formats columns (RowKept keys rules height is_tall entries) (RuleKept sign) cell other is lies = absurd cc
-kept-before bytes formats columns (RowKept keys rules height is_tall entries) (CommandKept from to) cell other is lies = absurd cc
+kept-before bytes formats columns (RowKept keys rules height entries) (RuleKept sign) cell other is lies = absurd cc
+kept-before bytes formats columns (RowKept keys rules height entries) (CommandKept from to) cell other is lies = absurd cc
 kept-before bytes formats columns (RuleKept sign) below cell other is lies = absurd cc
 kept-before bytes formats columns (CommandKept from to) below cell other is lies = absurd cc
 
@@ -82,13 +82,13 @@ under-end bytes formats row below cell end (Some other) is same = same ∙ kept-
 
 -- the lines below, an element further
 module _ (bytes : List ℕ) (formats : List FormatRow) (is_inside : Bool) (elements : List KeptElement) (at : ℕ) where
-  pub over-row : (row : KeptElement) (keys rule_rows height : ℕ) (is_tall : Bool) (entries : List Entry) (cell rules lines below total : ℕ)
-      → drop at elements ≡ RowKept keys rule_rows height is_tall entries ∷ drop (suc at) elements
+  pub over-row : (row : KeptElement) (keys rule_rows height : ℕ) (entries : List Entry) (cell rules lines below total : ℕ)
+      → drop at elements ≡ RowKept keys rule_rows height entries ∷ drop (suc at) elements
       → cell_below_kept bytes formats cell row (element_at elements at) ≡ Some below
       → lines + lines_kept bytes formats is_inside row cell rules (drop at elements) ≡ total
       → (lines + (rules_between is_inside rules rule_rows + height)) + lines_kept bytes formats is_inside (element_at elements at) below 0 (drop (at + 1) elements) ≡ total
-  over-row row keys rule_rows height is_tall entries cell rules lines below total is goes so_far =
-      let own = RowKept keys rule_rows height is_tall entries in
+  over-row row keys rule_rows height entries cell rules lines below total is goes so_far =
+      let own = RowKept keys rule_rows height entries in
       let here = rules_between is_inside rules rule_rows + height in
       let rest = drop (suc at) elements in
       let next : at + 1 ≡ suc at = omega arith in
@@ -101,21 +101,6 @@ module _ (bytes : List ℕ) (formats : List FormatRow) (is_inside : Bool) (eleme
       = ap (λ (e : KeptElement). lines_kept bytes formats is_inside e below 0 (drop (at + 1) elements)) there
       ∙ ap (λ (n : ℕ). lines_kept bytes formats is_inside own below 0 (drop n elements)) next in
       omega (arith, all, behind, so_far)
-
-  pub over-none : (row : KeptElement) (keys rule_rows height : ℕ) (is_tall : Bool) (entries : List Entry) (cell rules lines total : ℕ)
-      → drop at elements ≡ RowKept keys rule_rows height is_tall entries ∷ drop (suc at) elements
-      → cell_below_kept bytes formats cell row (element_at elements at) ≡ None
-      → lines + lines_kept bytes formats is_inside row cell rules (drop at elements) ≡ total → lines ≡ total
-  over-none row keys rule_rows height is_tall entries cell rules lines total is goes so_far =
-      let own = RowKept keys rule_rows height is_tall entries in
-      let here = rules_between is_inside rules rule_rows + height in
-      let rest = drop (suc at) elements in
-      let there : element_at elements at ≡ own = get-drop elements at own (CommandKept 0 0) rest is in
-      let more : ℕ → ℕ = λ other. lines_kept bytes formats is_inside own other 0 rest in
-      let found : cell_below_kept bytes formats cell row own ≡ None = ap (λ (e : KeptElement). cell_below_kept bytes formats cell row e) (sym there) ∙ goes in
-      let all : lines_kept bytes formats is_inside row cell rules (drop at elements) ≡ 0
-      = ap (lines_kept bytes formats is_inside row cell rules) is ∙ ap (λ (o : Option ℕ). over_by o here more) found in
-      omega (arith, all, so_far)
 
   pub over-rule : (row : KeptElement) (sign : _) (cell rules lines total : ℕ)
       → drop at elements ≡ RuleKept sign ∷ drop (suc at) elements
@@ -143,13 +128,6 @@ module _ (bytes : List ℕ) (formats : List FormatRow) (is_inside : Bool) (eleme
       = ap (λ (n : ℕ). lines_kept bytes formats is_inside row cell rules (drop n elements)) next in
       omega (arith, all, behind, so_far)
 
-  pub over-end : (row : KeptElement) (cell rules lines total : ℕ) → length elements ≤ at
-      → lines + lines_kept bytes formats is_inside row cell rules (drop at elements) ≡ total → lines ≡ total
-  over-end row cell rules lines total past so_far =
-      let none : drop at elements ≡ [] = drop-past elements at past in
-      let all : lines_kept bytes formats is_inside row cell rules (drop at elements) ≡ 0 = ap (lines_kept bytes formats is_inside row cell rules) none in
-      omega (arith, all, so_far)
-
 -- what holds of some numbers holds of those that are them
 pub moved : (P : ℕ → ℕ → ℕ → ℕ → Type 0) (a b c d w x y z : ℕ) → a ≡ w → b ≡ x → c ≡ y → d ≡ z → P w x y z → P a b c d
 moved P a b c d w x y z one two three four holds =
@@ -163,9 +141,9 @@ few-by false n = omega arith
 pub between-few : (is_inside : Bool) (rules rule_rows : ℕ) → rules_between is_inside rules rule_rows ≤ rules + rule_rows + 1
 between-few is_inside rules rule_rows = few-by (is_inside && (rules + rule_rows == 0)) (rules + rule_rows)
 
-pub rules-few : (elements : List KeptElement) (at keys rule_rows height : ℕ) (is_tall : Bool) (entries : List Entry)
-    → drop at elements ≡ RowKept keys rule_rows height is_tall entries ∷ drop (suc at) elements → HasFewRules (element_at elements at)
+pub rules-few : (elements : List KeptElement) (at keys rule_rows height : ℕ) (entries : List Entry)
+    → drop at elements ≡ RowKept keys rule_rows height entries ∷ drop (suc at) elements → HasFewRules (element_at elements at)
     → rule_rows < 4294967296
-rules-few elements at keys rule_rows height is_tall entries is few =
-    let own = RowKept keys rule_rows height is_tall entries in
+rules-few elements at keys rule_rows height entries is few =
+    let own = RowKept keys rule_rows height entries in
     subst HasFewRules (get-drop elements at own (CommandKept 0 0) (drop (suc at) elements) is) few

@@ -113,17 +113,17 @@ over-boxed boxing keys cell heights elements = over-inside boxing.is_inside keys
 
 -- the elements that are kept tell it
 module _ (bytes : List ℕ) (formats : List FormatRow) (is_inside : Bool) where
-  pub below-kept : (above rules_above height_above : ℕ) (tall_above : Bool) (fields_above : List Entry) (cell rules : ℕ) (elements : List KeptElement)
+  pub below-kept : (above rules_above height_above : ℕ) (fields_above : List Entry) (cell rules : ℕ) (elements : List KeptElement)
       → AllByRecursion (HasInFront formats) elements
       → lines_below is_inside (row_at formats above).keys cell rules (heights_kept elements) (elements_of bytes formats elements)
-      ≡ lines_kept bytes formats is_inside (RowKept above rules_above height_above tall_above fields_above) cell rules elements
-  below-kept above ra ha ta fa cell rules [] fronts = refl
-  below-kept above ra ha ta fa cell rules (RowKept keys rule_rows height is_tall entries ∷ elements) fronts =
+      ≡ lines_kept bytes formats is_inside (RowKept above rules_above height_above fields_above) cell rules elements
+  below-kept above ra ha fa cell rules [] fronts = refl
+  below-kept above ra ha fa cell rules (RowKept keys rule_rows height entries ∷ elements) fronts =
       let below = cell_below (row_at formats above).keys (row_at formats keys).keys (fields_of bytes (row_at formats keys) entries) cell in
       let more : ℕ → ℕ = λ other. lines_below is_inside (row_at formats keys).keys other 0 (heights_kept elements) (elements_of bytes formats elements) in
       ap (λ (n : ℕ). over_by below (rules_between is_inside rules n + height) more) fronts.0
       ∙ over-same below (rules_between is_inside rules rule_rows + height) more
-      (λ other. lines_kept bytes formats is_inside (RowKept keys rule_rows height is_tall entries) other 0 elements)
-      (λ other. below-kept keys rule_rows height is_tall entries other 0 elements fronts.1)
-  below-kept above ra ha ta fa cell rules (RuleKept sign ∷ elements) fronts = below-kept above ra ha ta fa cell (suc rules) elements fronts.1
-  below-kept above ra ha ta fa cell rules (CommandKept from to ∷ elements) fronts = below-kept above ra ha ta fa cell rules elements fronts.1
+      (λ other. lines_kept bytes formats is_inside (RowKept keys rule_rows height entries) other 0 elements)
+      (λ other. below-kept keys rule_rows height entries other 0 elements fronts.1)
+  below-kept above ra ha fa cell rules (RuleKept sign ∷ elements) fronts = below-kept above ra ha fa cell (suc rules) elements fronts.1
+  below-kept above ra ha fa cell rules (CommandKept from to ∷ elements) fronts = below-kept above ra ha fa cell rules elements fronts.1

@@ -1,5 +1,5 @@
 -- The bars that a line of a row shows, cell by cell.
-use Rattle.std.proofs.Common.{◌≡◌, ℕ, zero, suc, ◌-◌, ◌<◌, List, [], ◌∷◌, ◌++◌, length, map, get_or, replicate, Option, None, Some, refl, sym, ap, subst, ◌∙◌, arith, append_assoc, if◌then◌else◌}
+use Rattle.std.proofs.Common.{◌≡◌, ℕ, zero, suc, ◌-◌, ◌<◌, Bool, true, false, List, [], ◌∷◌, ◌++◌, length, map, get_or, replicate, Option, None, Some, refl, sym, ap, subst, ◌∙◌, arith, append_assoc, if◌then◌else◌}
 use Rattle.std.specs.Prelude.{is_some}
 use Rattle.std.proofs.lemmas.List.{length-map}
 use Rattle.tbl_format.specs.Cells.{AreCells, cell_behind}
@@ -38,6 +38,10 @@ as-many-left bytes [] [] all = refl
 as-many-left bytes [] (l ∷ lefts) all = absurd all
 as-many-left bytes (c ∷ cells) [] all = absurd all
 as-many-left bytes (c ∷ cells) (l ∷ lefts) all = ap suc (as-many-left bytes cells lefts all.1)
+
+none-either : (t : Bool) → ◌≡◌ {A = ℕ} (if t then 0 else 0) 0
+none-either true = refl
+none-either false = refl
 
 -- what stands in front of the first cell, in front of another one, and behind the last
 module _ (bytes : List ℕ) (boxing : Boxing) (last rules : ℕ) where
@@ -98,6 +102,20 @@ module _ (bytes : List ℕ) (boxing : Boxing) (last rules : ℕ) where
       ∙ b.bars
       ∙ ap (λ (j : Option RuleSign). if is_some j then 0 else inner_bars boxing (get_or cells (suc n) none).key.bars) both
       ∙ ap (λ (m : ℕ). if is_some joined then 0 else inner_bars boxing (get_or cells m none).key.bars) same
+
+  -- none, where the cell has none in front of it
+  pub front-none : (cells : List CellLeft) (lefts : List Left) (at : ℕ) (none : CellLeft) → AllLeft bytes cells lefts → 0 < at → at < length cells
+      → inner_bars boxing (get_or cells at none).key.bars ≡ 0 → fronts_of lefts at ≡ 0
+  front-none cells lefts at none all some more no_bars =
+      let n = at - 1 in
+      let same : suc n ≡ at = omega (arith, some) in
+      let b = front-later cells lefts n none all (omega (arith, some, more)) in
+      let by : ℕ → ℕ = λ bars. if is_some (joined_here (behind_rules rules b.own) (behind_rules rules b.next)) then 0 else bars in
+      ap (fronts_of lefts) (sym same)
+      ∙ b.bars
+      ∙ ap (λ (m : ℕ). by (inner_bars boxing (get_or cells m none).key.bars)) same
+      ∙ ap by no_bars
+      ∙ none-either (is_some (joined_here (behind_rules rules b.own) (behind_rules rules b.next)))
 
   front-last : (lefts : List Left) → 0 < length lefts → bars_in_front boxing last lefts (length lefts) ≡ edge_bars boxing last
   front-last [] some = absurd (omega (arith, some))

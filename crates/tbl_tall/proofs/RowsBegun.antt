@@ -10,13 +10,14 @@ use Rattle.tbl_kept.specs.Rows.{KeptElement, Row as RowKept, elements_of, fields
 use Rattle.tbl_layout.specs.Entries.{Content, Element, Row}
 use Rattle.tbl_layout.specs.declared.bars.Bars.{Bars}
 use Rattle.tbl_layout.specs.declared.entry.Entry.{Entry}
-use Rattle.tbl_lines.specs.CellsLeft.{Left, all_keys, bars_at_end, cells_next, goes_on, keys_behind, nothing_left}
+use Rattle.tbl_lines.specs.CellsLeft.{Left, all_keys, all_stopped, bars_at_end, cells_next, goes_on, keys_behind, nothing_left}
 use Rattle.tbl_lines.specs.LinesLeft.{Beside, Nothing, OfRow, Over, overs}
 use Rattle.tbl_lines.specs.PictureLeft.{through_rule, through_rules}
 use Rattle.tbl_lines.specs.PictureLines.{Sheet, boxed_from}
 use Rattle.tbl_options.specs.declared.options.Boxing.{Boxing}
 use Rattle.tbl_line_cells.proofs.FirstLines.{each-behind}
 use Rattle.tbl_tall.proofs.RowsComing.{cells-one, foreseen}
+use Rattle.tbl_tall.proofs.StopsSet.{stops-boxed}
 use Rattle.tbl_tall.specs.Bands.{BandFits, BandStands, GoThrough, KeptBand, ShowBars, keys_left, rest_shown}
 use Rattle.tbl_line_cells.specs.KeptCells.{AllLeft, behind_rules}
 use Rattle.tbl_tall.specs.LinesOver.{HasInFront, heights_kept}
@@ -106,16 +107,22 @@ keeps-comes bytes formats s t cells keys rules height wholes fields rest heights
     }
 
 -- and with the cells that the definition tells
-pub cells-come : (bytes : List ℕ) (formats : List FormatRow) (boxing : Boxing) (columns wholes keys rules height : ℕ) (is_tall : Bool) (entries : List Entry)
+pub cells-come : (bytes : List ℕ) (formats : List FormatRow) (boxing : Boxing) (columns wholes keys rules height : ℕ) (entries : List Entry)
     (es : List KeptElement) (above : List FormatKey) (lefts : List Left) (all : List Element)
     → AllByRecursion (HasInFront formats) es
     → RulesThen wholes all (Row (rows_in_front formats keys rules) (row_at formats keys) (fields_of bytes (row_at formats keys) entries)
     ∷ boxed_from boxing true (elements_of bytes formats es))
     → cells_next columns above lefts (height ∷ heights_kept es) all
-    ≡ cells_by (cell_kept bytes formats boxing.is_inside above lefts (RowKept keys rules height is_tall entries) es) 0 (all_keys columns (row_at formats keys))
-cells-come bytes formats boxing columns wholes keys rules height is_tall entries es above lefts all fronts then_row =
+    ≡ all_stopped columns (row_at formats keys).keys (elements_of bytes formats es) 0
+    (cells_by (cell_kept bytes formats boxing.is_inside above lefts (RowKept keys rules height entries) es) 0 (all_keys columns (row_at formats keys)))
+cells-come bytes formats boxing columns wholes keys rules height entries es above lefts all fronts then_row =
+    let format = row_at formats keys in
+    let own = elements_of bytes formats es in
     (foreseen then_row).cells columns above lefts (height ∷ heights_kept es)
-    ∙ cells-one bytes formats boxing keys rules height is_tall entries es fronts above lefts 0 (all_keys columns (row_at formats keys))
+    ∙ ap (λ (cells : List Left). all_stopped columns format.keys (boxed_from boxing true own) 0 cells)
+    (cells-one bytes formats boxing keys rules height entries es fronts above lefts 0 (all_keys columns format))
+    ∙ stops-boxed columns format.keys boxing true own 0
+    (cells_by (cell_kept bytes formats boxing.is_inside above lefts (RowKept keys rules height entries) es) 0 (all_keys columns format))
 
 -- where no row comes
 nothing-goes : (count bars column : ℕ) → AllByRecursion (λ (l : Left). goes_on l ≡ false) (map nothing_left (keys_behind count bars column))

@@ -132,13 +132,13 @@ module _ (bytes : List ℕ) (formats : List FormatRow) (boxing : Boxing) (is_bel
       then-command (subst (λ (xs : List Element). RulesThen rules all xs)
       (command-by boxing.is_inside (is_below && (rules == 0)) _ (elements_of bytes formats es) (frame_rules boxing)) more)
 
-  pub step-row : (keys rule_rows height : ℕ) (is_tall : Bool) (entries : List Entry) (es : List KeptElement)
+  pub step-row : (keys rule_rows height : ℕ) (entries : List Entry) (es : List KeptElement)
       → length (rows_in_front formats keys rule_rows) ≡ rule_rows
-      → RulesThen rules all (boxed_behind bytes formats boxing is_below rules (RowKept keys rule_rows height is_tall entries ∷ es))
+      → RulesThen rules all (boxed_behind bytes formats boxing is_below rules (RowKept keys rule_rows height entries ∷ es))
       → RulesThen (rules_in_front (boxing.is_inside && is_below) rules rule_rows) all
       (Row (rows_in_front formats keys rule_rows) (row_at formats keys) (fields_of bytes (row_at formats keys) entries)
       ∷ boxed_from boxing true (elements_of bytes formats es))
-  step-row keys rule_rows height is_tall entries es many more =
+  step-row keys rule_rows height entries es many more =
       let format = row_at formats keys in
       let fields = fields_of bytes format entries in
       let in_front = rows_in_front formats keys rule_rows in
@@ -180,25 +180,25 @@ last-by : (t : Bool) (sign : RuleSign) (keys : List FormatKey) (cell : ℕ) (hei
 last-by true sign keys cell heights es = ap (λ (xs : List Element). lines_over keys cell 0 heights xs) (append-none es)
 last-by false sign keys cell heights es = over-rule-last keys cell 0 heights es sign
 
-module _ (bytes : List ℕ) (formats : List FormatRow) (boxing : Boxing) (keys rules height : ℕ) (is_tall : Bool) (entries : List Entry)
+module _ (bytes : List ℕ) (formats : List FormatRow) (boxing : Boxing) (keys rules height : ℕ) (entries : List Entry)
     (es : List KeptElement) (fronts : AllByRecursion (HasInFront formats) es) where
   over-behind : (cell : ℕ) → lines_over (row_at formats keys).keys cell 0 (heights_kept es) (boxed_from boxing true (elements_of bytes formats es))
-      ≡ lines_kept bytes formats boxing.is_inside (RowKept keys rules height is_tall entries) cell 0 es
+      ≡ lines_kept bytes formats boxing.is_inside (RowKept keys rules height entries) cell 0 es
   over-behind cell =
       let own = elements_of bytes formats es in
       let names = (row_at formats keys).keys in
       last-by (boxing.bars == 0) (frame_sign boxing.bars) names cell (heights_kept es) (ruled_inside boxing true own)
       ∙ over-boxed boxing names cell (heights_kept es) own
-      ∙ below-kept bytes formats boxing.is_inside keys rules height is_tall entries cell 0 es fronts
+      ∙ below-kept bytes formats boxing.is_inside keys rules height entries cell 0 es fronts
 
   -- the cells of a row, one by one
   pub cells-one : (above : List FormatKey) (lefts : List Left) (cell : ℕ) (own : List FormatKey)
       → cells_from above lefts (height ∷ heights_kept es) (boxed_from boxing true (elements_of bytes formats es)) (row_at formats keys)
       (fields_of bytes (row_at formats keys) entries) cell own
-      ≡ cells_by (cell_kept bytes formats boxing.is_inside above lefts (RowKept keys rules height is_tall entries) es) cell own
+      ≡ cells_by (cell_kept bytes formats boxing.is_inside above lefts (RowKept keys rules height entries) es) cell own
   cells-one above lefts cell [] = refl
   cells-one above lefts cell (k ∷ own) =
-      let row = RowKept keys rules height is_tall entries in
+      let row = RowKept keys rules height entries in
       let format = row_at formats keys in
       let fields = fields_of bytes format entries in
       let rest = boxed_from boxing true (elements_of bytes formats es) in
@@ -209,7 +209,7 @@ module _ (bytes : List ℕ) (formats : List FormatRow) (boxing : Boxing) (keys r
 -- their keys
 pub key-begun : (bytes : List ℕ) (formats : List FormatRow) (is_inside : Bool) (row : KeptElement) (es : List KeptElement) (cell : ℕ) (k : FormatKey)
     → (begun_kept bytes formats is_inside row es cell k).key ≡ k
-key-begun bytes formats is_inside (RowKept keys rules height is_tall entries) es cell k = refl
+key-begun bytes formats is_inside (RowKept keys rules height entries) es cell k = refl
 key-begun bytes formats is_inside (RuleKept sign) es cell k = refl
 key-begun bytes formats is_inside (CommandKept from to) es cell k = refl
 

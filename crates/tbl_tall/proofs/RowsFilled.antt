@@ -10,7 +10,7 @@ use Rattle.tbl_kept.specs.Rows.{Command as CommandKept, KeptElement, KeptRows, R
 use Rattle.tbl_kept.specs.RowsLaying.{element_at}
 use Rattle.tbl_layout.specs.Entries.{Element, Row}
 use Rattle.tbl_layout.specs.declared.columns.Column.{Column}
-use Rattle.tbl_lines.specs.CellsLeft.{Left, all_keys, bars_at_end, cells_next}
+use Rattle.tbl_lines.specs.CellsLeft.{Left, all_keys, all_stopped, bars_at_end, cells_next}
 use Rattle.tbl_lines.specs.LinesLeft.{Beside, OfRow, overs}
 use Rattle.tbl_lines.specs.PictureLines.{Sheet, boxed_from}
 use Rattle.tbl_options.specs.declared.options.Boxing.{Boxing}
@@ -18,6 +18,7 @@ use Rattle.tbl_tall.proofs.CellsNext.{all-at, all-drop, fronts-lie, get-drop}
 use Rattle.tbl_tall.proofs.KeysCover.{Cover, cover-all}
 use Rattle.tbl_tall.proofs.RowsBegun.{RowKeeps, cells-come, keeps-comes}
 use Rattle.tbl_tall.proofs.RowsComing.{keys-kept, step-row}
+use Rattle.tbl_tall.proofs.StopsSet.{stops-have}
 use Rattle.tbl_tall.specs.Bands.{BandFits, GoThrough, ShowBars, keys_in}
 use Rattle.tbl_line_cells.specs.KeptCells.{AllLeft, behind_rules}
 use Rattle.tbl_tall.specs.LinesOver.{heights_kept}
@@ -28,8 +29,10 @@ use Rattle.tbl_tall.specs.declared.next_cells.RowComing.{RowComing}
 -- the cells of a row are filled, and the lines of rules in front of it are set
 pub record IsFilled (bytes : List ℕ) (formats : List FormatRow) (boxing : Boxing) (rows : KeptRows) (row : RowComing) (rules : ℕ) (told t : KeptTall)
     (keys : List FormatKey) (lefts : List Left) : Type 0 where
-  pub left : AllLeft bytes t.cells (cells_by (cell_kept bytes formats boxing.is_inside keys lefts (element_at rows.elements row.at)
-      (drop (suc row.at) rows.elements)) 0 (all_keys (length rows.columns) (row_at formats row.keys)))
+  pub left : AllLeft bytes t.cells (all_stopped (length rows.columns) (row_at formats row.keys).keys
+      (elements_of bytes formats (drop (suc row.at) rows.elements)) 0
+      (cells_by (cell_kept bytes formats boxing.is_inside keys lefts (element_at rows.elements row.at)
+      (drop (suc row.at) rows.elements)) 0 (all_keys (length rows.columns) (row_at formats row.keys))))
   pub has : HasKeys t.cells (all_keys (length rows.columns) (row_at formats row.keys))
   pub through : (cells : List Left) (columns : List Column) → AllLeft bytes t.cells cells → length columns ≡ columns_of (keys_in t.cells)
       → GoThrough t.band.through (overs 0 cells columns)
@@ -59,7 +62,7 @@ module _ (bytes : List ℕ) (formats : List FormatRow) (boxing : Boxing) (rows :
   es = drop (suc row.at) rows.elements
 
   abbrev own : KeptElement
-  own = RowKept row.keys row.rules row.height is.is_tall is.entries
+  own = RowKept row.keys row.rules row.height is.entries
 
   abbrev format : FormatRow
   format = row_at formats row.keys
@@ -67,8 +70,12 @@ module _ (bytes : List ℕ) (formats : List FormatRow) (boxing : Boxing) (rows :
   abbrev wholes : ℕ
   wholes = rules_in_front (boxing.is_inside && is_some row.above) rules row.rules
 
+  abbrev cells_of : ℕ → KeptElement → List Left
+  cells_of m e = all_stopped m format.keys (elements_of bytes formats es) 0
+      (cells_by (cell_kept bytes formats boxing.is_inside keys lefts e es) 0 (all_keys m format))
+
   abbrev cells : List Left
-  cells = cells_by (cell_kept bytes formats boxing.is_inside keys lefts own es) 0 (all_keys n format)
+  cells = cells_of n own
 
   same : length rows.columns ≡ n
   same = ap (λ (cs : List Column). length cs) (sym stand.columns)
@@ -84,9 +91,8 @@ module _ (bytes : List ℕ) (formats : List FormatRow) (boxing : Boxing) (rows :
   in-front = length-in_front formats row.keys row.rules lies.serves lies.in_front
 
   kept : AllLeft bytes t.cells cells
-  kept = subst (λ (e : KeptElement). AllLeft bytes t.cells (cells_by (cell_kept bytes formats boxing.is_inside keys lefts e es) 0 (all_keys n format))) there
-      (subst (λ (m : ℕ). AllLeft bytes t.cells (cells_by (cell_kept bytes formats boxing.is_inside keys lefts (element_at rows.elements row.at) es) 0
-      (all_keys m format))) same filled.left)
+  kept = subst (λ (e : KeptElement). AllLeft bytes t.cells (cells_of n e)) there
+      (subst (λ (m : ℕ). AllLeft bytes t.cells (cells_of m (element_at rows.elements row.at))) same filled.left)
 
   cover : Cover (length rows.columns) t.cells
   cover = cover-all (length rows.columns) format t.cells lies.cells filled.has
@@ -122,7 +128,9 @@ module _ (bytes : List ℕ) (formats : List FormatRow) (boxing : Boxing) (rows :
   keeps : RowKeeps bytes formats s t cells format wholes (row.keys - row.rules) row.rules row.height beside
   keeps = record {
     left = kept;
-    keys = keys-kept bytes formats boxing.is_inside keys lefts own es (all_keys n format);
+    keys = stops-have n format.keys (elements_of bytes formats es) 0
+        (cells_by (cell_kept bytes formats boxing.is_inside keys lefts own es) 0 (all_keys n format)) (all_keys n format)
+        (keys-kept bytes formats boxing.is_inside keys lefts own es (all_keys n format));
     fits = fits;
     as_many = as-many;
     through = filled.through cells s.columns kept (sym (cover.all ∙ same));
@@ -147,9 +155,9 @@ module _ (bytes : List ℕ) (formats : List FormatRow) (boxing : Boxing) (rows :
       let here = subst (λ (xs : List KeptElement). RulesThen rules all (boxed_behind bytes formats boxing (is_some row.above) rules xs)) is.is then_come in
       let fields = fields_of bytes format is.entries in
       let then_row : RulesThen wholes all (Row (rows_in_front formats row.keys row.rules) format fields ∷ boxed_from boxing true (elements_of bytes formats es))
-      = step-row bytes formats boxing (is_some row.above) rules all row.keys row.rules row.height is.is_tall is.entries es in-front here in
+      = step-row bytes formats boxing (is_some row.above) rules all row.keys row.rules row.height is.entries es in-front here in
       let fronts = fronts-lie formats (length rows.columns) es (all-drop (ElementLies formats (length rows.columns)) rows.elements (suc row.at) lie) in
-      let next = cells-come bytes formats boxing n wholes row.keys row.rules row.height is.is_tall is.entries es keys lefts all fronts then_row in
+      let next = cells-come bytes formats boxing n wholes row.keys row.rules row.height is.entries es keys lefts all fronts then_row in
       subst (λ (xs : List KeptElement). Comes bytes formats s t (heights_kept xs) (cells_next n keys lefts (heights_kept xs) all) beside all) (sym is.is)
       (subst (λ (cs : List Left). Comes bytes formats s t (row.height ∷ heights_kept es) cs beside all) (sym next)
       (keeps-comes bytes formats s t cells row.keys row.rules row.height wholes fields (boxed_from boxing true (elements_of bytes formats es))

@@ -44,16 +44,7 @@ all-set P [] at x is all = all
 all-set P (y ∷ xs) zero x is all = (is, all.1)
 all-set P (y ∷ xs) (suc at) x is all = (all.0, all-set P xs at x is all.1)
 
--- one that doesn't go on stays as it is behind a line of rules, and any other is behind it
-stays-by : (up : Bool) (bytes : List ℕ) (c : CellLeft) (l : Left) → up ≡ false → IsLeft bytes c l → IsLeft bytes c (if up then behind_line l else l)
-stays-by true bytes c l down is = absurd cc
-stays-by false bytes c l down is = is
-
-pub passed-stays : (is_rule : Bool) (bytes : List ℕ) (c : CellLeft) (l : Left) → is_rule ≡ true → nat_lt 0 c.rows ≡ false → IsLeft bytes c l
-    → IsLeft bytes c (passed is_rule l)
-passed-stays true bytes c l rule down is = stays-by (goes_on l) bytes c l (ap (nat_lt 0) (sym is.rows) ∙ down) is
-passed-stays false bytes c l rule down is = absurd cc
-
+-- behind a line of rules those are that go on, and behind one of a row all
 goes-by : (up : Bool) (bytes : List ℕ) (c : CellLeft) (l : Left) → up ≡ true → IsLeft bytes c (behind_line l)
     → IsLeft bytes c (if up then behind_line l else l)
 goes-by true bytes c l up is = is

@@ -5,3 +5,6 @@ pub mod BandLaws
 pub mod TallRows
 pub mod RowsNext
 pub mod RowsPassed
+pub mod CutsMarked
+pub mod StopsKept
+pub mod LinesNext

@@ -24,22 +24,22 @@ lines_below is_inside keys cell rules heights (Command bytes ∷ elements) = lin
 -- of a cell of a row that is kept, in front of elements that are
 abbrev pub lines_kept : List ℕ → List FormatRow → Bool → KeptElement → ℕ → ℕ → List KeptElement → ℕ
 lines_kept bytes formats is_inside row cell rules [] = 0
-lines_kept bytes formats is_inside row cell rules (RowKept keys rule_rows height is_tall entries ∷ elements) =
-    over_by (cell_below_kept bytes formats cell row (RowKept keys rule_rows height is_tall entries))
+lines_kept bytes formats is_inside row cell rules (RowKept keys rule_rows height entries ∷ elements) =
+    over_by (cell_below_kept bytes formats cell row (RowKept keys rule_rows height entries))
     (rules_between is_inside rules rule_rows + height)
-    (λ below. lines_kept bytes formats is_inside (RowKept keys rule_rows height is_tall entries) below 0 elements)
+    (λ below. lines_kept bytes formats is_inside (RowKept keys rule_rows height entries) below 0 elements)
 lines_kept bytes formats is_inside row cell rules (RuleKept sign ∷ elements) = lines_kept bytes formats is_inside row cell (suc rules) elements
 lines_kept bytes formats is_inside row cell rules (CommandKept from to ∷ elements) = lines_kept bytes formats is_inside row cell rules elements
 
 -- the heights of the rows among elements that are kept
 abbrev pub heights_kept : List KeptElement → List ℕ
 heights_kept [] = []
-heights_kept (RowKept keys rule_rows height is_tall entries ∷ elements) = height ∷ heights_kept elements
+heights_kept (RowKept keys rule_rows height entries ∷ elements) = height ∷ heights_kept elements
 heights_kept (RuleKept sign ∷ elements) = heights_kept elements
 heights_kept (CommandKept from to ∷ elements) = heights_kept elements
 
 -- as many rows of rule keys stand in front of a row as it says
 abbrev pub HasInFront : List FormatRow → KeptElement → Type 0
-HasInFront formats (RowKept keys rule_rows height is_tall entries) = length (rows_in_front formats keys rule_rows) ≡ rule_rows
+HasInFront formats (RowKept keys rule_rows height entries) = length (rows_in_front formats keys rule_rows) ≡ rule_rows
 HasInFront formats (RuleKept sign) = Unit {0}
 HasInFront formats (CommandKept from to) = Unit {0}

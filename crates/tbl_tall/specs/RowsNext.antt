@@ -38,9 +38,8 @@ rules_in_front is_between (suc rules) rule_rows = suc rules
 
 -- an element that is kept is this row
 pub record RowIsAt (elements : List KeptElement) (row : RowComing) : Type 0 where
-  pub is_tall : Bool
   pub entries : List Entry
-  pub is : drop row.at elements ≡ RowKept row.keys row.rules row.height is_tall entries ∷ drop (suc row.at) elements
+  pub is : drop row.at elements ≡ RowKept row.keys row.rules row.height entries ∷ drop (suc row.at) elements
 
 -- a cell has the bars and the last column of a key, and all cells those of some keys
 pub record HasKey (c : CellLeft) (k : FormatKey) : Type 0 where
@@ -56,28 +55,28 @@ HasKeys (c ∷ cells) (k ∷ keys) = HasKey c k × HasKeys cells keys
 -- the row above, if there is one, has these keys
 pub data RowAbove (formats : List FormatRow) (elements : List KeptElement) : Option ℕ → List FormatKey → Type 0 where
   NoneAbove : RowAbove formats elements None []
-  OneAbove : {above keys rules height : ℕ} {is_tall : Bool} {entries : List Entry}
-      → element_at elements above ≡ RowKept keys rules height is_tall entries
+  OneAbove : {above keys rules height : ℕ} {entries : List Entry}
+      → element_at elements above ≡ RowKept keys rules height entries
       → RowAbove formats elements (Some above) (row_at formats keys).keys
 
 -- the cell of a row above, of these keys, with which a cell of one that is kept goes on
 abbrev pub above_kept : List ℕ → List FormatRow → List FormatKey → KeptElement → ℕ → Option ℕ
-above_kept bytes formats above (RowKept keys rules height is_tall entries) cell =
+above_kept bytes formats above (RowKept keys rules height entries) cell =
     cell_above above (row_at formats keys).keys (fields_of bytes (row_at formats keys) entries) cell
 above_kept bytes formats above (RuleKept sign) cell = None
 above_kept bytes formats above (CommandKept from to) cell = None
 
 -- up to which column a cell of a row goes
 abbrev pub end_kept : List FormatRow → KeptElement → ℕ → ℕ
-end_kept formats (RowKept keys rules height is_tall entries) cell = end_of (row_at formats keys).keys cell
+end_kept formats (RowKept keys rules height entries) cell = end_of (row_at formats keys).keys cell
 end_kept formats (RuleKept sign) cell = 0
 end_kept formats (CommandKept from to) cell = 0
 
 -- what is left of a cell, below cells that are left so, in front of elements that are kept: it begins, or goes on
 abbrev pub begun_kept : List ℕ → List FormatRow → Bool → KeptElement → List KeptElement → ℕ → FormatKey → Left
-begun_kept bytes formats is_inside (RowKept keys rules height is_tall entries) elements cell k =
+begun_kept bytes formats is_inside (RowKept keys rules height entries) elements cell k =
     begun k (field_at (fields_of bytes (row_at formats keys) entries) cell) height
-    (lines_kept bytes formats is_inside (RowKept keys rules height is_tall entries) cell 0 elements)
+    (lines_kept bytes formats is_inside (RowKept keys rules height entries) cell 0 elements)
 begun_kept bytes formats is_inside (RuleKept sign) elements cell k = nothing_left k
 begun_kept bytes formats is_inside (CommandKept from to) elements cell k = nothing_left k
 

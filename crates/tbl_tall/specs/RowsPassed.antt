@@ -2,7 +2,7 @@
 use Rattle.std.specs.Prelude.{ℕ, zero, suc, Bool, true, false, List, [], ◌∷◌}
 use Rattle.tbl_lines.specs.CellsLeft.{Left, behind_line}
 use Rattle.tbl_lines.specs.PictureLeft.{through_rule}
-use Rattle.tbl_line_cells.specs.KeptCells.{AllLeft, IsLeft}
+use Rattle.tbl_line_cells.specs.KeptCells.{IsLeft}
 use Rattle.tbl_line_cells.specs.declared.cells.CellLeft.{CellLeft}
 
 -- behind a line of rules, or of a row
@@ -16,11 +16,7 @@ passed_at is_rule zero lefts = lefts
 passed_at is_rule (suc at) [] = []
 passed_at is_rule (suc at) (l ∷ lefts) = passed is_rule l ∷ passed_at is_rule at lefts
 
--- a cell is kept as something is left, and so are all
+-- a cell is kept as something is left
 pub record IsKept (bytes : List ℕ) (c : CellLeft) : Type 0 where
   pub left : Left
   pub is : IsLeft bytes c left
-
-pub record AreKept (bytes : List ℕ) (cells : List CellLeft) : Type 0 where
-  pub lefts : List Left
-  pub are : AllLeft bytes cells lefts

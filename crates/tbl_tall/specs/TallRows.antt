@@ -7,18 +7,13 @@ use Rattle.tbl_format.specs.RowsServed.{row_at}
 use Rattle.tbl_format.specs.declared.format.FormatKey.{FormatKey}
 use Rattle.tbl_kept.specs.Rows.{Command as CommandKept, KeptElement, KeptRows, Row as RowKept, Rule as RuleKept}
 use Rattle.tbl_layout.specs.Entries.{Command, Element, Row, Rule}
-use Rattle.tbl_layout.specs.LayoutLaws.{StandInOrder}
-use Rattle.tbl_layout.specs.declared.bars.Bars.{Bars}
-use Rattle.tbl_layout.specs.declared.columns.Column.{Column}
 use Rattle.tbl_layout.specs.declared.data_lines.RuleSign.{RuleSign}
 use Rattle.tbl_layout.specs.Widths.{edge_bars, inner_bars}
 use Rattle.tbl_lines.specs.CellsLeft.{Left, all_keys, bars_at_end}
 use Rattle.tbl_lines.specs.LinesLeft.{Beside, Nothing, OfRow, overs, shown_bars}
 use Rattle.tbl_lines.specs.PictureLeft.{behind_keys, below_of, through_rule, through_rules}
 use Rattle.tbl_lines.specs.PictureLines.{OfKeys, RuleLine, Sheet, Whole}
-use Rattle.tbl_lines.specs.RulePlaces.{HasPlaces, HavePlaces, bars_behind}
-use Rattle.tbl_lines.specs.RowsWalked.{AreNarrow}
-use Rattle.tbl_options.specs.declared.options.Boxing.{Boxing}
+use Rattle.tbl_lines.specs.RulePlaces.{HavePlaces, bars_behind}
 use Rattle.tbl_tall.specs.Bands.{BandStands, HasRoom as BandHasRoom, KeptBand, ShowBars, kept_band, keys_left, wholes_left}
 use Rattle.tbl_line_cells.specs.KeptCells.{AllLeft}
 use Rattle.tbl_line_cells.specs.LinesDrawn.{KeptLine, HasRoom, kept_line}
@@ -128,7 +123,7 @@ SignIs (Some sign) (OfKeys format) = ⊥
 SignIs None (Whole sign) = ⊥
 SignIs None (OfKeys format) = Unit {0}
 
--- a line of rules comes, for which there are places; and it can be laid in these columns, in a picture that has these bars and is so wide
+-- a line of rules comes, for which there are places
 pub record RuleIsNext (bytes : List ℕ) (formats : List FormatRow) (t : KeptTall) : Type 0 where
   pub s : Sheet
   pub heights : List ℕ
@@ -141,14 +136,6 @@ pub record RuleIsNext (bytes : List ℕ) (formats : List FormatRow) (t : KeptTal
   pub rule : RuleComes elements line rest
   pub places : HavePlaces formats s
 
-pub record CanLayRule (formats : List FormatRow) (t : KeptTall) (bars : Bars) (width : ℕ) (columns : List Column) (whole : Option RuleSign) : Type 0 where
-  pub bytes : List ℕ
-  pub next : RuleIsNext bytes formats t
-  pub sheet : next.s ≡ record { bars = bars; width = width; columns = columns }
-  pub sign : SignIs whole next.line
-  pub narrow : AreNarrow columns
-  pub wide : width < 4294967296
-
 -- a row whose cells are left so, with so many bars behind the last, and has so many lines still
 pub record RowStands (bytes : List ℕ) (s : Sheet) (t : KeptTall) (format : FormatRow) (cells : List Left) (lines : ℕ) : Type 0 where
   pub left : AllLeft bytes t.cells cells
@@ -159,23 +146,13 @@ pub record RowStands (bytes : List ℕ) (s : Sheet) (t : KeptTall) (format : For
   pub some : 0 < length s.columns
   pub room : length s.columns ≤ t.room
 
--- a line of it comes; and it can be laid in these columns, in a picture that has these bars and is so wide
+-- a line of it comes
 pub record LineIsNext (bytes : List ℕ) (t : KeptTall) : Type 0 where
   pub s : Sheet
   pub format : FormatRow
   pub cells : List Left
   pub more : ℕ
   pub stands : RowStands bytes s t format cells (suc more)
-
-pub record CanLayRow (t : KeptTall) (boxing : Boxing) (width : ℕ) (columns : List Column) : Type 0 where
-  pub bytes : List ℕ
-  pub bars : Bars
-  pub boxed : bars.boxing ≡ boxing
-  pub next : LineIsNext bytes t
-  pub sheet : next.s ≡ record { bars = bars; width = width; columns = columns }
-  pub places : HasPlaces bars.front columns next.format
-  pub order : StandInOrder bars width columns
-  pub narrow : AreNarrow columns
 
 -- behind a row: what is left of its cells, and the line above, whose bars are kept
 pub record RowEnded (bytes : List ℕ) (s : Sheet) (t : KeptTall) (cells : List Left) (above : Beside) : Type 0 where
@@ -190,7 +167,7 @@ pub record RowLies (formats : List FormatRow) (columns keys rules : ℕ) : Type 
   pub cells : AreWithin columns (row_at formats keys).keys
 
 abbrev pub ElementLies : List FormatRow → ℕ → KeptElement → Type 0
-ElementLies formats columns (RowKept keys rules height is_tall entries) = RowLies formats columns keys rules
+ElementLies formats columns (RowKept keys rules height entries) = RowLies formats columns keys rules
 ElementLies formats columns (RuleKept sign) = Unit {0}
 ElementLies formats columns (CommandKept from to) = Unit {0}
 

@@ -27,11 +27,11 @@ pub fn over_boxed()
 /// How many lines a cell has below its row, by the elements that are kept.
 pub fn over_kept()
     ensures { (bytes : List ℕ) (formats : List FormatRow) (is_inside : Bool) (keys rules height : ℕ)
-        (is_tall : Bool) (entries : List Entry) (cell passed : ℕ) (elements : List KeptElement)
+        (entries : List Entry) (cell passed : ℕ) (elements : List KeptElement)
         → AllByRecursion (HasInFront formats) elements
         → lines_below is_inside (row_at formats keys).keys cell passed (heights_kept elements)
         (elements_of bytes formats elements)
-        ≡ lines_kept bytes formats is_inside (Row keys rules height is_tall entries) cell passed
+        ≡ lines_kept bytes formats is_inside (Row keys rules height entries) cell passed
         elements }
 {}
 

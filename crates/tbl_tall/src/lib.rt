@@ -9,4 +9,5 @@ mod lines_over;
 mod next_cells;
 pub mod rule_laws;
 mod shown_bars;
+mod stops;
 pub mod tall_row;

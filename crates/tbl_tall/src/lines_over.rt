@@ -39,7 +39,7 @@ pub fn lines_over(
     let mut rules = 0;
     for at in element + 1..rows.count() {
         match rows.element(at) {
-            Lent::Row(_, rule_rows, height, _, _) => {
+            Lent::Row(_, rule_rows, height, _) => {
                 rows.rules_stay_few(at);
                 stays_few(height);
                 match cell_under(rows, format, row, at, own, end) {
@@ -61,7 +61,7 @@ pub fn lines_over(
 }
 
 /// Up to which column a cell of a row goes, if that is one.
-fn end_in(rows: &TableRows, format: &FormatRows, element: usize, cell: usize) -> usize
+pub fn end_in(rows: &TableRows, format: &FormatRows, element: usize, cell: usize) -> usize
     requires small { cell < 2 ^ 61 }
     requires at { element < length rows.now.elements }
     requires lie { RowsLie (all_rows format.now.format) rows.now }
@@ -70,7 +70,7 @@ fn end_in(rows: &TableRows, format: &FormatRows, element: usize, cell: usize) ->
     ensures near { result < 2 ^ 62 }
 {
     match rows.element(element) {
-        Lent::Row(keys, _, _, _, _) => end_of(format.row_of_all(keys), cell),
+        Lent::Row(keys, _, _, _) => end_of(format.row_of_all(keys), cell),
         Lent::Rule(_) => 0,
         Lent::Command(_, _) => 0,
     }
@@ -78,7 +78,7 @@ fn end_in(rows: &TableRows, format: &FormatRows, element: usize, cell: usize) ->
 
 /// The cell of the row below that goes on with a cell of a row, if one does: it goes up to the same
 /// column.
-fn cell_under(
+pub fn cell_under(
     rows: &TableRows,
     format: &FormatRows,
     row: usize,

@@ -3,19 +3,19 @@
 
 ghost use Rattle.std.specs.List.{AllByRecursion};
 ghost use Rattle.std.specs.Option.{MatchOption};
-ghost use Rattle.std.specs.Prelude.{◌≡◌, ℕ, suc, ◌+◌, ◌-◌, ◌<◌, ◌≤◌, ◌^◌, [], List, Bool, drop, length};
+ghost use Rattle.std.specs.Prelude.{◌≡◌, ℕ, suc, ◌+◌, ◌-◌, ◌<◌, ◌≤◌, ◌^◌, [], ◌∷◌, List, Bool, drop, length};
 ghost use Rattle.std.specs.Prelude.{vec_capacity, None, Some, IfSome, is_some, map, ◌&&◌};
 ghost use Rattle.tbl_format.specs.Cells.{cell_count, end_of};
 ghost use Rattle.tbl_format.specs.RowsServed.{all_rows, row_at};
 ghost use Rattle.tbl_format.specs.declared.format.FormatKey.{FormatKey};
 ghost use Rattle.tbl_format.specs.declared.format.Key.{Key};
-ghost use Rattle.tbl_kept.specs.Rows.{ElementLaid};
-ghost use Rattle.tbl_kept.specs.RowsLaying.{element_at};
-ghost use Rattle.tbl_layout.specs.Entries.{key_at};
+ghost use Rattle.tbl_kept.specs.Rows.{ElementLaid, elements_of};
+ghost use Rattle.tbl_kept.specs.RowsLaying.{element_at, goes_on};
+ghost use Rattle.tbl_layout.specs.Entries.{Rule, key_at};
 ghost use Rattle.tbl_layout.specs.Heights.{lines_in};
 ghost use Rattle.tbl_layout.specs.KeptEntries.{IsLaid, Lies, content_of};
 ghost use Rattle.tbl_layout.specs.declared.entry.Entry.{Entry};
-ghost use Rattle.tbl_lines.specs.CellsLeft.{Left, all_keys, bars_at_end, cell_by};
+ghost use Rattle.tbl_lines.specs.CellsLeft.{Left, all_keys, all_stopped, bars_at_end, cell_by};
 ghost use Rattle.tbl_lines.specs.CellsLeft.{keys_behind, nothing_left, own_field};
 ghost use Rattle.tbl_lines.specs.PictureLines.{frame_rules};
 ghost use Rattle.tbl_lines.specs.RowsLeft.{block_text};
@@ -29,11 +29,13 @@ ghost use Rattle.tbl_line_cells.specs.declared.cells.CellLeft.{CellLeft as OneCe
 ghost use Rattle.tbl_text.specs.BlockPlaces.{IsWithin};
 
 use crate::lines_over::lines_over;
+use crate::stops::set_stops;
 use tbl_format::cells::{cell_count, columns_of, end_of};
 use tbl_format::format::{FormatKey, Key, Standing};
 use tbl_format::format_rows::FormatRows;
 use tbl_kept::rows::TableRows;
 use tbl_kept::rows::heights::lines_of;
+use tbl_layout::data_lines::RuleSign;
 use tbl_layout::entry::{Entry, EntryKind};
 use tbl_line_cells::cells::CellLeft;
 use tbl_options::options::Boxing;
@@ -52,6 +54,46 @@ pub struct RowComing {
 
 /// The cells of a row, below others, in a table in whose box a rule stands between rows, or not.
 pub fn fill_cells(
+    cells: &mut Vec<CellLeft>,
+    cells_above: &[CellLeft],
+    rows: &TableRows,
+    format: &FormatRows,
+    is_inside: bool,
+    row: RowComing,
+)
+    requires lie { RowsLie (all_rows format.now.format) rows.now }
+    requires row { RowIsAt rows.now.elements row }
+    requires at { row.at < length rows.now.elements }
+    requires above { IfSome row.above (λ above. above < length rows.now.elements) }
+    requires first { row.above ≡ None → cells_above.now ≡ [] }
+    requires small { length rows.now.columns < 2 ^ 32 }
+    requires room { length rows.now.columns ≤ vec_capacity cells.old }
+    requires come { AllByRecursion (λ (c : OneCell). c.rows < 2 ^ 63) cells_above.now }
+    requires empty { cells.old.items ≡ [] }
+    ensures left { (bytes : List ℕ) (above : List FormatKey) (lefts : List Left)
+        → AllByRecursion (ElementLaid bytes (all_rows format.now.format)
+        (length rows.now.columns)) rows.now.elements
+        → RowAbove (all_rows format.now.format) rows.now.elements row.above above
+        → AllLeft bytes cells_above.now lefts
+        → let more = drop (suc row.at) rows.now.elements in
+        let served = row_at (all_rows format.now.format) row.keys in
+        AllLeft bytes cells.new.items (all_stopped (length rows.now.columns) served.keys
+        (elements_of bytes (all_rows format.now.format) more) 0
+        (cells_by (cell_kept bytes (all_rows format.now.format) is_inside above lefts
+        (element_at rows.now.elements row.at) more) 0
+        (all_keys (length rows.now.columns) served))) }
+    ensures keys { HasKeys cells.new.items
+        (all_keys (length rows.now.columns) (row_at (all_rows format.now.format) row.keys)) }
+    ensures come { (n : ℕ) → AllByRecursion (λ (c : OneCell). c.rows < n) cells_above.now
+        → AllByRecursion (λ (c : OneCell). c.rows ≤ n) cells.new.items }
+    ensures capacity { vec_capacity cells.new ≡ vec_capacity cells.old }
+{
+    fill_left(cells, cells_above, rows, format, is_inside, row);
+    set_stops(cells.as_mut_slice(), rows, format, row.at);
+}
+
+/// The cells of a row, without where what is without width ends.
+fn fill_left(
     cells: &mut Vec<CellLeft>,
     cells_above: &[CellLeft],
     rows: &TableRows,
@@ -151,6 +193,10 @@ fn left_above(
         → IfSome result (λ c. c.rows < n) }
     ensures small { IfSome result (λ c. c.rows < 2 ^ 63) }
 {
+    // Most cells begin with their rows.
+    if !goes_on(rows.field_of(format, row.at, cell)) {
+        return None;
+    }
     match row.above {
         Some(above) => match rows.cell_above(format, above, row.at, cell) {
             Some(other) => cell_at(cells_above, other),
@@ -158,6 +204,13 @@ fn left_above(
         },
         None => None,
     }
+}
+
+/// Whether a field is that of the cell above.
+fn goes_on(entry: Entry) -> bool
+    ensures { result ≡ goes_on entry.kind }
+{
+    matches!(entry.kind, EntryKind::Above)
 }
 
 /// One of some cells, if there are so many.
@@ -224,6 +277,9 @@ fn begun(
         lead: lead_of(key.standing, entry, u128::from(row.height), more),
         place,
         rows: 0,
+        is_used: entry.is_used(),
+        stop: 0,
+        is_cut: false,
     }
 }
 
@@ -288,6 +344,9 @@ pub fn fill_nothing(cells: &mut Vec<CellLeft>, columns: usize)
             lead: 0,
             place: BlockPlace::AtEnd,
             rows: 0,
+            is_used: false,
+            stop: 0,
+            is_cut: false,
         });
     }
 }

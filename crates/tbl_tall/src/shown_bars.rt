@@ -101,9 +101,14 @@ fn bars_before(cells: &[CellLeft], at: usize, boxing: Boxing, rules: u128) -> u8
     if at == 0 {
         return edge_bars(boxing, cell.key.bars);
     }
+    // Most cells have no bars in front of them.
+    let bars = inner_bars(boxing, cell.key.bars);
+    if bars == 0 {
+        return 0;
+    }
     let before = cells[at - 1].on_first_line(rules);
     match before.joined(cell.on_first_line(rules)) {
         Some(_) => 0,
-        None => inner_bars(boxing, cell.key.bars),
+        None => bars,
     }
 }

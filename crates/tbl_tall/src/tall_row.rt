@@ -1,7 +1,7 @@
 //! The cells of the row that comes next, some of which go on with those of the row above, and the
 //! lines of rules in front of it (Lesk, "Tbl": Format).
 
-ghost use Rattle.std.specs.Prelude.{◌≡◌, ℕ, suc, ◌+◌, ◌<◌, ◌≤◌, ◌^◌, [], List, Bool, drop, length};
+ghost use Rattle.std.specs.Prelude.{◌≡◌, ℕ, suc, ◌+◌, ◌<◌, ◌≤◌, ◌^◌, [], List, drop, length};
 ghost use Rattle.std.specs.Prelude.{IfOk, IfSome, None, is_some, nat_lt, true};
 ghost use Rattle.tbl_format.specs.Format.{FormatRow};
 ghost use Rattle.tbl_format.specs.RowsServed.{all_rows, row_at};
@@ -34,6 +34,7 @@ use tbl_lines::row_lent::RowLent;
 use tbl_options::options::Boxing;
 use tbl_text::block_parts::BlockPlace;
 
+mod counting;
 mod passing;
 
 /// The row that comes next, or is under way, and the lines of rules in front of it. All memory is
@@ -163,11 +164,11 @@ impl TallRow {
         requires room { length rows.now.columns ≤ self.old.room }
         requires come { self.old.come ≤ element }
         ensures comes { (bytes : List ℕ) (s : Sheet) (cells : List Left) (above : Beside)
-            (keys rules height : ℕ) (is_tall : Bool) (entries : List Entry)
+            (keys rules height : ℕ) (entries : List Entry)
             → s.columns ≡ rows.now.columns → s.bars.boxing ≡ boxing
             → HavePlaces (all_rows format.now.format) s
             → RowsLaid bytes (all_rows format.now.format) boxing.is_inside rows.now
-            → element_at rows.now.elements element ≡ Row keys rules height is_tall entries
+            → element_at rows.now.elements element ≡ Row keys rules height entries
             → RowEnded bytes s self.old cells above
             → let more = drop (suc element) rows.now.elements in
             let rest = boxed_from boxing true
@@ -220,7 +221,7 @@ impl TallRow {
         let mut rules = before;
         for at in first..rows.count() {
             match rows.element(at) {
-                Lent::Row(keys, rule_rows, height, _, _) => {
+                Lent::Row(keys, rule_rows, height, _) => {
                     rows.rules_stay_few(at);
                     let row = RowComing {
                         at,

@@ -21,13 +21,13 @@ more_items (suc m) (suc n) (b ∷ text) some few less =
     (more_items m n (drop len (b ∷ text)) some (omega (arith, length-drop len (b ∷ text), some b text)) (omega (arith, length-drop len (b ∷ text), some b text)))
 
 -- an escape has a byte
-fold-within : (most : ℕ) (r : Reading) (text : List ℕ) → IsWithin most r → IsWithin (most + length text) (fold met r text)
+pub fold-within : (most : ℕ) (r : Reading) (text : List ℕ) → IsWithin most r → IsWithin (most + length text) (fold met r text)
 fold-within most r [] within = record { some = within.some; fewer = within.fewer; few = omega (arith, within.few) }
 fold-within most r (b ∷ text) within =
     let behind = fold-within (most + 1) (met r b) text (met-within most r b within) in
     record { some = behind.some; fewer = behind.fewer; few = omega (arith, behind.few) }
 
-begun-within : IsWithin 1 begun
+pub begun-within : IsWithin 1 begun
 begun-within = record { some = omega arith; fewer = omega arith; few = omega arith }
 
 -- the first item has a byte

@@ -20,3 +20,7 @@ pub mod BlockParts
 pub mod FilledBlocks
 pub mod KeptWords
 pub mod WordsOnLines
+pub mod FrontItems
+pub mod FittedSoFar
+pub mod FittedWords
+pub mod CutParts

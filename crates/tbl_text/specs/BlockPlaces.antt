@@ -3,7 +3,9 @@ use Rattle.std.specs.Prelude.{ℕ, ◌+◌, ◌-◌, ◌<◌, ◌≤◌, Bool, L
 use Rattle.std.specs.List.{slice_range}
 use Rattle.tbl_text.specs.BlockWords.{Word, Part, EmptyLine as AnEmptyLine, OneWord, words_of, known_behind, parts_behind, lines_in}
 use Rattle.tbl_text.specs.declared.block_parts.BlockPlace.{BlockPlace}
-use Rattle.tbl_text.specs.declared.block_parts.BlockPlace.TheVariants.{AtLine, Behind, AtEnd}
+use Rattle.tbl_text.specs.declared.block_parts.BlockPlace.TheVariants.{AtLine, AtLineWithin, Behind, BehindWithin, AtEnd}
+use Rattle.tbl_text.specs.FittedWords.{further_fitted, line_fitted}
+use Rattle.tbl_text.specs.declared.block_parts.Room.{Room}
 use Rattle.tbl_text.specs.declared.block_parts.BlockPart.{BlockPart}
 use Rattle.tbl_text.specs.declared.block_parts.BlockPart.TheVariants.{EmptyLine, Word as AWord}
 use Rattle.tbl_text.specs.declared.block_words.BlockWord.{BlockWord}
@@ -17,6 +19,14 @@ abbrev pub lines_from : List ℕ → Option ℕ → List (List ℕ)
 lines_from bytes None = []
 lines_from bytes (Some line) = lines_in (drop line bytes)
 
+-- parts as far as they fit in so many columns, in which the first begins a line, or goes on with it
+abbrev pub parts_within : Room → List Part → List Part
+parts_within room parts = if room.is_first then line_fitted room.columns parts else further_fitted room.columns parts
+
+-- the blanks in front of a word there
+abbrev pub gap_in : Room → BlockWord → ℕ
+gap_in room w = if room.is_first then (if w.breaks then w.gap else 0) else w.gap
+
 -- the parts of a block that are left at a place
 abbrev pub parts_at : List ℕ → BlockPlace → List Part
 parts_at bytes (AtLine line before) = parts_behind before (lines_in (drop line bytes))
@@ -24,18 +34,40 @@ parts_at bytes (Behind at end ends) =
     let words = words_of (slice_range bytes at end) in
     map OneWord words ++ parts_behind (known_behind (Some ends) words) (lines_from bytes (line_behind bytes end))
 parts_at bytes AtEnd = []
+parts_at bytes (AtLineWithin line before room) = parts_within room (parts_behind before (lines_in (drop line bytes)))
+parts_at bytes (BehindWithin at end ends room) =
+    let words = words_of (slice_range bytes at end) in
+    parts_within room (map OneWord words ++ parts_behind (known_behind (Some ends) words) (lines_from bytes (line_behind bytes end)))
+
+-- the same place, from which parts are read as far as they fit in a room
+abbrev pub place_within : Room → BlockPlace → BlockPlace
+place_within room (AtLine line before) = AtLineWithin line before room
+place_within room (Behind at end ends) = BehindWithin at end ends room
+place_within room place = place
+
+-- a place from which all is read
+abbrev pub ReadsAll : BlockPlace → Type 0
+ReadsAll (AtLine line before) = Unit {0}
+ReadsAll (Behind at end ends) = Unit {0}
+ReadsAll AtEnd = Unit {0}
+ReadsAll (AtLineWithin line before room) = ⊥
+ReadsAll (BehindWithin at end ends room) = ⊥
 
 -- a place within a block
 abbrev pub IsWithin : List ℕ → BlockPlace → Type 0
 IsWithin bytes (AtLine line before) = line ≤ length bytes
 IsWithin bytes (Behind at end ends) = (at ≤ end) × (end ≤ length bytes)
 IsWithin bytes AtEnd = Unit {0}
+IsWithin bytes (AtLineWithin line before room) = line ≤ length bytes
+IsWithin bytes (BehindWithin at end ends room) = (at ≤ end) × (end ≤ length bytes)
 
 -- how much of a block is left at a place: its bytes, and one for its end
 abbrev pub left_at : List ℕ → BlockPlace → ℕ
 left_at bytes (AtLine line before) = length bytes - line + 1
 left_at bytes (Behind at end ends) = length bytes - at + 1
 left_at bytes AtEnd = 0
+left_at bytes (AtLineWithin line before room) = length bytes - line + 1
+left_at bytes (BehindWithin at end ends room) = length bytes - at + 1
 
 -- a word by its place
 abbrev pub word_at : List ℕ → BlockWord → Word

@@ -3,7 +3,7 @@ use Rattle.std.specs.Prelude.{◌≡◌, ℕ, ◌+◌, ◌≤◌, Bool, true, fa
 use Rattle.roff_lines.specs.FirstLine.{width_with}
 use Rattle.tbl_text.specs.BlockWords.{Part, OneWord}
 use Rattle.tbl_text.specs.BlockLines.{rest_of_line, behind_rest}
-use Rattle.tbl_text.specs.BlockPlaces.{parts_at, parts_with, word_at, left_at, GoesOn}
+use Rattle.tbl_text.specs.BlockPlaces.{parts_at, parts_with, word_at, left_at, GoesOn, ReadsAll}
 use Rattle.tbl_text.specs.declared.block_parts.BlockPlace.{BlockPlace}
 use Rattle.tbl_text.specs.declared.block_parts.BlockPart.{BlockPart}
 use Rattle.tbl_text.specs.declared.block_parts.BlockPart.TheVariants.{EmptyLine as AnEmptyLine, Word as AWord}
@@ -39,6 +39,11 @@ IsWidened measure width (Ends next) = Unit {0}
 abbrev pub LineGoesOn : List ℕ → ℕ → OnLine → Type 0
 LineGoesOn bytes left (Joins w width place) = GoesOn bytes left (AWord w, place)
 LineGoesOn bytes left (Ends next) = IfSome next (GoesOn bytes left)
+
+-- behind what comes next on a line all is read
+abbrev pub LineReadsAll : OnLine → Type 0
+LineReadsAll (Joins w width place) = ReadsAll place
+LineReadsAll (Ends next) = IfSome next (λ n. ReadsAll n.1)
 
 -- how much is left of a block with a part that comes next
 abbrev pub left_with : List ℕ → Option (BlockPart × BlockPlace) → ℕ

@@ -8,3 +8,5 @@ pub mod BlockPlaces
 pub mod BlockRuns
 pub mod FilledLines
 pub mod BlockLaws
+pub mod Fitted
+pub mod FittedWords

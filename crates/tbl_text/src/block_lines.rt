@@ -5,10 +5,12 @@ ghost use Rattle.std.specs.Prelude.{◌||◌};
 ghost use Rattle.tbl_text.specs.BlockLines.{behind_first, behind_rest, first_line, has_word};
 ghost use Rattle.tbl_text.specs.BlockLines.{line_width, lines_of, rest_of_line, widest};
 ghost use Rattle.tbl_text.specs.BlockLines.{width_behind};
-ghost use Rattle.tbl_text.specs.BlockPlaces.{GoesOn, IsWithin, LiesBehind, PartLies, left_at};
+ghost use Rattle.tbl_text.specs.BlockPlaces.{GoesOn, IsWithin, LiesBehind, PartLies, ReadsAll};
+ghost use Rattle.tbl_text.specs.BlockPlaces.{left_at};
 ghost use Rattle.tbl_text.specs.BlockPlaces.{part_at, parts_at, parts_with};
-ghost use Rattle.tbl_text.specs.FilledLines.{IsWidened, LineGoesOn, behind_with, joined_width};
-ghost use Rattle.tbl_text.specs.FilledLines.{is_word, leading_of, line_with, word_on_line};
+ghost use Rattle.tbl_text.specs.FilledLines.{IsWidened, LineGoesOn, LineReadsAll, behind_with};
+ghost use Rattle.tbl_text.specs.FilledLines.{is_word, joined_width, leading_of, line_with};
+ghost use Rattle.tbl_text.specs.FilledLines.{word_on_line};
 
 use crate::block_parts::{BlockPart, BlockPlace, next_part, word_behind};
 use crate::block_words::BlockWord;
@@ -167,6 +169,7 @@ pub fn next_on_line(
         ≡ behind_with bytes.now measure result }
     ensures width { IsWidened measure width result }
     ensures on { LineGoesOn bytes.now (left_at bytes.now place) result }
+    ensures all { ReadsAll place → LineReadsAll result }
     ensures room { escapes.new.room ≡ escapes.old.room }
 {
     match place {
@@ -178,9 +181,7 @@ pub fn next_on_line(
             }
             None => part_on_line(escapes, bytes, place, width, measure),
         },
-        BlockPlace::AtLine(_, _) | BlockPlace::AtEnd => {
-            part_on_line(escapes, bytes, place, width, measure)
-        }
+        _ => part_on_line(escapes, bytes, place, width, measure),
     }
 }
 
@@ -200,6 +201,7 @@ fn part_on_line(
         ≡ behind_with bytes.now measure result }
     ensures width { IsWidened measure width result }
     ensures on { LineGoesOn bytes.now (left_at bytes.now place) result }
+    ensures all { ReadsAll place → LineReadsAll result }
     ensures room { escapes.new.room ≡ escapes.old.room }
 {
     match next_part(escapes, bytes, place) {

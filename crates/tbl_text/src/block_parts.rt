@@ -2,15 +2,18 @@
 //! "Tbl": Text Blocks).
 
 ghost use Rattle.std.specs.Prelude.{◌≡◌, ◌+◌, ◌-◌, ◌^◌, ◌<◌, ◌≤◌, ◌∷◌, length, slice_range};
-ghost use Rattle.std.specs.Prelude.{ℕ, Bool, List, IfSome, None, Some};
-ghost use Rattle.tbl_text.specs.BlockPlaces.{GoesOn, IsWithin, WordGoesOn, left_at, left_from};
-ghost use Rattle.tbl_text.specs.BlockPlaces.{line_behind, lines_from, parts_at, parts_first};
-ghost use Rattle.tbl_text.specs.BlockPlaces.{parts_of_word, parts_with};
+ghost use Rattle.std.specs.Prelude.{ℕ, Bool, List, IfSome, None, Some, map};
+ghost use Rattle.tbl_text.specs.BlockPlaces.{GoesOn, IsWithin, LiesBehind, PartLies, ReadsAll};
+ghost use Rattle.tbl_text.specs.BlockPlaces.{WordGoesOn, gap_in, left_at, left_from, line_behind};
+ghost use Rattle.tbl_text.specs.BlockPlaces.{lines_from, parts_at, parts_first, parts_of_word};
+ghost use Rattle.tbl_text.specs.BlockPlaces.{parts_with, parts_within, place_within, word_at};
 ghost use Rattle.tbl_text.specs.BlockRuns.{joined_word};
 ghost use Rattle.tbl_text.specs.BlockWords.{is_empty_line, is_request, lines_in, parts_behind};
-ghost use Rattle.tbl_text.specs.BlockWords.{parts_of};
+ghost use Rattle.tbl_text.specs.BlockWords.{OneWord, parts_of};
+ghost use Rattle.tbl_text.specs.FittedWords.{word_fitted};
 
 use crate::block_words::{BlockWord, next_word};
+use crate::fitted::cut_word;
 use memchr::memchr;
 use roff_escape::OpenEscapes;
 use roff_source::is_dropped;
@@ -25,6 +28,19 @@ pub enum BlockPlace {
     Behind(u32, u32, bool),
     /// Behind the last line.
     AtEnd,
+    /// At the beginning of a line, from which words are read as far as they fit in a room.
+    AtLineWithin(u32, Option<bool>, Room),
+    /// Behind a word of a line, from which words are read so.
+    BehindWithin(u32, u32, bool, Room),
+}
+
+/// What is left of a line of a block that is cut.
+#[derive(Clone, Copy)]
+pub struct Room {
+    /// How many columns it has still.
+    pub columns: u32,
+    /// Whether the next word begins it.
+    pub is_first: bool,
 }
 
 /// What a text block has next.
@@ -42,8 +58,23 @@ impl BlockPlace {
     pub fn first() -> BlockPlace
         ensures parts { (bytes : List ℕ) → parts_at bytes result ≡ parts_of (lines_in bytes) }
         ensures within { (bytes : List ℕ) → IsWithin bytes result }
+        ensures all { ReadsAll result }
     {
         BlockPlace::AtLine(0, None)
+    }
+
+    /// The same place, from which words are read as far as they fit in a room. A place from which
+    /// they are read so already stays.
+    pub fn within(self, room: Room) -> BlockPlace
+        ensures { result ≡ place_within room self }
+    {
+        match self {
+            BlockPlace::AtLine(line, before) => BlockPlace::AtLineWithin(line, before, room),
+            BlockPlace::Behind(at, end, ends_sentence) => {
+                BlockPlace::BehindWithin(at, end, ends_sentence, room)
+            }
+            other => other,
+        }
     }
 }
 
@@ -58,6 +89,7 @@ pub fn next_part(
     requires within { IsWithin bytes.now place }
     ensures parts { parts_at bytes.now place ≡ parts_with bytes.now result }
     ensures on { IfSome result (GoesOn bytes.now (left_at bytes.now place)) }
+    ensures all { ReadsAll place → IfSome result (λ next. ReadsAll next.1) }
     ensures room { escapes.new.room ≡ escapes.old.room }
 {
     match place {
@@ -68,6 +100,107 @@ pub fn next_part(
             part_behind(escapes, bytes, at, end, ends_sentence)
         }
         BlockPlace::AtEnd => None,
+        BlockPlace::AtLineWithin(line, before, room) => {
+            let part = part_of_lines(escapes, bytes, Some(line as usize), before);
+            part_within(escapes, bytes, part, room)
+        }
+        BlockPlace::BehindWithin(at, end, ends_sentence, room) => {
+            let part = part_behind(escapes, bytes, at, end, ends_sentence);
+            part_within(escapes, bytes, part, room)
+        }
+    }
+}
+
+/// What comes next as far as it fits in a room: of a word that doesn't fit whole as much as does.
+// Lines of blocks are rarely cut.
+#[inline(never)]
+fn part_within(
+    escapes: &mut OpenEscapes,
+    bytes: &[u8],
+    part: Option<(BlockPart, BlockPlace)>,
+    room: Room,
+) -> Option<(BlockPart, BlockPlace)>
+    requires small { length bytes.now < 2 ^ 32 }
+    requires lies { IfSome part (λ next. PartLies bytes.now next.0) }
+    requires within { IfSome part (λ next. IsWithin bytes.now next.1) }
+    requires all { IfSome part (λ next. ReadsAll next.1) }
+    ensures parts { parts_within room (parts_with bytes.now part) ≡ parts_with bytes.now result }
+    ensures on { (left : ℕ) → IfSome part (GoesOn bytes.now left)
+        → IfSome result (GoesOn bytes.now left) }
+    ensures room { escapes.new.room ≡ escapes.old.room }
+{
+    match part {
+        Some((BlockPart::Word(word), behind)) => word_within(escapes, bytes, word, behind, room),
+        Some((BlockPart::EmptyLine, behind)) => Some((BlockPart::EmptyLine, behind)),
+        None => None,
+    }
+}
+
+/// A word as far as it fits in a room, and the place behind it.
+fn word_within(
+    escapes: &mut OpenEscapes,
+    bytes: &[u8],
+    word: BlockWord,
+    behind: BlockPlace,
+    room: Room,
+) -> Option<(BlockPart, BlockPlace)>
+    requires small { length bytes.now < 2 ^ 32 }
+    requires lies { LiesBehind bytes.now 0 word }
+    requires within { IsWithin bytes.now behind }
+    requires all { ReadsAll behind }
+    ensures parts { parts_within room
+        (OneWord (word_at bytes.now word) ∷ parts_at bytes.now behind)
+        ≡ parts_with bytes.now result }
+    ensures on { (left : ℕ) → left_at bytes.now behind < left
+        → IfSome result (GoesOn bytes.now left) }
+    ensures room { escapes.new.room ≡ escapes.old.room }
+{
+    let gap = word.gap_in(room);
+    let columns = u64::from(room.columns);
+    if columns < gap {
+        return None;
+    }
+    let end = gap + word.width;
+    if columns < end {
+        return cut_part(escapes, bytes, word, (columns - gap) as usize);
+    }
+    let rest = Room {
+        columns: (columns - end) as u32,
+        is_first: false,
+    };
+    Some((BlockPart::Word(word), behind.within(rest)))
+}
+
+/// What of a word fits in so many columns, and nothing behind it.
+fn cut_part(
+    escapes: &mut OpenEscapes,
+    bytes: &[u8],
+    word: BlockWord,
+    columns: usize,
+) -> Option<(BlockPart, BlockPlace)>
+    requires small { length bytes.now < 2 ^ 32 }
+    requires lies { LiesBehind bytes.now 0 word }
+    ensures parts { map OneWord (word_fitted columns (word_at bytes.now word))
+        ≡ parts_with bytes.now result }
+    ensures on { (left : ℕ) → 0 < left → IfSome result (GoesOn bytes.now left) }
+    ensures room { escapes.new.room ≡ escapes.old.room }
+{
+    match cut_word(escapes, bytes, word, columns) {
+        Some(cut) => Some((BlockPart::Word(cut), BlockPlace::AtEnd)),
+        None => None,
+    }
+}
+
+impl BlockWord {
+    /// The blanks in front of the word, by whether it begins what is left of a line.
+    fn gap_in(self, room: Room) -> u64
+        ensures value { result ≡ gap_in room self }
+        ensures few { result ≤ self.gap }
+    {
+        if room.is_first {
+            return u64::from(self.leading());
+        }
+        u64::from(self.gap)
     }
 }
 
@@ -104,6 +237,7 @@ fn part_behind(
     ensures parts { parts_at bytes.now (BlockPlace.Behind at end ends_sentence)
         ≡ parts_with bytes.now result }
     ensures on { IfSome result (GoesOn bytes.now (length bytes.now - at + 1)) }
+    ensures all { IfSome result (λ next. ReadsAll next.1) }
     ensures room { escapes.new.room ≡ escapes.old.room }
 {
     match word_behind(escapes, bytes, at, end) {
@@ -130,6 +264,7 @@ fn part_of_lines(
     requires within { IfSome line (λ at. at ≤ length bytes.now) }
     ensures parts { parts_behind before (lines_from bytes.now line) ≡ parts_with bytes.now result }
     ensures on { IfSome result (GoesOn bytes.now (left_from bytes.now line)) }
+    ensures all { IfSome result (λ next. ReadsAll next.1) }
     ensures room { escapes.new.room ≡ escapes.old.room }
 {
     let mut next = line;
@@ -159,6 +294,7 @@ fn part_of_line(
         parts_behind before (slice_range bytes.now line end ∷ behind)
         ≡ parts_first bytes.now (parts_behind before behind) result }
     ensures on { IfSome result (GoesOn bytes.now (length bytes.now - line + 1)) }
+    ensures all { IfSome result (λ next. ReadsAll next.1) }
     ensures room { escapes.new.room ≡ escapes.old.room }
 {
     let text = &bytes[line..end];
@@ -211,6 +347,7 @@ fn behind_empty_line(bytes: &[u8], end: usize) -> BlockPlace
         ≡ parts_behind None (lines_from bytes.now (line_behind bytes.now end)) }
     ensures within { IsWithin bytes.now result }
     ensures less { left_at bytes.now result ≤ length bytes.now - end }
+    ensures all { ReadsAll result }
 {
     match line_behind(bytes, end) {
         Some(line) => BlockPlace::AtLine(line as u32, None),

@@ -1,11 +1,12 @@
 //! Facts about the items of texts and what they measure, as contracts of functions that do nothing.
 
 ghost use Rattle.std.specs.Prelude.{◌≡◌, ℕ, ◌∷◌, ◌++◌, [], List, Some, None, codes, false, true};
-ghost use Rattle.std.specs.Prelude.{map, length, ◌≤◌};
+ghost use Rattle.std.specs.Prelude.{map, length, take, drop, ◌≤◌, ◌<◌, ◌+◌};
 ghost use Rattle.std.specs.List.{AllByRecursion};
-ghost use Rattle.tbl_text.specs.Items.{items};
+ghost use Rattle.tbl_text.specs.Fitted.{fitting, fitting_text};
+ghost use Rattle.tbl_text.specs.Items.{Item, columns, items};
 ghost use Rattle.tbl_text.specs.Laws.{ArePlain, byte_item, parts, plain_measured, whats};
-ghost use Rattle.tbl_text.specs.Measuring.{bytes_of, measured, notes_from};
+ghost use Rattle.tbl_text.specs.Measuring.{bytes_of, measured, notes_from, width_of};
 ghost use Rattle.tbl_text.specs.declared.items.What.TheVariants.{Ampersand, Blank, Byte, Dropped};
 ghost use Rattle.tbl_text.specs.declared.items.What.TheVariants.{Glyph, NotMeasured, Nothing};
 
@@ -47,6 +48,20 @@ pub fn item_rows()
 pub fn joined()
     ensures whole { (text : List ℕ) → bytes_of (items text) ≡ text }
     ensures some { (text : List ℕ) → AllByRecursion (λ i. 1 ≤ length i.bytes) (items text) }
+{}
+
+/// The items of a text that is cut to so many columns are the first of its items, as many as fit:
+/// what is cut is read as it was before. With one item more they wouldn't fit.
+pub fn fitted()
+    ensures items { (room : ℕ) (text : List ℕ)
+        → items (fitting_text room text) ≡ fitting room (items text) }
+    ensures front { (room : ℕ) (xs : List Item)
+        → take (length (fitting room xs)) xs ≡ fitting room xs }
+    ensures width { (room : ℕ) (xs : List Item)
+        → width_of (fitting room xs) ≤ room }
+    ensures longest { (room : ℕ) (xs rest : List Item) (next : Item)
+        → drop (length (fitting room xs)) xs ≡ next ∷ rest
+        → room < width_of (fitting room xs) + columns next.what }
 {}
 
 /// Of a text without control bytes and backslashes each byte is an item. So is each byte of such a

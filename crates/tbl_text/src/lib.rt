@@ -6,6 +6,7 @@ pub mod block_laws;
 pub mod block_lines;
 pub mod block_parts;
 pub mod block_words;
+pub mod fitted;
 pub mod items;
 pub mod laws;
 pub mod measure;

@@ -95,7 +95,7 @@ fn measure_number(escapes: &mut OpenEscapes, text: &[u8]) -> Measured
 
 /// A text from a place on.
 #[inline(always)]
-fn behind(text: &[u8], at: usize) -> &[u8]
+pub(crate) fn behind(text: &[u8], at: usize) -> &[u8]
     requires { at ≤ length text.now }
     ensures { result.now ≡ drop at text.now }
 {

@@ -148,7 +148,7 @@ impl LineByLine {
         ensures escapes { escapes.new.room ≡ escapes.old.room }
     {
         if self.tall.pass_line(escapes, bytes, self.bars.boxing) {
-            return self.begin_row_line(walk, bytes, rows, format);
+            return self.begin_row_line(walk, escapes, bytes, rows, format);
         }
         rows.stay_few();
         self.tall

@@ -1,13 +1,13 @@
 //! The cells of a row that go on with those above them, and what is left of their lines (Lesk,
 //! "Tbl": Format).
 
-ghost use Rattle.std.specs.Prelude.{◌≡◌, ℕ, ◌-◌, ◌<◌, ◌≤◌, ◌^◌, not, is_some, max, get_or, if◌then◌else◌, [], ◌∷◌, List, length, map, vec_capacity};
+ghost use Rattle.std.specs.Prelude.{◌≡◌, ℕ, ◌-◌, ◌<◌, ◌≤◌, ◌^◌, not, is_some, max, get_or};
+ghost use Rattle.std.specs.Prelude.{if◌then◌else◌, [], ◌∷◌, List, length, map, vec_capacity};
 ghost use Rattle.tbl_format.specs.Cells.{AreCells};
 ghost use Rattle.tbl_kept.specs.KeptHeights.{cells_of, seen};
 ghost use Rattle.tbl_kept.specs.Rows.{AreLaid};
 ghost use Rattle.tbl_kept.specs.RowsLaying.{goes_on};
-ghost use Rattle.tbl_layout.specs.Heights.{cell_above, cell_below, goes_down_from, goes_up_from};
-ghost use Rattle.tbl_layout.specs.Heights.{height_in_front_of, is_tall_by, lefts_from};
+ghost use Rattle.tbl_layout.specs.Heights.{cell_above, cell_below, height_in_front_of, lefts_from};
 
 use super::heights::lines_of;
 use tbl_format::cells::same_cell;
@@ -75,7 +75,8 @@ pub(super) fn fill_lefts(
     requires cells { AreCells 0 above.now }
     requires room { count ≤ vec_capacity left.old }
     ensures items { (bytes : List ℕ) (bars : ℕ)
-        → AreLaid bytes (record { keys = cells.entry.keys.now; bars = bars }) 0 cells.entry.entries.now
+        → AreLaid bytes (record { keys = cells.entry.keys.now; bars = bars }) 0
+        cells.entry.entries.now
         → left.new.items ≡ lefts_from above.now left_above.now between
         (record { keys = cells.entry.keys.now; bars = bars })
         (cells_of bytes bars cells.entry.keys.now cells.entry.entries.now) 0 count }
@@ -99,7 +100,8 @@ fn left_of(
     requires small { cell < 2 ^ 62 }
     requires cells { AreCells 0 above.now }
     ensures { (bytes : List ℕ) (bars : ℕ)
-        → AreLaid bytes (record { keys = cells.entry.keys.now; bars = bars }) 0 cells.entry.entries.now
+        → AreLaid bytes (record { keys = cells.entry.keys.now; bars = bars }) 0
+        cells.entry.entries.now
         → result ∷ [] ≡ lefts_from above.now left_above.now between
         (record { keys = cells.entry.keys.now; bars = bars })
         (cells_of bytes bars cells.entry.keys.now cells.entry.entries.now) cell 1 }
@@ -168,65 +170,4 @@ fn lower(left: &mut [u32], height: u32)
     for cell in 0..left.len() {
         left[cell] = left[cell].saturating_sub(height);
     }
-}
-
-/// Whether one of the first cells of a row goes on with one above it, or one below it with its own.
-pub(super) fn is_tall(
-    is_first: bool,
-    above: &[FormatKey],
-    cells: RowCells<'_>,
-    below: RowCells<'_>,
-    count: usize,
-) -> bool
-    requires small { count < 2 ^ 62 }
-    requires cells { AreCells 0 above.now }
-    requires below { AreCells 0 below.keys.now }
-    ensures { (bytes : List ℕ) (bars : ℕ) → result ≡ is_tall_by is_first
-        (goes_up_from above.now cells.entry.keys.now
-        (cells_of bytes bars cells.entry.keys.now cells.entry.entries.now) 0 count)
-        (goes_down_from cells.entry.keys.now
-        (seen bytes bars below.entry.keys.now below.entry.entries.now) 0 count) }
-{
-    let up = goes_up(above, cells, count);
-    let down = goes_down(cells.keys, below, count);
-    is_tall_by(is_first, up, down)
-}
-
-/// Whether one goes on with one above, if that isn't the first row, or one does below.
-fn is_tall_by(is_first: bool, up: bool, down: bool) -> bool
-    ensures { result ≡ is_tall_by is_first up down }
-{
-    (!is_first && up) || down
-}
-
-/// Whether one of the first cells of a row goes on with one of the row above, which has these keys.
-fn goes_up(above: &[FormatKey], cells: RowCells<'_>, count: usize) -> bool
-    requires small { count < 2 ^ 62 }
-    requires cells { AreCells 0 above.now }
-    ensures { (bytes : List ℕ) (bars : ℕ) → result ≡ goes_up_from above.now cells.entry.keys.now
-        (cells_of bytes bars cells.entry.keys.now cells.entry.entries.now) 0 count }
-{
-    for cell in 0..count {
-        let found = cell_above(above, cells, cell);
-        if found.is_some() {
-            return true;
-        }
-    }
-    false
-}
-
-/// Whether a cell of the row below goes on with one of the first cells of a row with these keys.
-fn goes_down(keys: &[FormatKey], below: RowCells<'_>, count: usize) -> bool
-    requires small { count < 2 ^ 62 }
-    requires cells { AreCells 0 below.keys.now }
-    ensures { (bytes : List ℕ) (bars : ℕ) → result ≡ goes_down_from keys.now
-        (seen bytes bars below.entry.keys.now below.entry.entries.now) 0 count }
-{
-    for cell in 0..count {
-        let found = cell_below(keys, below, cell);
-        if found.is_some() {
-            return true;
-        }
-    }
-    false
 }

@@ -6,17 +6,18 @@ ghost use Rattle.std.specs.List.{AllByRecursion, list_any};
 ghost use Rattle.tbl_format.specs.Format.{FormatRow};
 ghost use Rattle.tbl_format.specs.RowsServed.{all_rows};
 ghost use Rattle.tbl_kept.specs.KeptHeights.{raised};
-ghost use Rattle.tbl_kept.specs.Rows.{ElementKept, ElementLaid, RowsKept, RowsLaid, SameRoom, elements_of};
-ghost use Rattle.tbl_kept.specs.RowsLaying.{all_laid, element_at, fitted_rows, laid_at};
-ghost use Rattle.tbl_kept.specs.RowsLaying.{ElementWithin, IsAlone, NoFormatsGoOn, is_above_key};
+ghost use Rattle.tbl_kept.specs.Rows.{ElementKept, ElementLaid, IsPlainTable, RowsKept, RowsLaid};
+ghost use Rattle.tbl_kept.specs.Rows.{SameRoom, elements_of};
+ghost use Rattle.tbl_kept.specs.RowsLaying.{AllFormatsCount, all_laid, element_at, fitted_rows};
+ghost use Rattle.tbl_kept.specs.RowsLaying.{ElementWithin, NoFormatsGoOn, is_above_key, laid_at};
 ghost use Rattle.tbl_kept.specs.RowsLaying.{RowsWithin, wide_in};
 ghost use Rattle.tbl_layout.specs.Columns.{equalled, placed_with, width_of_all, with_bars};
 ghost use Rattle.tbl_layout.specs.Columns.{with_widths};
 ghost use Rattle.tbl_layout.specs.Heights.{NoneAbove};
 ghost use Rattle.tbl_layout.specs.Spans.{all_fitted, columns_laid, filled};
 
-use super::heights::set_heights;
-use super::{Element, KeptRow, TableRows};
+use super::heights::{Fields, set_heights, with_height};
+use super::{Element, TableRows};
 use crate::held_columns::{fill_fields, fit_fields};
 use roff_escape::OpenEscapes;
 use tbl_format::cells::columns_of;
@@ -40,7 +41,8 @@ impl TableRows {
         requires kept { RowsKept bytes.now (all_rows format.now.format) self.old }
         requires columns { length self.old.columns ≡ length format.now.format.asked }
         requires none { self.old.row ≡ [] }
-        ensures laid { RowsLaid bytes.now (all_rows format.now.format) bars.boxing.is_inside self.new }
+        ensures laid { RowsLaid bytes.now (all_rows format.now.format)
+            bars.boxing.is_inside self.new }
         ensures elements { elements_of bytes.now (all_rows format.now.format) self.new.elements
             ≡ filled bars line_length format.now.format.asked
             (elements_of bytes.now (all_rows format.now.format) self.old.elements) }
@@ -65,12 +67,22 @@ impl TableRows {
         self.set_heights(format, bars.boxing.is_inside);
     }
 
-    /// Whether a cell may go on with the one above it, under these formats.
+    /// Whether a cell may go on with the one above it, or what stands in it may run on behind its
+    /// columns, under these formats.
     pub fn may_go_on(&self, format: &FormatRows) -> bool
-        ensures { result ≡ false → (bytes : List ℕ) → AllByRecursion NoneAbove
+        ensures above { result ≡ false → (bytes : List ℕ) → AllByRecursion NoneAbove
             (elements_of bytes (all_rows format.now.format) self.now.elements) }
+        ensures widths { result ≡ false → AllFormatsCount (all_rows format.now.format) }
     {
-        goes_on(self.has_above, has_above(format))
+        let down = goes_on(self.has_above, has_above(format));
+        goes_on(down, has_free(format))
+    }
+
+    /// Whether what stands in a cell may be without width, under these formats.
+    pub fn may_run_on(&self, format: &FormatRows) -> bool
+        ensures { result ≡ false → AllFormatsCount (all_rows format.now.format) }
+    {
+        has_free(format)
     }
 
     /// Each row is as high as what is left of the cells that end with it, where one may go on.
@@ -78,21 +90,21 @@ impl TableRows {
         requires within { RowsWithin (all_rows format.now.format) self.old }
         requires few { length format.now.format.asked < 2 ^ 32 }
         requires columns { length self.old.columns ≡ length format.now.format.asked }
-        ensures { (bytes : List ℕ) → AllByRecursion (ElementLaid bytes (all_rows format.now.format)
-            (length self.old.columns)) self.old.elements → AllByRecursion IsAlone self.old.elements
+        ensures { (bytes : List ℕ)
+            → AllByRecursion (ElementLaid bytes (all_rows format.now.format)
+            (length self.old.columns)) self.old.elements → IsPlainTable self.old
             → self.new ≡ record self.old {
               elements = raised bytes (all_rows format.now.format)
                   is_inside (length self.old.columns) self.old.elements;
             } }
     {
         if goes_on(self.has_above, has_above(format)) {
+            let entries = self.entries.as_slice();
             set_heights(
                 self.elements.as_mut_slice(),
-                self.entries.as_slice(),
-                format,
+                Fields { entries, format },
                 is_inside,
-                &mut self.left,
-                &mut self.left_above,
+                &mut self.lefts,
             );
         }
     }
@@ -103,7 +115,8 @@ impl TableRows {
         ensures value { self.new ≡ record self.old
             { columns = placed_with bars more asked.now self.old.columns } }
         ensures laid { (bytes : List ℕ) (formats : List FormatRow) (is_inside : Bool)
-            → RowsLaid bytes formats is_inside self.old → RowsLaid bytes formats is_inside self.new }
+            → RowsLaid bytes formats is_inside self.old
+            → RowsLaid bytes formats is_inside self.new }
     {
         self.place(bars, asked, more);
     }
@@ -249,14 +262,7 @@ impl TableRows {
             let entries = &mut self.entries.as_mut_slice()[row.from as usize..row.to as usize];
             let columns = self.columns.as_mut_slice();
             let height = fill_fields(escapes, bytes, filling, keys, entries, columns);
-            self.elements[at] = Element::Row(KeptRow {
-                keys: row.keys,
-                rules: row.rules,
-                height,
-                is_tall: false,
-                from: row.from,
-                to: row.to,
-            });
+            self.elements[at] = with_height(row, height);
         }
     }
 }
@@ -287,6 +293,30 @@ fn has_above_key(keys: &[FormatKey]) -> bool
 {
     for key in keys {
         if is_above_key(key.key) {
+            return true;
+        }
+    }
+    false
+}
+
+/// Whether a row of the formats has a key under which nothing counts for the widths of columns.
+fn has_free(format: &FormatRows) -> bool
+    ensures { result ≡ false → AllFormatsCount (all_rows format.now.format) }
+{
+    for row in 0..format.all_rows() {
+        if has_free_key(format.row_of_all(row)) {
+            return true;
+        }
+    }
+    false
+}
+
+/// Whether one of these keys is such.
+fn has_free_key(keys: &[FormatKey]) -> bool
+    ensures { result ≡ list_any (λ k. k.has_no_width) keys.now }
+{
+    for key in keys {
+        if key.has_no_width {
             return true;
         }
     }

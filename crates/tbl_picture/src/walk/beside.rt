@@ -83,7 +83,7 @@ pub(super) fn row_below(rows: &TableRows, element: usize) -> Beside
     let mut at = element;
     while at < rows.count() {
         match rows.element(at) {
-            Lent::Row(_, _, _, _, _) => return Beside::Row(at),
+            Lent::Row(_, _, _, _) => return Beside::Row(at),
             Lent::Rule(_) => return Beside::Nothing,
             Lent::Command(_, _) => at += 1,
         }
@@ -103,7 +103,7 @@ pub(super) fn rules_of(rows: &TableRows, beside: Beside) -> RuleRows
     match beside {
         Beside::Nothing => RuleRows { first: 0, count: 0 },
         Beside::Row(element) => match rows.element(element) {
-            Lent::Row(keys, rules, _, _, _) => RuleRows {
+            Lent::Row(keys, rules, _, _) => RuleRows {
                 first: keys.saturating_sub(rules),
                 count: rules,
             },
@@ -229,7 +229,7 @@ pub(super) fn shown_at_edge(
     match beside {
         Beside::Nothing => 0,
         Beside::Row(element) => match rows.element(element) {
-            Lent::Row(keys, _, _, _, _) => {
+            Lent::Row(keys, _, _, _) => {
                 let row = format.row_of_all(keys);
                 match cell_behind(row, at) {
                     Some(cell) => {
@@ -310,7 +310,7 @@ fn shown_behind(
     match beside {
         Beside::Nothing => 0,
         Beside::Row(element) => match rows.element(element) {
-            Lent::Row(keys, _, height, entries, _) => {
+            Lent::Row(keys, _, height, entries) => {
                 let row = format.row_of_all(keys);
                 let cell = cell_behind(row, column + 1).unwrap_or(0);
                 if cell == 0 {

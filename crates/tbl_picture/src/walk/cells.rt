@@ -41,8 +41,10 @@ pub(super) fn end_given(count: usize, glyphs: u32, to: u32) -> u32
 }
 
 impl Walk {
-    ghost use Rattle.tbl_picture.specs.Walks.{AtColumn, BeforeLine, InLine, LiesInColumns};
+    ghost use Rattle.tbl_lines.specs.RowsLeft.{one_less};
+    ghost use Rattle.tbl_picture.specs.Walks.{AtColumn, BeforeLine, InLine, IsNear, LiesInColumns};
     ghost use Rattle.tbl_picture.specs.Walks.{RowSteps, at_word, lent_entries, lent_row, passed};
+    ghost use Rattle.tbl_picture.specs.Walks.{reached_by};
 
     /// A line begins.
     pub(super) fn begin_line(
@@ -62,23 +64,48 @@ impl Walk {
         self.count = count_given(escapes, row, self.places.as_slice(), self.line);
         self.behind.clear();
         self.place = 0;
-        self.width = 0;
         self.next = next_column(row.bars.has_any, 0);
         pieces.add(Piece::LineFront);
     }
 
+    /// A text is given that begins at a column of the page, or where the line is reached, and has
+    /// so many. Where nothing is given any more, the place stays.
+    pub(super) fn reach(&mut self, at: usize, width: usize)
+        requires { IsNear self.old.count self.old.place }
+        ensures place { self.new ≡ record self.old {
+          place = reached_by self.old.count self.old.place at width;
+        } }
+        ensures near { IsNear (one_less self.old.count)
+            (reached_by self.old.count self.old.place at width) }
+    {
+        if self.count > 0 {
+            self.place = self.place.max(at as u128) + width as u128;
+        }
+    }
+
     /// A column is given: a text that begins at a column of the page and has so many, and its block
     /// goes on at a place.
-    pub(super) fn pass(&mut self, row: &RowLent<'_>, block: BlockPlace, place: usize, width: usize)
+    pub(super) fn pass(&mut self, row: &RowLent<'_>, block: BlockPlace, at: usize, width: usize)
+        requires free { length self.old.behind < self.old.room }
+        requires near { IsNear self.old.count self.old.place }
+        ensures value { self.new ≡ passed row.now.bars.has_any block
+            (reached_by self.old.count self.old.place at width) self.old }
+        ensures near { IsNear (one_less self.old.count)
+            (reached_by self.old.count self.old.place at width) }
+    {
+        self.reach(at, width);
+        self.skip(row, block);
+    }
+
+    /// A column is given of which nothing stands on the line, and its block goes on at a place.
+    pub(super) fn skip(&mut self, row: &RowLent<'_>, block: BlockPlace)
         requires { length self.old.behind < self.old.room }
-        ensures { self.new ≡ passed row.now.bars.has_any block (place + width) self.old }
+        ensures { self.new ≡ passed row.now.bars.has_any block self.old.place self.old }
     {
         self.behind.push_reserved(block);
         if self.count > 0 {
             self.count -= 1;
         }
-        self.place = place;
-        self.width = width;
         self.next = next_column(row.bars.has_any, self.behind.len());
     }
 
@@ -86,7 +113,7 @@ impl Walk {
     pub(super) fn gap_to(&self, at: usize) -> usize
         ensures { result ≡ at - self.now.place }
     {
-        at.saturating_sub(self.place).saturating_sub(self.width)
+        (at as u128).saturating_sub(self.place) as usize
     }
 
     /// The column at which the walk stands, which has a field in it.
@@ -205,7 +232,7 @@ impl Walk {
             → RowSteps frame (lent_row row.now) self.old self.new pieces pieces }
     {
         let place = self.places[self.behind.len()];
-        self.pass(row, place, self.place, self.width);
+        self.skip(row, place);
     }
 
     /// A text.
@@ -284,7 +311,7 @@ impl Walk {
             → RowSteps frame (lent_row row.now) self.old self.new pieces.old pieces.new }
     {
         if self.line != 0 {
-            return self.pass(row, held.place, self.place, self.width);
+            return self.skip(row, held.place);
         }
         let at = held.begins_at();
         give(pieces, self.count, Piece::Blanks(self.gap_to(at)));
@@ -319,8 +346,8 @@ impl Walk {
                 give(pieces, self.count, Piece::Blanks(word.leading() as usize));
                 self.next = Next::AtWord(word, word.begun_width(), behind);
             }
-            Some((BlockPart::EmptyLine, behind)) => self.pass(row, behind, self.place, self.width),
-            None => self.pass(row, BlockPlace::AtEnd, self.place, self.width),
+            Some((BlockPart::EmptyLine, behind)) => self.skip(row, behind),
+            None => self.skip(row, BlockPlace::AtEnd),
         }
     }
 }

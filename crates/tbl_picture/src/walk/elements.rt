@@ -72,7 +72,7 @@ impl Walk {
                 self.step_at_rule(pieces, rows, format, sign, false);
                 true
             }
-            Lent::Row(keys, rules, _, entries, _) => {
+            Lent::Row(keys, rules, _, entries) => {
                 let row = RowNext {
                     keys,
                     rules,
@@ -189,7 +189,7 @@ impl Walk {
     {
         let _ = rows.count();
         match rows.element(self.element) {
-            Lent::Row(keys, _, height, entries, _) => {
+            Lent::Row(keys, _, height, entries) => {
                 let row_keys = format.row_of_all(keys);
                 let row = RowLent {
                     bars: self.bars,

@@ -115,9 +115,13 @@ pub(super) fn next_column(has_bars: bool, column: usize) -> Next
 
 impl Walk {
     ghost use Rattle.tbl_lines.specs.PictureLines.{bars_at, crossed_at};
-    ghost use Rattle.tbl_picture.specs.Walks.{FrontStands, InFront, RowSteps, front_passed};
+    ghost use Rattle.tbl_lines.specs.RowsLeft.{one_less};
+    ghost use Rattle.tbl_picture.specs.Walks.{FrontStands, InFront, IsNear, RowSteps};
+    ghost use Rattle.tbl_picture.specs.Walks.{front_passed, reached_by};
 
     /// What stands in front of a column, or behind the last.
+    // It is called for each cell of a picture with bars.
+    #[inline(always)]
     pub(super) fn give_front(&mut self, pieces: &mut PieceQueue, row: &RowLent<'_>, at: usize)
         requires lies { LiesInColumns row.now }
         requires next { self.old.next ≡ AtFront at }
@@ -127,7 +131,7 @@ impl Walk {
             → RowSteps frame (lent_row row.now) self.old self.new pieces.old pieces.new }
     {
         match front_at(row, at) {
-            Front::Nothing => self.pass_front(row, at, self.place, self.width),
+            Front::Nothing => self.skip_front(row, at),
             Front::Bars(place, bars) => self.give_bars(pieces, row, at, place, bars),
             Front::Ruled(from, sign, place, bars, end) => {
                 self.give_ruled_front(pieces, row, at, from, sign, place, bars, end);
@@ -143,6 +147,8 @@ impl Walk {
     }
 
     /// So many bars.
+    // It is called for each cell of a picture with bars.
+    #[inline(always)]
     fn give_bars(
         &mut self,
         pieces: &mut PieceQueue,
@@ -227,21 +233,36 @@ impl Walk {
 
     /// What stands in front of a column is given: it begins at a column of the page and has so
     /// many.
+    // It is called for each cell of a picture with bars.
+    #[inline(always)]
     fn pass_front(&mut self, row: &RowLent<'_>, at: usize, place: usize, width: usize)
+        requires lies { LiesInColumns row.now }
+        requires near { IsNear self.old.count self.old.place }
+        ensures value { self.new ≡ front_passed (lent_row row.now) at
+            (reached_by self.old.count self.old.place place width) self.old }
+        ensures near { IsNear (one_less self.old.count)
+            (reached_by self.old.count self.old.place place width) }
+    {
+        self.reach(place, width);
+        self.skip_front(row, at);
+    }
+
+    /// Nothing stands in front of a column.
+    fn skip_front(&mut self, row: &RowLent<'_>, at: usize)
         requires { LiesInColumns row.now }
-        ensures { self.new ≡ front_passed (lent_row row.now) at (place + width) self.old }
+        ensures { self.new ≡ front_passed (lent_row row.now) at self.old.place self.old }
     {
         if self.count > 0 {
             self.count -= 1;
         }
-        self.place = place;
-        self.width = width;
         let is_field = self.behind.len() < self.places.len();
         self.next = next_behind(is_field, at < row.cells().max(1), at);
     }
 }
 
 /// What comes next behind what stands in front of a column.
+// It is called for each cell of a picture with bars.
+#[inline(always)]
 fn next_behind(is_field: bool, is_inner: bool, at: usize) -> Next
     requires { is_inner ≡ true → at < 2 ^ 64 - 1 }
     ensures { (rule : RuleBegun) → next_by result rule ≡ next_behind is_field is_inner at }

@@ -203,8 +203,7 @@ impl Walk {
         pieces.add(Piece::Repeated(byte, front));
         pieces.add(Piece::Repeated(CROSSING, crossed));
         pieces.add(Piece::Repeated(byte, rest));
-        self.place = from + front + crossed + rest;
-        self.width = 0;
+        self.place = (from + front + crossed + rest) as u128;
     }
 
     /// So many bytes from a place on.
@@ -222,8 +221,7 @@ impl Walk {
         }
         pieces.add(Piece::Blanks(self.gap_to(at)));
         pieces.add(Piece::Repeated(byte, count));
-        self.place = at + count;
-        self.width = 0;
+        self.place = (at + count) as u128;
     }
 
     /// A rule from a place up to another, if there is one.

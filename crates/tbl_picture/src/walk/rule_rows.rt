@@ -101,8 +101,7 @@ impl Walk {
         let right = self.met_at_edge(rows, format, below, rules, rows.columns().len());
         pieces.add(Piece::LineFront);
         pieces.add(Piece::Repeated(CROSSING, left as usize));
-        self.place = left as usize;
-        self.width = 0;
+        self.place = left as u128;
         self.rule = RuleBegun {
             line: RuleLine::Whole(sign, is_last),
             column: 0,
@@ -171,8 +170,7 @@ impl Walk {
     {
         pieces.add(Piece::LineFront);
         pieces.add(Piece::Repeated(BAR, rule.left as usize));
-        self.place = rule.left as usize;
-        self.width = 0;
+        self.place = rule.left as u128;
         self.rule = rule;
         self.next = Next::AtRule;
     }
@@ -228,7 +226,7 @@ impl Walk {
         if left > 0 {
             self.rule = rule_row_behind(format, rows.columns(), rule, row, left);
             self.next = Next::AtRuleRow;
-        } else if let Lent::Row(keys, _, _, entries, _) = rows.element(self.element) {
+        } else if let Lent::Row(keys, _, _, entries) = rows.element(self.element) {
             self.begin_row(format.row_of_all(keys), entries);
         }
     }

@@ -9,13 +9,13 @@ ghost use Rattle.tbl_table.specs.Reading.{output_or_read};
 ghost use Rattle.tbl_table.specs.Steps.{behind_line};
 ghost use Rattle.tbl_table.specs.Reading.{told_at_end};
 ghost use Rattle.tbl_table.specs.Steps.{given_within, is_front, width_met};
-ghost use Rattle.tbl_table.specs.Table.{bad, closed, ended_in, laid_out, output_in, rows};
-ghost use Rattle.tbl_table.specs.Table.{picture_of, width_in};
+ghost use Rattle.tbl_table.specs.Table.{bad, closed, cut_told, ended_in, laid_out, output_in};
+ghost use Rattle.tbl_table.specs.Table.{picture_of, rows, width_in};
 
 use super::Table;
 use crate::begun::Begun;
 use crate::laying::{indent, lay_out, set_places};
-use crate::table_steps::{end_block, refuse};
+use crate::table_steps::{end_block, refuse, tell_cut};
 use roff_num::Limit;
 use tbl_data::phase::Phase;
 use tbl_layout::bars::Bars;
@@ -134,12 +134,14 @@ impl Table {
         ensures answer { result ≡ width_met self.old.limits.width
             (width_in self.old.reading.table.phase line_length self.old.reading.table) }
         ensures told { result ≡ None → self.new.told
-            ≡ (ended_in self.old.reading.table.phase number self.old.reading.table).notes }
+            ≡ (ended_in self.old.reading.table.phase number line_length
+            self.old.reading.table).notes }
         ensures cut { is_some result ≡ true → self.new.told ≡ self.old.reading.table.notes }
         ensures to_come { self.new.to_come ≡ given_within result (with_newline has_newline
-            (output_or_read (output_in (ended_in self.old.reading.table.phase number
+            (output_or_read (output_in (ended_in self.old.reading.table.phase number line_length
             self.old.reading.table).phase line_length (ended_in self.old.reading.table.phase
-            number self.old.reading.table)) self.old.reading.read ++ self.old.reading.line)) }
+            number line_length self.old.reading.table)) self.old.reading.read
+            ++ self.old.reading.line)) }
         ensures limits { self.new.limits ≡ self.old.limits }
     {
         match self.phase {
@@ -151,7 +153,7 @@ impl Table {
                 self.give_unended(number, has_newline);
                 None
             }
-            Phase::InData => self.give_picture(line_length, has_newline),
+            Phase::InData => self.give_picture(number, line_length, has_newline),
             Phase::Bad => {
                 self.give_bad(has_newline);
                 None
@@ -186,13 +188,15 @@ impl Table {
     }
 
     /// The same, where it may have a picture. Its rows are laid out: no line follows.
-    fn give_picture(&mut self, line_length: u32, has_newline: bool) -> Option<Limit>
+    fn give_picture(&mut self, number: u32, line_length: u32, has_newline: bool) -> Option<Limit>
         requires phase { self.old.reading.table.phase ≡ InData }
         requires pending { self.old.reading.table.pending ≡ None }
         requires begun { self.old.reading.table.begun ≡ None }
         ensures answer { result ≡ width_met self.old.limits.width
             (laid_out line_length self.old.reading.table).width }
-        ensures told { self.new.told ≡ self.old.reading.table.notes }
+        ensures told { result ≡ None → self.new.told ≡ self.old.reading.table.notes
+            ++ cut_told number line_length self.old.reading.table }
+        ensures cut { is_some result ≡ true → self.new.told ≡ self.old.reading.table.notes }
         ensures to_come { self.new.to_come ≡ given_within result (with_newline has_newline
             (picture_of line_length self.old.reading.table ++ self.old.reading.line)) }
         ensures limits { self.new.limits ≡ self.old.limits }
@@ -203,12 +207,20 @@ impl Table {
         let laid = lay_out(&mut self.kept, bars, options.expanded, settled, line_length);
         self.phase = Phase::Bad;
         self.begun = Begun::Nothing;
-        self.kept.notes.tell();
         if laid.width > self.limits.width as usize {
+            self.kept.notes.tell();
             self.giving.give_nothing();
             return Some(Limit::Width);
         }
         set_places(&mut self.kept, bars, laid.more);
+        tell_cut(
+            &mut self.giving,
+            &mut self.kept,
+            &self.text,
+            number,
+            bars,
+            laid.width,
+        );
         self.giving.give_picture(
             &self.text,
             &self.kept.rows,

@@ -7,18 +7,17 @@ ghost use Rattle.tbl_format.specs.Cells.{AreCells};
 ghost use Rattle.tbl_format.specs.Format.{FormatRow, columns_of};
 ghost use Rattle.tbl_format.specs.RowsServed.{all_rows};
 ghost use Rattle.tbl_layout.specs.Entries.{Element};
-ghost use Rattle.tbl_layout.specs.LayoutLaws.{StandInOrder};
 ghost use Rattle.tbl_lines.specs.CellsLeft.{Left, behind_line, bars_at_end};
-ghost use Rattle.tbl_lines.specs.LinesLeft.{Beside, OfRow, OfRules, overs, row_line};
-ghost use Rattle.tbl_lines.specs.LinesLeft.{Over, over_at, rule_line_left, sign_at};
+ghost use Rattle.tbl_lines.specs.LinesLeft.{Beside, OfRow, OfRules, overs, row_cut, row_line};
+ghost use Rattle.tbl_lines.specs.LinesLeft.{Over, over_at, rule_cut, rule_line_left, sign_at};
 ghost use Rattle.tbl_lines.specs.PictureLeft.{through_rule};
 ghost use Rattle.tbl_lines.specs.PictureLines.{RuleLine, Sheet};
 ghost use Rattle.tbl_lines.specs.RulePlaces.{HasPlaces, HavePlaces};
 ghost use Rattle.tbl_tall.specs.Bands.{BandFits, GoThrough, HasRoom as BandHasRoom, ShowBars};
 ghost use Rattle.tbl_tall.specs.Bands.{keys_in, kept_band, line_given};
-ghost use Rattle.tbl_line_cells.specs.KeptCells.{AllLeft, IsLeft};
-ghost use Rattle.tbl_line_cells.specs.LinesDrawn.{Draws};
-ghost use Rattle.tbl_tall.specs.RowsPassed.{AreKept, IsKept, passed};
+ghost use Rattle.tbl_line_cells.specs.KeptCells.{AllLeft, AreKept, IsLeft};
+ghost use Rattle.tbl_line_cells.specs.LinesDrawn.{CutOn, Draws};
+ghost use Rattle.tbl_tall.specs.RowsPassed.{IsKept, passed};
 ghost use Rattle.tbl_line_cells.specs.declared.cells.CellLeft.{CellLeft as OneCell};
 
 use super::TallRow;
@@ -32,7 +31,8 @@ use tbl_line_cells::cells::CellLeft;
 use tbl_options::options::Boxing;
 
 impl TallRow {
-    ghost use Rattle.tbl_tall.specs.TallRows.{CanLayRow, CanLayRule, Comes, LineIsNext};
+    ghost use Rattle.tbl_tall.specs.LinesNext.{CanLayRow, CanLayRule};
+    ghost use Rattle.tbl_tall.specs.TallRows.{Comes, LineIsNext};
     ghost use Rattle.tbl_tall.specs.TallRows.{RowEnded, RowStands, RuleComes, RuleIsNext};
     ghost use Rattle.tbl_tall.specs.TallRows.{SignIs, below_rule};
     ghost use Rattle.tbl_tall.specs.BandLaws.{HasLinePlaces, NextPlaces};
@@ -91,22 +91,36 @@ impl TallRow {
     /// The next line of rules in front of the row: one over the whole picture, or of rule keys.
     pub fn lay_rule(
         &mut self,
+        escapes: &mut OpenEscapes,
+        bytes: &[u8],
         format: &FormatRows,
         columns: &[Column],
         bars: Bars,
         whole: Option<RuleSign>,
         width: usize,
     )
-        requires next { CanLayRule (all_rows format.now.format) self.old bars width columns.now
-            whole }
-        ensures draws { (bytes : List ℕ) (heights : List ℕ) (cells : List Left) (above : Beside)
+        requires next { CanLayRule bytes.now (all_rows format.now.format) (record {
+          bars = bars;
+          width = width;
+          columns = columns.now;
+        }) self.old whole }
+        ensures draws { (heights : List ℕ) (cells : List Left) (above : Beside)
             (elements rest : List Element) (line : RuleLine)
             → let s : Sheet = record { bars = bars; width = width; columns = columns.now } in
             HavePlaces (all_rows format.now.format) s → NextPlaces s elements
-            → Comes bytes (all_rows format.now.format) s self.old heights cells above elements
+            → Comes bytes.now (all_rows format.now.format) s self.old heights cells above elements
             → RuleComes elements line rest → SignIs whole line
-            → Draws bytes (record bars { has_any = true }) width self.new.line
+            → Draws bytes.now (record bars { has_any = true }) width self.new.line
             (rule_line_left s line cells above (below_rule s line cells rest)) }
+        ensures cut { (heights : List ℕ) (cells : List Left) (above : Beside)
+            (elements rest : List Element) (line : RuleLine)
+            → let s : Sheet = record { bars = bars; width = width; columns = columns.now } in
+            HavePlaces (all_rows format.now.format) s → NextPlaces s elements
+            → Comes bytes.now (all_rows format.now.format) s self.old heights cells above elements
+            → RuleComes elements line rest → SignIs whole line
+            → CutOn (length columns.now) self.new.line
+            (rule_cut s line cells above (below_rule s line cells rest)) }
+        ensures escapes { escapes.new.room ≡ escapes.old.room }
         ensures few { length self.new.line.entries ≤ length columns.now }
         ensures comes { (bytes : List ℕ) (s : Sheet) (heights : List ℕ) (cells : List Left)
             (above : Beside) (elements : List Element)
@@ -120,6 +134,8 @@ impl TallRow {
         let count = columns.len();
         fill_signs(&mut self.line.signs, &self.band, format, whole, count);
         self.line.lay_rule(
+            escapes,
+            bytes,
             self.cells.as_slice(),
             self.band.counts.as_slice(),
             columns,
@@ -129,23 +145,40 @@ impl TallRow {
     }
 
     /// The next line of the row.
-    pub fn lay_row(&mut self, columns: &[Column], boxing: Boxing, width: usize)
-        requires next { CanLayRow self.old boxing width columns.now }
-        ensures draws { (bytes : List ℕ) (s : Sheet) (format : FormatRow) (cells : List Left)
-            (lines : ℕ) → s.columns ≡ columns.now → s.bars.boxing ≡ boxing → s.width ≡ width
-            → HasPlaces s.bars.front s.columns format
-            → StandInOrder s.bars s.width s.columns
-            → RowStands bytes s self.old format cells lines
-            → Draws bytes s.bars width self.new.line
+    pub fn lay_row(
+        &mut self,
+        escapes: &mut OpenEscapes,
+        bytes: &[u8],
+        columns: &[Column],
+        bars: Bars,
+        width: usize,
+    )
+        requires next { CanLayRow bytes.now (record {
+          bars = bars;
+          width = width;
+          columns = columns.now;
+        }) self.old }
+        ensures draws { (format : FormatRow) (cells : List Left) (lines : ℕ)
+            → let s : Sheet = record { bars = bars; width = width; columns = columns.now } in
+            RowStands bytes.now s self.old format cells lines
+            → Draws bytes.now bars width self.new.line
             (row_line s (bars_at_end (length s.columns) format) cells) }
+        ensures cut { (format : FormatRow) (cells : List Left) (lines : ℕ)
+            → let s : Sheet = record { bars = bars; width = width; columns = columns.now } in
+            RowStands bytes.now s self.old format cells lines
+            → CutOn (length columns.now) self.new.line
+            (row_cut s (bars_at_end (length s.columns) format) cells) }
+        ensures escapes { escapes.new.room ≡ escapes.old.room }
         ensures few { length self.new.line.entries ≤ length columns.now }
         ensures same { self.new ≡ record self.old { line = self.new.line } }
     {
         self.line.lay_row(
+            escapes,
+            bytes,
             self.cells.as_slice(),
             self.last_bars,
             columns,
-            boxing,
+            bars,
             width,
         );
     }

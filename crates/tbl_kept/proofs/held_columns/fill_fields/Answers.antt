@@ -42,7 +42,8 @@ fill_field-entry-requires-clause-order c =
     let cell = c.cell_behind-cell.result in
     (cell-within (length c.args.filling.asked.now) c.loop-at.from keys c.loop-at.at (length c.args.entries.now) c.loop-at.invariant.left
     (omega (arith, c.loop-at-test.true, c.loop-at.invariant.many)) cell
-    (is-first keys c.loop-at.at c.loop-at.from cell (c.cell_behind-cell.ensures.key 0) c.cell_behind-cell.ensures.from c.cell_behind-cell.ensures.end)).order
+    (is-first keys c.loop-at.at c.loop-at.from cell (c.cell_behind-cell.ensures.key 0) c.cell_behind-cell.ensures.from
+    c.cell_behind-cell.ensures.end c.cell_behind-cell.ensures.width)).order
 
 pub fill_field-entry-requires-clause-within : goal.fill_field-entry-requires-clause-within
 fill_field-entry-requires-clause-within c =
@@ -50,7 +51,8 @@ fill_field-entry-requires-clause-within c =
     let cell = c.cell_behind-cell.result in
     (cell-within (length c.args.filling.asked.now) c.loop-at.from keys c.loop-at.at (length c.args.entries.now) c.loop-at.invariant.left
     (omega (arith, c.loop-at-test.true, c.loop-at.invariant.many)) cell
-    (is-first keys c.loop-at.at c.loop-at.from cell (c.cell_behind-cell.ensures.key 0) c.cell_behind-cell.ensures.from c.cell_behind-cell.ensures.end)).within
+    (is-first keys c.loop-at.at c.loop-at.from cell (c.cell_behind-cell.ensures.key 0) c.cell_behind-cell.ensures.from
+    c.cell_behind-cell.ensures.end c.cell_behind-cell.ensures.width)).within
 
 pub loop-at-preserved : goal.loop-at-preserved
 loop-at-preserved c =
@@ -68,7 +70,8 @@ loop-at-preserved c =
     let i = c.loop-at.invariant in
     let some : at < length entries = omega (arith, c.loop-at-test.true, i.many) in
     let more : at < count = omega (arith, some, i.many) in
-    let is = is-first keys at from cell (c.cell_behind-cell.ensures.key 0) c.cell_behind-cell.ensures.from c.cell_behind-cell.ensures.end in
+    let is = is-first keys at from cell (c.cell_behind-cell.ensures.key 0) c.cell_behind-cell.ensures.from
+    c.cell_behind-cell.ensures.end c.cell_behind-cell.ensures.width in
     let left : CellsLeft (length columns) from (drop at keys) (count - at) =
     subst (λ (n : ℕ). CellsLeft n from (drop at keys) (count - at)) (sym (i.same ∙ c.requires.columns)) i.left in
     let behind : List Entry → List Entry = laid_from bytes filling.bars filling.line_length asked cell.end (drop (at + 1) keys) in

@@ -24,7 +24,8 @@ fit_field-requires-clause-order c =
     let cell = c.cell_behind-cell.result in
     (cell-within (length c.args.columns.now) c.loop-at.from keys c.loop-at.at (length keys) c.loop-at.invariant.left
     (omega (arith, c.loop-at-test.true, c.min-at-end.ensures)) cell
-    (is-first keys c.loop-at.at c.loop-at.from cell (c.cell_behind-cell.ensures.key 0) c.cell_behind-cell.ensures.from c.cell_behind-cell.ensures.end)).order
+    (is-first keys c.loop-at.at c.loop-at.from cell (c.cell_behind-cell.ensures.key 0) c.cell_behind-cell.ensures.from
+    c.cell_behind-cell.ensures.end c.cell_behind-cell.ensures.width)).order
 
 pub fit_field-requires-clause-within : goal.fit_field-requires-clause-within
 fit_field-requires-clause-within c =
@@ -32,7 +33,8 @@ fit_field-requires-clause-within c =
     let cell = c.cell_behind-cell.result in
     let within = cell-within (length c.args.columns.now) c.loop-at.from keys c.loop-at.at (length keys) c.loop-at.invariant.left
     (omega (arith, c.loop-at-test.true, c.min-at-end.ensures)) cell
-    (is-first keys c.loop-at.at c.loop-at.from cell (c.cell_behind-cell.ensures.key 0) c.cell_behind-cell.ensures.from c.cell_behind-cell.ensures.end) in
+    (is-first keys c.loop-at.at c.loop-at.from cell (c.cell_behind-cell.ensures.key 0) c.cell_behind-cell.ensures.from
+    c.cell_behind-cell.ensures.end c.cell_behind-cell.ensures.width) in
     omega (arith, within.within, c.loop-at.invariant.same)
 
 pub loop-at-preserved : goal.loop-at-preserved
@@ -46,7 +48,8 @@ loop-at-preserved c =
     let i = c.loop-at.invariant in
     let some : at < length entries = omega (arith, c.loop-at-test.true, c.min-at-end.ensures) in
     let more : at < length keys = omega (arith, c.loop-at-test.true, c.min-at-end.ensures) in
-    let is = is-first keys at from cell (c.cell_behind-cell.ensures.key 0) c.cell_behind-cell.ensures.from c.cell_behind-cell.ensures.end in
+    let is = is-first keys at from cell (c.cell_behind-cell.ensures.key 0) c.cell_behind-cell.ensures.from
+    c.cell_behind-cell.ensures.end c.cell_behind-cell.ensures.width in
     record {
       done = next-fitted c.args.bars c.args.asked.now from keys at cell entries columns c.fit_field.new.columns some more is c.fit_field.ensures ∙ i.done;
       left = cells-behind (length c.args.columns.now) from keys at (length keys) i.left more cell is;

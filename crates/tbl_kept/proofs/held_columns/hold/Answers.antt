@@ -28,14 +28,16 @@ hold_field-requires-clause-order c =
     let keys = c.args.keys.now in
     let cell = c.cell_behind-cell.result in
     (cell-within (length c.args.columns.now) c.loop-at.from keys c.loop-at.at (length c.args.entries.now) c.loop-at.invariant.left c.loop-at-test.true cell
-    (is-first keys c.loop-at.at c.loop-at.from cell (c.cell_behind-cell.ensures.key 0) c.cell_behind-cell.ensures.from c.cell_behind-cell.ensures.end)).order
+    (is-first keys c.loop-at.at c.loop-at.from cell (c.cell_behind-cell.ensures.key 0) c.cell_behind-cell.ensures.from
+    c.cell_behind-cell.ensures.end c.cell_behind-cell.ensures.width)).order
 
 pub hold_field-requires-clause-within : goal.hold_field-requires-clause-within
 hold_field-requires-clause-within c =
     let keys = c.args.keys.now in
     let cell = c.cell_behind-cell.result in
     let within = cell-within (length c.args.columns.now) c.loop-at.from keys c.loop-at.at (length c.args.entries.now) c.loop-at.invariant.left c.loop-at-test.true cell
-    (is-first keys c.loop-at.at c.loop-at.from cell (c.cell_behind-cell.ensures.key 0) c.cell_behind-cell.ensures.from c.cell_behind-cell.ensures.end) in
+    (is-first keys c.loop-at.at c.loop-at.from cell (c.cell_behind-cell.ensures.key 0) c.cell_behind-cell.ensures.from
+    c.cell_behind-cell.ensures.end c.cell_behind-cell.ensures.width) in
     omega (arith, within.within, c.loop-at.invariant.same)
 
 pub loop-at-preserved : goal.loop-at-preserved
@@ -48,7 +50,8 @@ loop-at-preserved c =
     let cell = c.cell_behind-cell.result in
     let i = c.loop-at.invariant in
     let some : at < length entries = omega (arith, c.loop-at-test.true) in
-    let is = is-first keys at from cell (c.cell_behind-cell.ensures.key 0) c.cell_behind-cell.ensures.from c.cell_behind-cell.ensures.end in
+    let is = is-first keys at from cell (c.cell_behind-cell.ensures.key 0) c.cell_behind-cell.ensures.from
+    c.cell_behind-cell.ensures.end c.cell_behind-cell.ensures.width in
     let left = subst (λ (n : ℕ). CellsLeft n from (drop at keys) (length entries - at)) (sym i.same) i.left in
     record {
       done = next-held stands_of from keys at cell (get_or entries at no_entry) (drop (at + 1) entries) columns c.hold_field.new.columns is

@@ -1,9 +1,20 @@
-use Rattle.std.proofs.Common.{arith}
-use Rattle.tbl_line_cells.proofs.LaidShown.{ends-itself, laid-shown}
+use Rattle.std.proofs.Common.{◌<◌, sym, ◌∙◌, arith}
+use Rattle.tbl_line_cells.proofs.LaidShown.{ends-itself, laid-shown, lead-stays, nothing-shown}
 use Rattle.tbl_line_cells.proofs.laid_cells.laid.Goals as goal
 
-pub returns-in_default : goal.returns-in_default
-returns-in_default c = λ bytes l is.
+pub returns-else-runs_on : goal.returns-else-runs_on
+returns-else-runs_on c = λ bytes l is.
     let cell = c.args.cell in
+    let stays = sym (c.runs_on.ensures bytes l is) ∙ c.if-runs_on.false in
     laid-shown bytes cell c.args.column c.args.end is.laid l c.text_at-in_default.result is (omega (arith, c.if-cell-gt0.false))
-    (ends-itself cell.entry.kind c.in_default.not-Ruled) c.requires.narrow (c.text_at-in_default.ensures bytes l c.args.end is)
+    (ends-itself cell.entry.kind c.in_default.not-Ruled) c.requires.narrow stays (c.text_at-in_default.ensures bytes l c.args.end is stays)
+
+pub returns-then-runs_on : goal.returns-then-runs_on
+returns-then-runs_on c = λ bytes l is.
+    c.running.ensures bytes l c.args.end is (sym (c.runs_on.ensures bytes l is) ∙ c.if-runs_on.true)
+
+pub returns-then-cell-gt0 : goal.returns-then-cell-gt0
+returns-then-cell-gt0 c = λ bytes l is.
+    let more : 0 < l.lead = omega (arith, c.if-cell-gt0.true, is.lead) in
+    nothing-shown bytes l c.args.column c.args.cell.key.key c.args.end c.text_at.result more c.requires.narrow
+    (c.text_at.ensures bytes l c.args.end is (lead-stays l c.args.column more))

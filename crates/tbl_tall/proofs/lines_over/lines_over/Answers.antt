@@ -31,7 +31,7 @@ loop-at-preserved c =
                 let here = rules_between inside c.loop-at.rules w.in-Row.rule_rows + w.in-Row.height in
                 let lines : m.lines ≡ c.loop-at.lines + here = omega (arith, w.lines-is, w.rules_between.ensures, w.from.ensures) in
                 moved P m.row m.own m.lines m.rules at w.in-Some.below (c.loop-at.lines + here) 0 w.row-is w.own-is lines w.rules-is
-                (over-row bytes formats inside elements at (element_at elements c.loop-at.row) _ w.in-Row.rule_rows w.in-Row.height _ _
+                (over-row bytes formats inside elements at (element_at elements c.loop-at.row) _ w.in-Row.rule_rows w.in-Row.height _
                 c.loop-at.own c.loop-at.rules c.loop-at.lines w.in-Some.below total is
                 (sym (w.cell_under.ensures.value bytes) ∙ w.in-Some.is) (i.total bytes))
             | in-Rule w ↦
@@ -79,7 +79,7 @@ loop-at-preserved c =
               some,
               w.stays_few.ensures,
               between-few inside c.loop-at.rules w.in-Row.rule_rows,
-              rules-few elements at _ w.in-Row.rule_rows w.in-Row.height _ _ is w.rules_stay_few.ensures,
+              rules-few elements at _ w.in-Row.rule_rows w.in-Row.height _ is w.rules_stay_few.ensures,
             )
         | in-Rule w ↦ omega (arith, w.lines-is, i.most)
         | in-Command w ↦ omega (arith, w.lines-is, i.most)

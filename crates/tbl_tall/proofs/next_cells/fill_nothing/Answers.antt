@@ -1,4 +1,4 @@
-use Rattle.std.proofs.Common.{◌≡◌, ◌<◌, ◌≤◌, ◌+◌, ◌-◌, ℕ, [], ◌∷◌, List, length, subst, ◌∙◌, arith, length-append}
+use Rattle.std.proofs.Common.{◌≡◌, false, ◌<◌, ◌≤◌, ◌+◌, ◌-◌, ℕ, [], ◌∷◌, List, length, subst, ◌∙◌, arith, length-append}
 use Rattle.tbl_format.specs.declared.format.FormatKey.{FormatKey}
 use Rattle.tbl_layout.specs.KeptEntries.{no_entry}
 use Rattle.tbl_lines.specs.CellsLeft.{Left, keys_behind, nothing_left}
@@ -19,7 +19,7 @@ loop-cell-preserved c =
     let f : ℕ → FormatKey → Left = λ n k. nothing_left k in
     let few : cell < 0 + (columns - 0) = omega (arith, c.loop-cell-test.true) in
     let same : columns - 0 ≡ columns = omega arith in
-    let made : CellLeft = record { key = c.key_of.result; entry = no_entry; lead = 0; place = AtEnd; rows = 0 } in
+    let made : CellLeft = record { key = c.key_of.result; entry = no_entry; lead = 0; place = AtEnd; rows = 0; is_used = false; stop = 0; is_cut = false } in
     let is : IsKeyAt c.key_of.result cell keys
     = subst (λ (n : ℕ). IsKeyAt c.key_of.result cell (keys_behind n 0 0)) same (c.key_of.ensures columns few) in
     record {

@@ -1,5 +1,5 @@
 use Rattle.std.proofs.Common.{[], ◌∷◌, ◌++◌, replicate, arith, length-append, ◌∙◌}
-use Rattle.tbl_tall.proofs.Repeats.{repeat-next}
+use Rattle.tbl_line_cells.proofs.Repeats.{repeat-next}
 use Rattle.tbl_tall.proofs.shown_bars.push_owner.Goals as goal
 
 pub loop-at-preserved : goal.loop-at-preserved

@@ -1,4 +1,4 @@
-use Rattle.std.proofs.Common.{◌≡◌, ℕ, Bool, ◌+◌, ◌≤◌, ◌++◌, List, [], drop, ap, refl, sym, subst, ◌∙◌, arith, append-nil, append_assoc, if◌then◌else◌}
+use Rattle.std.proofs.Common.{◌≡◌, ℕ, Bool, ◌+◌, ◌≤◌, ◌++◌, List, [], drop, ap, refl, sym, subst, ◌∙◌, arith, append-nil, append_assoc}
 use Rattle.tbl_format.specs.RowsServed.{all_rows}
 use Rattle.tbl_kept.specs.TableText.{block_of}
 use Rattle.tbl_giving.specs.Giving.{KeptGiving, lines_left_by, with_newline}

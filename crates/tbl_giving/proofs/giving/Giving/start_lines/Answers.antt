@@ -10,6 +10,7 @@ use Rattle.tbl_giving.specs.Giving.{CanGoBy, KeptGiving, lines_left_by}
 use Rattle.tbl_picture.specs.Walks.{KeptWalk}
 use Rattle.tbl_giving.proofs.RowsLying.{laid-lie}
 use Rattle.tbl_giving.proofs.RowsRuled.{rules-placed}
+use Rattle.tbl_giving.proofs.RowsWide.{rows-wide}
 use Rattle.tbl_giving.proofs.giving.Giving.start_lines.Goals as goal
 
 pub start-requires-clause-lie : goal.start-requires-clause-lie
@@ -29,10 +30,11 @@ returns c =
     let walk = c.start-2.new.self in
     let off : c.may_go_on-self-inside.result ≡ false = c.if-self.false in
     let s : Sheet = record { bars = c.args.bars; width = c.args.width; columns = r.columns } in
-    let none = c.may_go_on-self-inside.ensures off block in
+    let none = c.may_go_on-self-inside.ensures.above off block in
+    let wide = rows-wide block formats (c.may_go_on-self-inside.ensures.widths off) (length r.columns) r.elements laid.laid.elements in
     let plain : IsPlainTable r = plain-laid block formats c.args.bars.boxing.is_inside r laid.laid none in
     let same : table_lines s (elements_of block formats r.elements) ≡ picture_lines s (elements_of block formats r.elements) =
-    plain-kept block formats s r.elements none laid.laid.elements laid.some laid.places in
+    plain-kept block formats s r.elements none wide laid.laid.elements laid.some laid.places in
     let few : length r.columns ≤ a.walk.room = rw (← view) at laid.few in
     record {
       starts = record {

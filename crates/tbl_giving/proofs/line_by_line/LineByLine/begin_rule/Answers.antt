@@ -8,12 +8,13 @@ use Rattle.tbl_giving.specs.declared.line_by_line.Place.TheVariants.{OnRule}
 use Rattle.tbl_lines.proofs.RowColumns.{length-places}
 use Rattle.tbl_giving.proofs.LayNext.{can-lay-rule, next-placed}
 use Rattle.tbl_giving.proofs.LinesLaid.{LaysRule, before_line, rule-begins}
+use Rattle.tbl_tall.specs.LinesNext.{CanLayRule}
 use Rattle.tbl_giving.proofs.line_by_line.LineByLine.begin_rule.Goals as goal
 
 pub lay_rule-requires : goal.lay_rule-requires
 lay_rule-requires c =
     let g = kept_by c.self.inside in
-    let bytes = c.args._bytes.now in
+    let bytes = c.args.bytes.now in
     let formats = all_rows c.args.format.now.format in
     let rows = c.args.rows.now in
     let at = c.args.at in
@@ -22,12 +23,15 @@ lay_rule-requires c =
     subst (λ (k : KeptLineByLine). HasCome bytes formats rows (record k { place = OnRule at }) room) (sym c.self.view_is) c.requires.come in
     let told : SignTold c.args.whole bytes formats rows (record g { place = OnRule at }) =
     subst (λ (k : KeptLineByLine). SignTold c.args.whole bytes formats rows (record k { place = OnRule at })) (sym c.self.view_is) c.requires.sign in
-    record { next = rw c.columns.ensures (can-lay-rule bytes formats rows g room at c.args.whole come told) }
+    record {
+      next = subst (λ (cs : List Column). CanLayRule bytes formats (record { bars = g.bars; width = g.width; columns = cs }) g.tall c.args.whole)
+          (sym c.columns.ensures) (can-lay-rule bytes formats rows g room at c.args.whole come told);
+    }
 
 pub begin_line_laid-requires : goal.begin_line_laid-requires
 begin_line_laid-requires c =
     let g = kept_by c.self.inside in
-    let bytes = c.args._bytes.now in
+    let bytes = c.args.bytes.now in
     let formats = all_rows c.args.format.now.format in
     let rows = c.args.rows.now in
     let at = c.args.at in
@@ -39,15 +43,15 @@ begin_line_laid-requires c =
     let x = coming bytes formats rows (record g { place = OnRule at }) in
     let s = come.stands in
     let few = rw c.columns.ensures at c.lay_rule.ensures.few in
-    let lays : LaysRule formats g.bars g.width c.args.whole g.tall c.lay_rule.new.self c.columns.result.now = c.lay_rule.ensures.draws in
-    let draws = (subst (λ (cs : List Column). LaysRule formats g.bars g.width c.args.whole g.tall c.lay_rule.new.self cs) c.columns.ensures lays) bytes x.heights x.cells x.above x.elements s.rest s.line come.drawn.places (next-placed bytes formats rows g room at come) s.front.comes s.rule (told s.line s.rest s.rule) in
+    let lays : LaysRule bytes formats g.bars g.width c.args.whole g.tall c.lay_rule.new.self c.columns.result.now = c.lay_rule.ensures.draws in
+    let draws = (subst (λ (cs : List Column). LaysRule bytes formats g.bars g.width c.args.whole g.tall c.lay_rule.new.self cs) c.columns.ensures lays) x.heights x.cells x.above x.elements s.rest s.line come.drawn.places (next-placed bytes formats rows g room at come) s.front.comes s.rule (told s.line s.rest s.rule) in
     let line = c.lay_rule.new.self.line in
     omega (arith, few, length-places bytes line.entries line.places draws.places, come.drawn.few, ap (λ (ps : List BlockPlace). length ps) c.places.ensures)
 
-pub returns : goal.returns
-returns c =
+pub returns-clause-begins : goal.returns-clause-begins
+returns-clause-begins c =
     let g = kept_by c.self.inside in
-    let bytes = c.args._bytes.now in
+    let bytes = c.args.bytes.now in
     let formats = all_rows c.args.format.now.format in
     let rows = c.args.rows.now in
     let at = c.args.at in
@@ -59,8 +63,8 @@ returns c =
     let x = coming bytes formats rows (record g { place = OnRule at }) in
     let s = come.stands in
     let few = rw c.columns.ensures at c.lay_rule.ensures.few in
-    let lays : LaysRule formats g.bars g.width c.args.whole g.tall c.lay_rule.new.self c.columns.result.now = c.lay_rule.ensures.draws in
-    let draws = (subst (λ (cs : List Column). LaysRule formats g.bars g.width c.args.whole g.tall c.lay_rule.new.self cs) c.columns.ensures lays) bytes x.heights x.cells x.above x.elements s.rest s.line come.drawn.places (next-placed bytes formats rows g w.room at come) s.front.comes s.rule (told s.line s.rest s.rule) in
+    let lays : LaysRule bytes formats g.bars g.width c.args.whole g.tall c.lay_rule.new.self c.columns.result.now = c.lay_rule.ensures.draws in
+    let draws = (subst (λ (cs : List Column). LaysRule bytes formats g.bars g.width c.args.whole g.tall c.lay_rule.new.self cs) c.columns.ensures lays) x.heights x.cells x.above x.elements s.rest s.line come.drawn.places (next-placed bytes formats rows g w.room at come) s.front.comes s.rule (told s.line s.rest s.rule) in
     let tall = c.lay_rule.new.self in
     let comes = c.lay_rule.ensures.comes bytes (sheet_by rows g) x.heights x.cells x.above x.elements s.front.comes in
     let walk : c.begin_line_laid.new.self ≡ before_line tall.line w =

@@ -115,7 +115,7 @@ returns-then-pass_line-clause-gone c =
     let more : 0 < mid.lines_left = ltb-true 0 mid.lines_left (sym c.if-pass_line.ensures.more) in
     let part = line-another bytes formats rows g w.room come mid stands more c.if-pass_line.ensures.come c.if-pass_line.ensures.room in
     subst (λ (k : KeptLineByLine). LineGone bytes formats rows k c.begin_row_line.new.self w c.begin_row_line.new.walk) c.self.view_is
-    (another-gone bytes formats rows g place w mid part c.if-pass_line.ensures.room c.begin_row_line.new.self c.begin_row_line.new.walk c.begin_row_line.ensures)
+    (another-gone bytes formats rows g place w mid part c.if-pass_line.ensures.room c.begin_row_line.new.self c.begin_row_line.new.walk c.begin_row_line.ensures.begins)
 
 pub returns-clause-gone : goal.returns-clause-gone
 returns-clause-gone c =
@@ -138,8 +138,8 @@ returns-clause-gone c =
     let ended : tall.come ≡ g.tall.come + 1 = omega (arith, c.hand_on.ensures.come, c.if-pass_line.ensures.come) in
     let part = line-last bytes formats rows g w.room come mid tall stands (omega (arith, few))
     (λ one. c.if-pass_line.ensures.ended s come.stands.format x.cells refl places one)
-    (λ cells above keys rules height is_tall entries at ended_row.
-    c.hand_on.ensures.comes bytes s cells above keys rules height is_tall entries refl refl come.drawn.places come.drawn.laid at ended_row)
+    (λ cells above keys rules height entries at ended_row.
+    c.hand_on.ensures.comes bytes s cells above keys rules height entries refl refl come.drawn.places come.drawn.laid at ended_row)
     ended same in
     let one : suc g.element ≡ g.element + 1 = omega arith in
     subst (λ (n : ℕ). LineGone bytes formats rows c.args.self.now (record g { element = n; place = AtElement; tall = tall }) w w) one

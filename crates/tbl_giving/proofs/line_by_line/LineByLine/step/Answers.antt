@@ -46,7 +46,7 @@ returns-in-AtTop-clause-step c = λ frame.
     let place : g.place ≡ AtTop = ap (λ (k : KeptLineByLine). k.place) (sym c.self.view_is) ∙ c.in-AtTop.is in
     let next = top-at bytes formats rows g w place c.requires.can in
     rule-step bytes formats rows g w frame AtTop OfTop (Some (frame_sign g.bars.boxing.bars)) place refl next c.begin_rule.new.self c.begin_rule.new.walk c.args.pieces.now
-    c.begin_rule.ensures
+    c.begin_rule.ensures.begins
 
 pub returns-in-AtEnd-clause-step : goal.returns-in-AtEnd-clause-step
 returns-in-AtEnd-clause-step c = λ frame.

@@ -1,4 +1,4 @@
-use Rattle.std.proofs.Common.{◌≡◌, ◌+◌, ℕ, true, List, [], ◌∷◌, ◌++◌, drop, length, suc, Some, refl, sym, ap, subst, ◌∙◌, arith}
+use Rattle.std.proofs.Common.{◌≡◌, ◌+◌, ℕ, List, [], ◌∷◌, ◌++◌, drop, length, suc, Some, refl, sym, ap, subst, ◌∙◌, arith}
 use Rattle.tbl_format.specs.RowsServed.{all_rows}
 use Rattle.tbl_kept.specs.Rows.{KeptElement}
 use Rattle.tbl_giving.specs.LinesWalked.{CanGo, KeptLineByLine, LineSteps, kept_by}
@@ -65,7 +65,8 @@ returns-in-Rule c = record {
       let next = element-at bytes formats rows g w c.requires.place c.requires.can sign (drop (suc g.element) rows.elements)
       (subst (λ (k : KeptLineByLine). drop k.element rows.elements ≡ RuleKept sign ∷ drop (suc k.element) rows.elements) c.self.view_is c.in-Rule.ensures) in
       rule-step bytes formats rows g w frame AtElement OfElement (Some sign) c.requires.place refl next c.begin_rule.new.self c.begin_rule.new.walk c.args.pieces.now
-      c.begin_rule.ensures;
+      c.begin_rule.ensures.begins;
+  escapes = c.begin_rule.ensures.escapes;
 }
 
 pub returns-in-Command : goal.returns-in-Command
@@ -96,4 +97,5 @@ returns-in-Command c = record {
       subst (λ (k : KeptLineByLine). LineSteps bytes frame formats rows k (record g { element = g.element + 1 }) w w before after) c.self.view_is
       (subst (λ (p : Place). LineSteps bytes frame formats rows (record g { place = p }) (record g { element = g.element + 1; place = p }) w w before after) (sym place)
       (subst (λ (n : ℕ). LineSteps bytes frame formats rows (record g { place = AtElement }) (record g { element = n; place = AtElement }) w w before after) one steps));
+  escapes = refl;
 }

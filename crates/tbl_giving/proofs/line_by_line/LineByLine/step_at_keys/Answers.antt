@@ -42,8 +42,8 @@ begin_row_line-requires c =
     let still = line-at bytes formats rows g w c.requires.place c.requires.can c.requires.row c.requires.none has in
     record { come = still.come }
 
-pub returns-then-has_rule : goal.returns-then-has_rule
-returns-then-has_rule c = λ frame pieces.
+pub returns-then-has_rule-clause-step : goal.returns-then-has_rule-clause-step
+returns-then-has_rule-clause-step c = λ frame pieces.
     let g = c.args.self.now in
     let bytes = c.args.bytes.now in
     let formats = all_rows c.args.format.now.format in
@@ -52,10 +52,10 @@ returns-then-has_rule c = λ frame pieces.
     let has : nat_lt g.tall.band.at (g.tall.band.wholes + g.tall.band.count) ≡ true =
     ap (λ (k : KeptLineByLine). nat_lt k.tall.band.at (k.tall.band.wholes + k.tall.band.count)) (sym c.self.view_is) ∙ sym c.if-has_rule.ensures in
     let next = keys-at bytes formats rows g w c.requires.place c.requires.can c.requires.row c.requires.none has in
-    rule-step bytes formats rows g w frame AtElement InFront None c.requires.place refl next c.begin_rule.new.self c.begin_rule.new.walk pieces c.begin_rule.ensures
+    rule-step bytes formats rows g w frame AtElement InFront None c.requires.place refl next c.begin_rule.new.self c.begin_rule.new.walk pieces c.begin_rule.ensures.begins
 
-pub returns : goal.returns
-returns c = λ frame pieces.
+pub returns-clause-step : goal.returns-clause-step
+returns-clause-step c = λ frame pieces.
     let g = c.args.self.now in
     let bytes = c.args.bytes.now in
     let formats = all_rows c.args.format.now.format in
@@ -64,4 +64,4 @@ returns c = λ frame pieces.
     let has : nat_lt g.tall.band.at (g.tall.band.wholes + g.tall.band.count) ≡ false =
     ap (λ (k : KeptLineByLine). nat_lt k.tall.band.at (k.tall.band.wholes + k.tall.band.count)) (sym c.self.view_is) ∙ sym c.if-has_rule.ensures in
     let still = line-at bytes formats rows g w c.requires.place c.requires.can c.requires.row c.requires.none has in
-    row-step bytes formats rows g w frame c.requires.place still c.begin_row_line.new.self c.begin_row_line.new.walk pieces c.begin_row_line.ensures
+    row-step bytes formats rows g w frame c.requires.place still c.begin_row_line.new.self c.begin_row_line.new.walk pieces c.begin_row_line.ensures.begins

@@ -1,4 +1,4 @@
-use Rattle.std.proofs.Common.{◌≡◌, true, false, Some, refl, ap, ◌∙◌, arith, ◌==◌}
+use Rattle.std.proofs.Common.{◌≡◌, false, Some, refl, ap, ◌∙◌, arith, ◌==◌}
 use Rattle.tbl_format.specs.RowsServed.{all_rows}
 use Rattle.tbl_giving.specs.LinesWalked.{KeptLineByLine}
 use Rattle.tbl_giving.specs.declared.line_by_line.Place.TheVariants.{AtElement}
@@ -48,8 +48,8 @@ step_at_keys-requires-clause-none c =
     c.wholes_left-wholes.ensures ∙ ap (λ (k : KeptLineByLine). wholes_left k.tall.band) c.self.view_is in
     omega (arith, wholes, c.if-wholes-gt0.false)
 
-pub returns-then-wholes-gt0 : goal.returns-then-wholes-gt0
-returns-then-wholes-gt0 c = λ frame pieces.
+pub returns-then-wholes-gt0-clause-step : goal.returns-then-wholes-gt0-clause-step
+returns-then-wholes-gt0-clause-step c = λ frame pieces.
     let g = c.args.self.now in
     let bytes = c.args.bytes.now in
     let formats = all_rows c.args.format.now.format in
@@ -60,4 +60,4 @@ returns-then-wholes-gt0 c = λ frame pieces.
     let some : (wholes_left g.tall.band == 0) ≡ false =
     ne_eqb (wholes_left g.tall.band) 0 (λ is. omega (arith, is, c.if-wholes-gt0.true, wholes)) in
     let next = whole-at bytes formats rows g w c.requires.place c.requires.can c.requires.row some in
-    rule-step bytes formats rows g w frame AtElement InFront (Some Single) c.requires.place refl next c.begin_rule.new.self c.begin_rule.new.walk pieces c.begin_rule.ensures
+    rule-step bytes formats rows g w frame AtElement InFront (Some Single) c.requires.place refl next c.begin_rule.new.self c.begin_rule.new.walk pieces c.begin_rule.ensures.begins

@@ -39,8 +39,8 @@ begin_rule-requires-clause-sign c =
     let next = end-at bytes formats rows g w c.requires.place c.requires.can framed c.requires.none in
     subst (λ (r : RuleSign). SignTold (Some r) bytes formats rows (record g { place = OnRule OfEnd })) (sym sign) next.told
 
-pub returns-then-bars-eq0 : goal.returns-then-bars-eq0
-returns-then-bars-eq0 c = λ frame pieces.
+pub returns-then-bars-eq0-clause-step : goal.returns-then-bars-eq0-clause-step
+returns-then-bars-eq0-clause-step c = λ frame pieces.
     let g = c.args.self.now in
     let bytes = c.args.bytes.now in
     let formats = all_rows c.args.format.now.format in
@@ -55,8 +55,8 @@ returns-then-bars-eq0 c = λ frame pieces.
       pieces_same = refl;
     }
 
-pub returns : goal.returns
-returns c = λ frame pieces.
+pub returns-clause-step : goal.returns-clause-step
+returns-clause-step c = λ frame pieces.
     let g = c.args.self.now in
     let bytes = c.args.bytes.now in
     let formats = all_rows c.args.format.now.format in
@@ -69,4 +69,4 @@ returns c = λ frame pieces.
     c.frame_sign-sign.ensures ∙ ap (λ (k : KeptLineByLine). frame_sign k.bars.boxing.bars) view in
     let next = end-at bytes formats rows g w c.requires.place c.requires.can framed c.requires.none in
     rule-step bytes formats rows g w frame AtElement OfEnd (Some (frame_sign g.bars.boxing.bars)) c.requires.place refl next c.begin_rule.new.self c.begin_rule.new.walk pieces
-    c.begin_rule.ensures
+    c.begin_rule.ensures.begins

@@ -1,53 +1,13 @@
-use Rattle.std.proofs.Common.{◌<◌, length, sym, ◌∙◌, arith}
-use Rattle.tbl_format.specs.RowsServed.{all_rows, row_at}
-use Rattle.tbl_kept.specs.Rows.{Command}
-use Rattle.tbl_kept.proofs.RowPlaces.{LieBetween-at, kept-at, length-kept, row-served}
+use Rattle.tbl_format.specs.RowsServed.{all_rows}
+use Rattle.tbl_kept.specs.RowsLaying.{element_at}
+use Rattle.tbl_kept.proofs.KeptCells.{below-has}
 use Rattle.tbl_kept.proofs.rows.TableRows.cell_below.Goals as goal
 
-pub row_of_all-requires : goal.row_of_all-requires
-row_of_all-requires c =
-    let a = c.self.inside in
-    let at = rw (← c.self.view_is) at c.requires.at in
-    let more : c.args.at < length a.elements.items = omega (arith, at, length-kept a.entries.items a.elements.items) in
-    row-served a.entries.items (all_rows c.args.format.now.format) a.elements.items c.args.at c.index.result.now c.in-Row.row more (sym c.index.ensures ∙ c.in-Row.is)
-    (rw (← c.self.view_is) at c.requires.within)
-
-pub row_of_all-requires-in-Row-index : goal.row_of_all-requires-in-Row-index
-row_of_all-requires-in-Row-index c =
-    let a = c.self.inside in
-    let at = rw (← c.self.view_is) at c.requires.below in
-    let more : c.args.below < length a.elements.items = omega (arith, at, length-kept a.entries.items a.elements.items) in
-    row-served a.entries.items (all_rows c.args.format.now.format) a.elements.items c.args.below c.index-in-Row.result.now c.in-Row-index.other more (sym c.index-in-Row.ensures ∙ c.in-Row-index.is)
-    (rw (← c.self.view_is) at c.requires.within)
-
-pub slice_bounds-cell_below-count : goal.slice_bounds-cell_below-count
-slice_bounds-cell_below-count c =
-    let a = c.self.inside in
-    let at = rw (← c.self.view_is) at c.requires.below in
-    let more : c.args.below < length a.elements.items = omega (arith, at, length-kept a.entries.items a.elements.items) in
-    let row = LieBetween-at 0 a.row_start c.args.below a.elements.items c.in-Row-index.other c.index-in-Row.result.now more (sym c.index-in-Row.ensures ∙ c.in-Row-index.is) c.self.invariant.rows in
-    row.order
-
-pub slice_bounds-cell_below-start : goal.slice_bounds-cell_below-start
-slice_bounds-cell_below-start c = slice_bounds-cell_below-count c
-
-pub slice_bounds-cell_below-end : goal.slice_bounds-cell_below-end
-slice_bounds-cell_below-end c =
-    let a = c.self.inside in
-    let at = rw (← c.self.view_is) at c.requires.below in
-    let more : c.args.below < length a.elements.items = omega (arith, at, length-kept a.entries.items a.elements.items) in
-    let row = LieBetween-at 0 a.row_start c.args.below a.elements.items c.in-Row-index.other c.index-in-Row.result.now more (sym c.index-in-Row.ensures ∙ c.in-Row-index.is) c.self.invariant.rows in
-    omega (arith, row.last, c.self.invariant.start, c.as_slice.ensures.len, a.entries.ok.0)
-
-pub returns-in-Row-index : goal.returns-in-Row-index
-returns-in-Row-index c = λ bytes.
-    let a = c.self.inside in
-    let formats = all_rows c.args.format.now.format in
-    let first = rw (← c.self.view_is) at c.requires.at in
-    let more : c.args.at < length a.elements.items = omega (arith, first, length-kept a.entries.items a.elements.items) in
-    let second = rw (← c.self.view_is) at c.requires.below in
-    let behind : c.args.below < length a.elements.items = omega (arith, second, length-kept a.entries.items a.elements.items) in
-    let is = kept-at a.entries.items a.elements.items c.args.at c.index.result.now _ (Command 0 0) more (sym c.index.ensures ∙ c.in-Row.is) in
-    let other = kept-at a.entries.items a.elements.items c.args.below c.index-in-Row.result.now _ (Command 0 0) behind (sym c.index-in-Row.ensures ∙ c.in-Row-index.is) in
-    rw (← c.self.view_is, is, other)
-    (rw (c.as_slice.ensures.value, c.row_of_all.ensures.keys, c.row_of_all-in-Row-index.ensures.keys) at (c.cell_below.ensures bytes (row_at formats c.in-Row-index.other.keys).bars))
+pub returns-in-Some-cells_at : goal.returns-in-Some-cells_at
+returns-in-Some-cells_at c = λ bytes.
+    let elements = c.args.self.now.elements in
+    let first = c.in-Some.cells in
+    let second = c.in-Some-cells_at.other in
+    below-has (all_rows c.args.format.now.format) bytes c.args.cell (element_at elements c.args.at) (element_at elements c.args.below)
+    first.keys.now second.keys.now first.entries.now second.entries.now c.cell_below.result c.in-Some.ensures.row c.in-Some-cells_at.ensures.row
+    (c.cell_below.ensures bytes)

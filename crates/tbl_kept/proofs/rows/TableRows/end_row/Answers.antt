@@ -36,8 +36,7 @@ invariant_of-self c =
       no_above = c.self.invariant.no_above;
       columns_few = rw (with_items_is a.columns c.hold.new.columns (c.hold.auto.columns ∙ c.as_mut_slice.ensures.len))
           (omega (arith, c.self.invariant.columns_few, c.hold.auto.columns, c.as_mut_slice.ensures.len, a.columns.ok.0));
-      left_reserved = c.self.invariant.left_reserved;
-      left_above_reserved = c.self.invariant.left_above_reserved;
+      lefts_reserved = c.self.invariant.lefts_reserved;
     }
 
 pub returns : goal.returns

@@ -1,4 +1,4 @@
-use Rattle.std.proofs.Common.{◌≡◌, ◌<◌, ◌≤◌, ◌-◌, ◌++◌, false, length, take, drop, sym, ap, subst, ◌∙◌, arith}
+use Rattle.std.proofs.Common.{◌≡◌, ◌<◌, ◌≤◌, ◌-◌, ◌++◌, length, take, drop, sym, ap, subst, ◌∙◌, arith}
 use Rattle.std.specs.List.{slice_range}
 use Rattle.std.proofs.lemmas.List.{with_items_is}
 use Rattle.tbl_format.specs.RowsServed.{all_rows, row_at}
@@ -82,7 +82,8 @@ invariant_of-self c =
       elements_reserved = c.self.invariant.elements_reserved;
       columns_reserved = c.self.invariant.columns_reserved;
       start = rw (c.as_mut_slice.ensures.value, written) (omega (arith, c.self.invariant.start, whole));
-      rows = LieBetween-set r c.fill_fields-height.result false 0 a.row_start c.args.at a.elements.items c.index.result.now more is c.self.invariant.rows;
+      rows = rw c.with_height.ensures
+          (LieBetween-set r c.fill_fields-height.result 0 a.row_start c.args.at a.elements.items c.index.result.now more is c.self.invariant.rows);
       no_blocks = λ none. rw (c.as_mut_slice.ensures.value, written)
           (no_blocks-changed a.entries.items part r.from (r.to - r.from) (c.self.invariant.no_blocks none)
           (subst NoBlocks (sym (rw c.as_mut_slice.ensures.value at c.fill_fields-height.ensures.entries))
@@ -95,8 +96,7 @@ invariant_of-self c =
           (none_go_on-part a.entries.items r.from r.to (c.self.invariant.no_above none)))));
       columns_few = rw (with_items_is a.columns c.fill_fields-height.new.columns (c.fill_fields-height.auto.columns ∙ c.as_mut_slice-columns.ensures.len))
           (omega (arith, c.self.invariant.columns_few, c.fill_fields-height.auto.columns, c.as_mut_slice-columns.ensures.len, a.columns.ok.0));
-      left_reserved = c.self.invariant.left_reserved;
-      left_above_reserved = c.self.invariant.left_above_reserved;
+      lefts_reserved = c.self.invariant.lefts_reserved;
     }
 
 pub returns-in-Row-clause-value : goal.returns-in-Row-clause-value
@@ -117,7 +117,7 @@ returns-in-Row-clause-value c =
     let formats = all_rows c.args.format.now.format in
     let filling = c.args.filling in
     let columns = with_items_is a.columns c.fill_fields-height.new.columns (c.fill_fields-height.auto.columns ∙ c.as_mut_slice-columns.ensures.len) in
-    rw (← c.self.view_is, c.as_mut_slice.ensures.value, written, columns)
+    rw (← c.self.view_is, c.as_mut_slice.ensures.value, c.with_height.ensures, written, columns)
     (row-laid a.entries.items (take r.from a.entries.items ++ (part ++ drop (r.to - r.from) (drop r.from a.entries.items))) part a.elements.items a.row_start c.args.at r
     c.index.result.now a.columns.items c.fill_fields-height.new.columns a.entry_room a.element_room a.column_room c.fill_fields-height.result c.args.bytes.now formats
     filling.bars filling.line_length filling.asked.now more is

@@ -15,6 +15,5 @@ invariant_of-self c =
       no_blocks = c.self.invariant.no_blocks;
       no_above = c.self.invariant.no_above;
       columns_few = c.self.invariant.columns_few;
-      left_reserved = c.self.invariant.left_reserved;
-      left_above_reserved = c.self.invariant.left_above_reserved;
+      lefts_reserved = c.self.invariant.lefts_reserved;
     }

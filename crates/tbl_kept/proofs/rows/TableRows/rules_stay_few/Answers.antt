@@ -1,5 +1,5 @@
 use Rattle.std.proofs.Common.{◌<◌, length, sym, subst, ◌∙◌, arith}
-use Rattle.tbl_kept.specs.Rows.{Command, KeptElement, KeptRows}
+use Rattle.tbl_kept.specs.Rows.{Command, KeptRows}
 use Rattle.tbl_kept.specs.RowsLaying.{HasFewRules, element_at}
 use Rattle.tbl_kept.proofs.RowPlaces.{kept-at, length-kept}
 use Rattle.tbl_kept.proofs.rows.TableRows.rules_stay_few.Goals as goal

@@ -1,4 +1,4 @@
-use Rattle.std.proofs.Common.{ℕ, List, true, [], length, map, sym, subst, ap, ◌∙◌, arith}
+use Rattle.std.proofs.Common.{ℕ, List, [], length, map, sym, subst, ap, ◌∙◌, arith}
 use Rattle.std.specs.List.{AllByRecursion}
 use Rattle.std.proofs.lemmas.List.{with_items_is}
 use Rattle.tbl_format.specs.RowsServed.{all_rows}
@@ -13,19 +13,18 @@ use Rattle.tbl_kept.proofs.rows.TableRows.set_heights.Goals as goal
 pub set_heights-requires-clause-lie : goal.set_heights-requires-clause-lie
 set_heights-requires-clause-lie c =
     let a = c.self.inside in
-    rw (c.as_mut_slice.ensures.value, c.as_slice.ensures.value)
+    rw (c.as_mut_slice.ensures.value, c.as_slice-entries.ensures.value)
     (lies-in a.entries.items (all_rows c.args.format.now.format) 0 a.row_start a.elements.items c.self.invariant.start c.self.invariant.rows
     (rw (← c.self.view_is) at c.requires.within))
 
 pub set_heights-requires-clause-room : goal.set_heights-requires-clause-room
 set_heights-requires-clause-room c =
     let columns = rw (← c.self.view_is) at c.requires.columns in
-    omega (arith, columns, c.self.invariant.columns_few, c.self.invariant.left_reserved)
-
-pub set_heights-requires-clause-room_above : goal.set_heights-requires-clause-room_above
-set_heights-requires-clause-room_above c =
-    let columns = rw (← c.self.view_is) at c.requires.columns in
-    omega (arith, columns, c.self.invariant.columns_few, c.self.invariant.left_above_reserved)
+    let has = c.self.invariant.lefts_reserved in
+    record {
+      here = omega (arith, columns, c.self.invariant.columns_few, has.here);
+      above = omega (arith, columns, c.self.invariant.columns_few, has.above);
+    }
 
 pub invariant_of-self : goal.invariant_of-self
 invariant_of-self c =
@@ -41,8 +40,7 @@ invariant_of-self c =
       no_blocks = c.self.invariant.no_blocks;
       no_above = c.self.invariant.no_above;
       columns_few = c.self.invariant.columns_few;
-      left_reserved = c.set_heights.ensures.room a.column_room c.self.invariant.left_reserved c.self.invariant.left_above_reserved;
-      left_above_reserved = c.set_heights.ensures.room_above a.column_room c.self.invariant.left_reserved c.self.invariant.left_above_reserved;
+      lefts_reserved = c.set_heights.ensures.room a.column_room c.self.invariant.lefts_reserved;
     }
 
 pub returns-then-goes_on : goal.returns-then-goes_on
@@ -53,7 +51,7 @@ returns-then-goes_on c = λ bytes laid alone.
     let written = with_items_is a.elements c.set_heights.new.elements (c.set_heights.auto.elements ∙ c.as_mut_slice.ensures.len) in
     let kept = map (kept_in a.entries.items) a.elements.items in
     let here = subst (λ (n : ℕ). AllByRecursion (ElementLaid bytes formats n) kept) columns (rw (← c.self.view_is) at laid) in
-    let all = (rw (c.as_mut_slice.ensures.value, c.as_slice.ensures.value) at c.set_heights.ensures.raised) bytes here in
+    let all = (rw (c.as_mut_slice.ensures.value, c.as_slice-entries.ensures.value) at c.set_heights.ensures.raised) bytes here in
     rw (← c.self.view_is, written) (ap (λ (els : List KeptElement). record (kept_by a) { elements = els })
     (all ∙ ap (λ (n : ℕ). raised bytes formats c.args.is_inside n kept) (sym columns)))
 
@@ -65,5 +63,5 @@ returns-else-goes_on c = λ bytes laid alone.
     let none = none-above bytes formats (c.has_above.ensures (c.goes_on.ensures.keys c.if-goes_on.false)) kept
     (rows-none a.entries.items a.elements.items (c.self.invariant.no_above (c.goes_on.ensures.fields c.if-goes_on.false))) in
     rw (← c.self.view_is) (ap (λ (els : List KeptElement). record (kept_by a) { elements = els })
-    (sym (raised-alone bytes formats c.args.is_inside (length a.columns.items) kept true [] [] 0 none
+    (sym (raised-alone bytes formats c.args.is_inside (length a.columns.items) kept [] [] 0 none
     (rw (← c.self.view_is) at laid) (rw (← c.self.view_is) at alone))))

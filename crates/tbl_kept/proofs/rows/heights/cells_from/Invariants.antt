@@ -9,8 +9,8 @@ use Rattle.tbl_kept.proofs.rows.heights.cells_from.Given as goal
 
 abbrev pub invariant-loop-at : goal.invariant-loop-at
 invariant-loop-at l = record {
-  lie : AllByRecursion (LiesIn (length l.entries) (length (all_rows l.format.format))) (drop l.at l.elements);
+  lie : AllByRecursion (LiesIn (length l.fields.entries.now) (length (all_rows l.fields.format.now.format))) (drop l.at l.elements);
   rest : (bytes : List ℕ) (keys : List FormatKey) (cell : ℕ)
-      → ends_in_front_of keys (elements_of bytes (all_rows l.format.format) (map (kept_in l.entries) (drop l.first l.elements))) cell
-      ≡ ends_in_front_of keys (elements_of bytes (all_rows l.format.format) (map (kept_in l.entries) (drop l.at l.elements))) cell;
+      → ends_in_front_of keys (elements_of bytes (all_rows l.fields.format.now.format) (map (kept_in l.fields.entries.now) (drop l.first l.elements))) cell
+      ≡ ends_in_front_of keys (elements_of bytes (all_rows l.fields.format.now.format) (map (kept_in l.fields.entries.now) (drop l.at l.elements))) cell;
 }

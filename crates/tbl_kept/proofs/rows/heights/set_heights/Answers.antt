@@ -11,31 +11,26 @@ use Rattle.tbl_kept.proofs.HeightSteps.{each-behind}
 use Rattle.tbl_kept.proofs.rows.heights.set_heights.Goals as goal
 
 pub pass_element-pass-requires-clause-room : goal.pass_element-pass-requires-clause-room
-pass_element-pass-requires-clause-room c = c.loop-at.invariant.room (length c.args.format.now.format.asked) c.requires.room c.requires.room_above
-
-pub pass_element-pass-requires-clause-room_above : goal.pass_element-pass-requires-clause-room_above
-pass_element-pass-requires-clause-room_above c = c.loop-at.invariant.room_above (length c.args.format.now.format.asked) c.requires.room c.requires.room_above
+pass_element-pass-requires-clause-room c = c.loop-at.invariant.room (length c.args.fields.format.now.format.asked) c.requires.room
 
 pub loop-at-preserved : goal.loop-at-preserved
 loop-at-preserved c =
     let i = c.loop-at.invariant in
     let step = c.pass_element-pass.ensures in
     let at = c.loop-at.at in
-    let fields = c.args.entries.now in
+    let fields = c.args.fields.entries.now in
     record {
       rest = step.rest ∙ drop_more_same c.loop-at.elements c.args.elements.now at i.rest;
       many = step.many ∙ i.many;
-      inside = step.inside ∙ i.inside;
       cells = step.cells;
       rules = step.rules;
       raised = λ bytes laid.
-          let P : KeptElement → Type 0 = ElementLaid bytes (all_rows c.args.format.now.format) (length c.args.format.now.format.asked) in
-          (rw i.inside at (step.raised bytes
-          (subst (λ (es : List Element). AllByRecursion P (map (kept_in fields) es)) (sym i.rest) (each-behind P (kept_in fields) at c.args.elements.now laid))))
+          let P : KeptElement → Type 0 = ElementLaid bytes (all_rows c.args.fields.format.now.format) (length c.args.fields.format.now.format.asked) in
+          (step.raised bytes
+          (subst (λ (es : List Element). AllByRecursion P (map (kept_in fields) es)) (sym i.rest) (each-behind P (kept_in fields) at c.args.elements.now laid)))
           ∙ i.raised bytes laid;
       places = λ from to lie. step.places from to (i.places from to lie);
-      room = λ n own above. step.room n (i.room n own above) (i.room_above n own above);
-      room_above = λ n own above. step.room_above n (i.room n own above) (i.room_above n own above);
+      room = λ n had. step.room n (i.room n had);
     }
 
 pub returns-clause-raised : goal.returns-clause-raised
@@ -43,10 +38,10 @@ returns-clause-raised c = λ bytes laid.
     let i = c.loop-at.invariant in
     let elements = c.loop-at.elements in
     let at = c.loop-at.at in
-    let K : Element → KeptElement = kept_in c.args.entries.now in
+    let K : Element → KeptElement = kept_in c.args.fields.entries.now in
     let end : length elements ≤ at = search rules in
     let behind : List KeptElement → List KeptElement =
-    raised_behind bytes (all_rows c.args.format.now.format) c.args.is_inside (length c.args.format.now.format.asked) c.loop-at.pass.is_first c.loop-at.pass.above.now c.loop-at.left_above.items c.loop-at.pass.rules in
+    raised_behind bytes (all_rows c.args.fields.format.now.format) c.args.is_inside (length c.args.fields.format.now.format.asked) c.loop-at.pass.above.now c.loop-at.lefts.above.items c.loop-at.pass.rules in
     sym (ap (map K) (take_all at elements end))
     ∙ sym (append-nil (map K (take at elements)))
     ∙ ap (λ (es : List Element). map K (take at elements) ++ behind (map K es)) (sym (drop_all at elements end))

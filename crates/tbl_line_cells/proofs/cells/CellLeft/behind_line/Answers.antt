@@ -27,7 +27,8 @@ returns-in-Block-clause-left c = λ l is.
     measure c.behind_block_line-place.ensures.lines in
     let text_lines = subst (λ (t : List ℕ). lines_of b.measure (parts_at t next) ≡ drop 1 (lines_of b.measure (parts_at t place))) in_text lines in
     subst (λ (k : CellLeft). IsLeft c.args.bytes.now k (behind_line l)) (sym c.with-in-Block.ensures)
-    (behind-block c.args.bytes.now c.args.self l next is (omega (arith, c.if-self-gt0.false)) b c.in-Block.is within text_lines)
+    (behind-block c.args.bytes.now c.args.self l next is (omega (arith, c.if-self-gt0.false)) b c.in-Block.is within
+    c.behind_block_line-place.ensures.all text_lines)
 
 pub returns-in_default-clause-left : goal.returns-in_default-clause-left
 returns-in_default-clause-left c = λ l is.

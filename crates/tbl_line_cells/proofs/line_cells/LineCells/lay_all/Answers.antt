@@ -1,16 +1,20 @@
-use Rattle.std.proofs.Common.{ℕ, ◌+◌, ◌-◌, List, [], ◌∷◌, ◌++◌, drop, length, map, take, ap, ◌∙◌, arith}
+use Rattle.std.proofs.Common.{ℕ, ◌≤◌, ◌+◌, ◌-◌, List, [], ◌∷◌, ◌++◌, drop, length, take, sym, ap, subst, ◌∙◌, arith}
 use Rattle.std.specs.Prelude.{vec_capacity}
 use Rattle.std.proofs.lemmas.List.{length_push}
+use Rattle.tbl_format.specs.Cells.{AreCells}
+use Rattle.tbl_format.specs.Format.{columns_of}
+use Rattle.tbl_format.specs.declared.format.FormatKey.{FormatKey}
 use Rattle.tbl_layout.specs.Spans.{cells_of}
-use Rattle.tbl_lines.specs.LinesLeft.{Shown, bars_there, between, in_order, put, row_shown, shown, shown_cell}
-use Rattle.tbl_lines.specs.PictureLines.{Cell, line_of, with_fronts}
+use Rattle.tbl_lines.specs.LinesLeft.{bars_there, between, row_shown, shown}
+use Rattle.tbl_lines.specs.PictureLines.{Cell}
 use Rattle.tbl_line_cells.specs.LaidCells.{on_line}
-use Rattle.tbl_line_cells.specs.LinesDrawn.{if_any, kept_line, keys_of}
+use Rattle.tbl_line_cells.specs.LinesDrawn.{RunInOrder, kept_line, keys_of}
 use Rattle.tbl_line_cells.specs.declared.line_cells.LineCells.{LineCells}
 use Rattle.tbl_line_cells.proofs.CellsInColumns.{few-cells, no_cell}
-use Rattle.tbl_line_cells.proofs.RowDrawn.{row-text}
+use Rattle.tbl_line_cells.proofs.RowDrawn.{row-fronts-are, row-shown-is}
 use Rattle.tbl_line_cells.proofs.RowKept.{keeps-cell, keeps-cells, keeps-front, keeps-then, room-kept}
-use Rattle.tbl_line_cells.proofs.RowLaid.{last-left, row-whole}
+use Rattle.tbl_line_cells.proofs.RowLaid.{keys-left, last-left, row-whole}
+use Rattle.tbl_line_cells.proofs.RunOrder.{row-order}
 use Rattle.tbl_line_cells.proofs.line_cells.LineCells.lay_all.Goals as goal
 
 pub lay_cells-column-requires-clause-room : goal.lay_cells-column-requires-clause-room
@@ -55,7 +59,7 @@ returns-clause-so_far c = λ bytes bars lefts boxing_is all_left so_far.
     let right = c.edge_bars-right.result in
     let column = c.lay_cells-column.result in
     let one = last-left bytes n cells lefts no_cell all_left (omega (arith, c.requires.some)) in
-    let done = in_order [] (take n (row_shown boxing lefts all)) in
+    let done = take n (row_shown boxing lefts all) in
     let s = shown one.l column (column.start + column.width) in
     let first : List Cell = bars_there 0 left ∷ [] in
     let fronts : List Cell = first ++ between boxing lefts all in
@@ -66,14 +70,20 @@ returns-clause-so_far c = λ bytes bars lefts boxing_is all_left so_far.
     let row = c.lay_cells-column.ensures.so_far bytes lefts first all_left front in
     let cell = c.push_cell.ensures.so_far bytes one.l done fronts one.last row in
     record {
-      done = put s done;
+      done = done ++ s ∷ [];
       fronts = fronts ++ last ∷ [];
-      so_far = c.push_front-2.ensures.so_far bytes last (put s done) fronts c.bars_at-2.ensures.some shows cell;
-      text =
-          ap (λ (ss : List Shown). line_of 0 (with_fronts (if_any bars (fronts ++ last ∷ [])) (map shown_cell ss)))
-          (row-whole boxing bytes (kept_line c.args.self.now) fronts lefts all n one.l column (drop (length cells) all) one.are
-          c.lay_cells-column.ensures.last)
-          ∙ row-text bytes bars width columns boxing cells lefts c.args.last_bars left right no_cell boxing_is all_left c.requires.some
+      so_far = c.push_front-2.ensures.so_far bytes last (done ++ s ∷ []) fronts c.bars_at-2.ensures.some shows cell;
+      shown =
+          row-whole boxing bytes (kept_line c.args.self.now) fronts lefts all n one.l column (drop (length cells) all) one.are
+          c.lay_cells-column.ensures.last
+          ∙ row-shown-is bytes bars columns boxing cells lefts boxing_is all_left;
+      order = subst (RunInOrder (length columns) 0)
+          (sym (row-whole boxing bytes (kept_line c.args.self.now) fronts lefts all n one.l column (drop (length cells) all) one.are
+          c.lay_cells-column.ensures.last))
+          (row-order boxing (length columns) lefts all
+          (subst (AreCells 0) (sym (keys-left bytes cells lefts all_left)) c.requires.within.cells)
+          (subst (λ (ks : List FormatKey). columns_of ks ≤ length columns) (sym (keys-left bytes cells lefts all_left)) c.requires.within.short));
+      fronts_of = row-fronts-are bytes bars width columns boxing cells lefts c.args.last_bars left right no_cell boxing_is all_left c.requires.some
           c.edge_bars-left.ensures c.edge_bars-right.ensures;
     }
 

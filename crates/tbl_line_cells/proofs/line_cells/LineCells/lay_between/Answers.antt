@@ -1,8 +1,8 @@
-use Rattle.std.proofs.Common.{◌≡◌, ℕ, Option, ap, subst, ◌∙◌}
+use Rattle.std.proofs.Common.{◌≡◌, ℕ, [], ◌∷◌, ◌++◌, Option, ap, subst, ◌∙◌}
 use Rattle.tbl_format.specs.declared.format.FormatKey.{FormatKey}
 use Rattle.tbl_layout.specs.Widths.{inner_bars}
 use Rattle.tbl_layout.specs.declared.data_lines.RuleSign.{RuleSign}
-use Rattle.tbl_lines.specs.LinesLeft.{crossed_or_not, end_by, joined_here, put, shown}
+use Rattle.tbl_lines.specs.LinesLeft.{crossed_or_not, end_by, joined_here, shown}
 use Rattle.tbl_line_cells.specs.LaidCells.{on_line}
 use Rattle.tbl_line_cells.specs.LinesDrawn.{SoFar, kept_line}
 use Rattle.tbl_line_cells.proofs.line_cells.LineCells.lay_between.Goals as goal
@@ -23,7 +23,7 @@ returns-clause-so_far c = λ bytes l m done fronts is next so_far.
     let shows = c.front_between.ensures.shows
     ∙ ap (λ (s : Option RuleSign). on_line (crossed_or_not s c.inner_bars-bars.result column beside)) joined
     ∙ ap (λ (n : ℕ). on_line (crossed_or_not sign n column beside)) bars in
-    let cell = subst (λ (n : ℕ). SoFar bytes (kept_line c.push_cell.new.self) (put (shown l column n) done) fronts) end
+    let cell = subst (λ (n : ℕ). SoFar bytes (kept_line c.push_cell.new.self) (done ++ shown l column n ∷ []) fronts) end
     (c.push_cell.ensures.so_far bytes l done fronts is so_far) in
-    c.push_front.ensures.so_far bytes (crossed_or_not sign count column beside) (put (shown l column (end_by sign count column beside)) done) fronts
+    c.push_front.ensures.so_far bytes (crossed_or_not sign count column beside) (done ++ shown l column (end_by sign count column beside) ∷ []) fronts
     c.front_between.ensures.some shows cell

@@ -1,7 +1,7 @@
 use Rattle.std.proofs.Common.{rules, ◌≡◌, ℕ, suc, ◌+◌, ◌-◌, ◌<◌, List, [], ◌∷◌, ◌++◌, drop, length, take, sym, ap, subst, ◌∙◌, arith}
 use Rattle.tbl_layout.specs.Spans.{cells_of}
 use Rattle.tbl_layout.specs.declared.columns.Column.{Column}
-use Rattle.tbl_lines.specs.LinesLeft.{between, in_order, row_shown}
+use Rattle.tbl_lines.specs.LinesLeft.{between, row_shown}
 use Rattle.tbl_line_cells.specs.LinesDrawn.{SoFar, kept_line, keys_of}
 use Rattle.tbl_line_cells.proofs.CellsInColumns.{few-cells, first-column, next-column, no_cell}
 use Rattle.tbl_line_cells.proofs.RowLaid.{many-left, row-all, row-next, two-at}
@@ -71,7 +71,7 @@ loop-at-preserved c =
           let row = row_shown c.args.boxing lefts all in
           row-next c.args.boxing bytes (kept_line c.lay_between.new.self) fronts lefts all at (at + 1) one two.l two.m two.rest c.loop-at.column
           c.as_one-next.result (drop (suc (at + 1)) all) two.are both
-          (laid.so_far bytes two.l two.m (in_order [] (take at row)) (fronts ++ take at (between c.args.boxing lefts all)) two.first two.next
+          (laid.so_far bytes two.l two.m (take at row) (fronts ++ take at (between c.args.boxing lefts all)) two.first two.next
           (going.so_far bytes lefts fronts left so_far));
       count = omega (arith, laid.count, going.count);
       count_fronts = omega (arith, laid.count_fronts, going.count_fronts);
@@ -86,5 +86,5 @@ returns-clause-so_far c = λ bytes lefts fronts left so_far.
     let all = cells_of (keys_of cells) c.args.columns.now in
     let at : c.loop-at.at ≡ n = omega (arith, c.loop-at-test.false, c.loop-at.invariant.count, c.loop-at.auto.at-end) in
     row-all c.args.boxing bytes (kept_line c.loop-at.self) fronts lefts all n (omega (arith, many-left bytes cells lefts left))
-    (subst (λ (i : ℕ). SoFar bytes (kept_line c.loop-at.self) (in_order [] (take i (row_shown c.args.boxing lefts all)))
+    (subst (λ (i : ℕ). SoFar bytes (kept_line c.loop-at.self) (take i (row_shown c.args.boxing lefts all))
     (fronts ++ take i (between c.args.boxing lefts all))) at (c.loop-at.invariant.so_far bytes lefts fronts left so_far))

@@ -1,7 +1,7 @@
-use Rattle.std.proofs.Common.{◌≡◌, ℕ, suc, ◌+◌, ◌<◌, List, drop, get_or, length, refl, sym, ap, subst, ◌∙◌, arith}
+use Rattle.std.proofs.Common.{◌≡◌, ℕ, suc, ◌+◌, ◌<◌, List, ◌++◌, drop, get_or, length, refl, sym, ap, subst, ◌∙◌, arith}
 use Rattle.std.specs.Prelude.{Option, vec_capacity}
 use Rattle.tbl_layout.specs.declared.data_lines.RuleSign.{RuleSign}
-use Rattle.tbl_lines.specs.LinesLeft.{in_order, over_at, over_shown, overs}
+use Rattle.tbl_lines.specs.LinesLeft.{over_at, over_shown, overs}
 use Rattle.tbl_lines.specs.PictureLines.{Sheet}
 use Rattle.tbl_lines.specs.declared.fronts.Front.{Front}
 use Rattle.tbl_line_cells.specs.declared.laid_cells.LaidCell.{LaidCell}
@@ -54,10 +54,10 @@ loop-at-preserved c =
           (λ done fronts before.
           c.lay_front.ensures.so_far bytes lefts bars width line above below _ fronts there
           (subst (λ (n : ℕ). SoFar bytes (kept_line mid)
-          (in_order done (over_shown line at (over_at (overs 0 lefts columns) at) n (end_at a.to (drop at columns)))) fronts)
+          (done ++ over_shown line at (over_at (overs 0 lefts columns) at) n (end_at a.to (drop at columns))) fronts)
           c.rule_begin-begin.ensures.value
           (subst (λ (n : ℕ). SoFar bytes (kept_line mid)
-          (in_order done (over_shown line at (over_at (overs 0 lefts columns) at) c.rule_begin-begin.result n)) fronts)
+          (done ++ over_shown line at (over_at (overs 0 lefts columns) at) c.rule_begin-begin.result n) fronts)
           c.rule_end-end.ensures.value
           (c.lay_over.ensures.so_far bytes a.counts.now lefts bars line above below done fronts here before)))));
       capacity = ap (λ (x : LineCells). vec_capacity x.cells) c.lay_front.ensures.line ∙ c.lay_over.ensures.capacity ∙ i.capacity;

@@ -10,7 +10,7 @@ use Rattle.tbl_line_cells.proofs.line_cells.LineCells.lay_columns.Given as goal
 
 abbrev pub invariant-loop-at : goal.invariant-loop-at
 invariant-loop-at l = record {
-  line : l.self ≡ record l.fn.self { cells = l.self.cells; last_text = l.self.last_text; fronts = l.self.fronts };
+  line : l.self ≡ record l.fn.self { cells = l.self.cells; has_running = l.self.has_running; fronts = l.self.fronts };
   within : l.at ≤ length l.columns;
   few : length l.self.cells.items ≤ l.at;
   few_fronts : length l.self.fronts.items ≤ suc l.at;

@@ -1,9 +1,9 @@
-use Rattle.std.proofs.Common.{rules, ◌≡◌, ℕ, suc, ◌+◌, ◌-◌, true, false, List, drop, get_or, take, sym, ap, subst, ◌∙◌, arith}
+use Rattle.std.proofs.Common.{rules, ◌≡◌, ℕ, suc, ◌+◌, ◌-◌, true, false, List, [], ◌∷◌, ◌++◌, drop, get_or, take, sym, ap, subst, ◌∙◌, append-nil, arith}
 use Rattle.std.specs.Prelude.{nat_lt, Option}
 use Rattle.tbl_layout.specs.Spans.{as_one}
 use Rattle.tbl_layout.specs.declared.columns.Column.{Column}
 use Rattle.tbl_layout.specs.declared.data_lines.RuleSign.{RuleSign}
-use Rattle.tbl_lines.specs.LinesLeft.{Shown, if_drawn, in_order, put, shown}
+use Rattle.tbl_lines.specs.LinesLeft.{Shown, if_drawn, shown}
 use Rattle.tbl_line_cells.specs.LinesDrawn.{SoFar, keys_of, kept_line}
 use Rattle.tbl_line_cells.specs.RulesDrawn.{begin_from}
 use Rattle.tbl_line_cells.proofs.CellsOver.{begins-most, less-by, over-cell}
@@ -30,7 +30,7 @@ returns-then-not-goes_on-clause-so_far c = λ bytes counts lefts bars line above
     let met = over-cell bytes cells lefts columns a.cell a.at no_cell given.left c.requires.cover c.requires.column in
     let shows = shown-free bytes (get_or cells a.cell no_cell) lefts columns _ _ a.at met line a.from a.to none
     ∙ ap (λ (s : Option RuleSign). if_drawn s a.from a.to) (sym (given.drawn a.at c.requires.within)) in
-    subst (λ (ss : List Shown). SoFar bytes (kept_line c.push_ruled.new.self) (in_order done ss) fronts) (sym shows)
+    subst (λ (ss : List Shown). SoFar bytes (kept_line c.push_ruled.new.self) (done ++ ss) fronts) (sym shows)
     (c.push_ruled.ensures.so_far bytes done fronts so_far)
 
 pub returns-then-at-begin_of-clause-so_far : goal.returns-then-at-begin_of-clause-so_far
@@ -53,8 +53,8 @@ returns-then-at-begin_of-clause-so_far c = λ bytes counts lefts bars line above
     (slice-taken columns a.at c.begin_of-then-at-begin_of.result (omega (arith, ends, c.requires.column.to)))
     ∙ ap (λ (n : ℕ). as_one (take (n - a.at) (drop a.at columns))) ends
     ∙ ap (λ (n : ℕ). as_one (take (end - n) (drop n columns))) begins in
-    subst (λ (ss : List Shown). SoFar bytes (kept_line c.push_cell.new.self) (in_order done ss) fronts) (sym shows)
-    (subst (λ (x : Column). SoFar bytes (kept_line c.push_cell.new.self) (put (shown met.own x (x.start + x.width)) done) fronts) column_is
+    subst (λ (ss : List Shown). SoFar bytes (kept_line c.push_cell.new.self) (done ++ ss) fronts) (sym shows)
+    (subst (λ (x : Column). SoFar bytes (kept_line c.push_cell.new.self) (done ++ shown met.own x (x.start + x.width) ∷ []) fronts) column_is
     (c.push_cell.ensures.so_far bytes met.own done fronts met.left so_far))
 
 pub returns-else-at-begin_of-clause-so_far : goal.returns-else-at-begin_of-clause-so_far
@@ -67,4 +67,5 @@ returns-else-at-begin_of-clause-so_far c = λ bytes counts lefts bars line above
     let met = over-cell bytes cells lefts columns a.cell a.at no_cell given.left c.requires.cover c.requires.column in
     let more = less-by (begin_from 0 a.cell keys) a.at c.requires.column.from (λ is. c.if-at-begin_of.false (sym is ∙ sym c.begin_of.ensures)) in
     let shows = shown-further bytes (get_or cells a.cell no_cell) lefts columns _ _ a.at met line a.from a.to on more in
-    subst (λ (ss : List Shown). SoFar bytes (kept_line a.self.now) (in_order done ss) fronts) (sym shows) so_far
+    subst (λ (ss : List Shown). SoFar bytes (kept_line a.self.now) ss fronts) (sym (append-nil done) ∙ ap (λ (ss : List Shown). done ++ ss) (sym shows))
+    so_far

@@ -1,120 +1,128 @@
-use Rattle.std.proofs.Common.{◌≡◌, ℕ, ◌-◌, true, List, [], ◌∷◌, ◌++◌, drop, get_or, length, map, sym, ap, subst, ◌∙◌, arith, Vec, Global}
-use Rattle.std.proofs.lemmas.List.{drop_all}
-use Rattle.std.specs.Prelude.{Option, if◌then◌else◌, vec_capacity}
-use Rattle.tbl_layout.specs.LayoutLaws.{last_end}
+use Rattle.std.proofs.Common.{◌≡◌, ℕ, List, [], length, map, sym, ap, subst, ◌∙◌, arith, Vec, Global}
+use Rattle.std.specs.Prelude.{Option, true}
 use Rattle.tbl_layout.specs.declared.data_lines.RuleSign.{RuleSign}
-use Rattle.tbl_lines.specs.LinesLeft.{shown_cell}
+use Rattle.tbl_lines.specs.CellsLeft.{Left}
+use Rattle.tbl_lines.specs.LinesLeft.{Shown, all_cut, cut_cells, in_order, line_by, rule_fronts, shown_cell}
 use Rattle.tbl_lines.specs.PictureLines.{Sheet, line_of, with_fronts}
-use Rattle.tbl_line_cells.specs.LinesDrawn.{Draws, SoFar, kept_line}
-use Rattle.tbl_line_cells.specs.RulesDrawn.{RuleGiven, edge_drawn}
+use Rattle.tbl_line_cells.specs.LinesDrawn.{CutOn, Draws, kept_line}
+use Rattle.tbl_line_cells.specs.RulesDrawn.{RuleGiven}
 use Rattle.tbl_line_cells.specs.declared.line_cells.LineCells.{LineCells}
-use Rattle.tbl_line_cells.proofs.ColumnsAt.{drop-one}
-use Rattle.tbl_line_cells.proofs.FrontsOf.{no_column}
-use Rattle.tbl_line_cells.proofs.LaidSteps.{laid-fronts, laid-shown}
-use Rattle.tbl_line_cells.proofs.LineSteps.{front-line, less-room, line-behind, room-by}
-use Rattle.tbl_line_cells.proofs.RuleEdges.{first-none, left-ruled, right-ruled}
-use Rattle.tbl_line_cells.proofs.RuleTexts.{fronts-enough, text-is}
+use Rattle.tbl_line_cells.proofs.LineEnded.{cut-kept, ended, room-ended, row-ended}
+use Rattle.tbl_line_cells.proofs.RowKept.{room-kept, room-less, row-kept}
 use Rattle.tbl_line_cells.proofs.line_cells.LineCells.lay_rule.Goals as goal
 
-pub lay_columns-requires-clause-room : goal.lay_columns-requires-clause-room
-lay_columns-requires-clause-room c =
-    let has = c.clear.ensures.room (length c.args.columns.now) c.requires.room in
-    omega (arith, has.cells, ap (λ (x : LineCells). vec_capacity x.cells) c.push_front.ensures.line)
+pub lay_ruled-requires-clause-signs : goal.lay_ruled-requires-clause-signs
+lay_ruled-requires-clause-signs c =
+    ap (λ (v : Vec (Option RuleSign) Global). length v.items) c.clear.ensures.signs ∙ c.requires.signs
 
-pub lay_columns-requires-clause-front_room : goal.lay_columns-requires-clause-front_room
-lay_columns-requires-clause-front_room c =
-    let has = c.clear.ensures.room (length c.args.columns.now) c.requires.room in
-    omega (arith, has.fronts, c.push_front.ensures.capacity)
+pub lay_ruled-requires-clause-room : goal.lay_ruled-requires-clause-room
+lay_ruled-requires-clause-room c = c.clear.ensures.room (length c.args.columns.now) c.requires.room
 
-pub push_front-requires-2 : goal.push_front-requires-2
-push_front-requires-2 c =
-    let has = c.clear.ensures.room (length c.args.columns.now) c.requires.room in
-    record {
-      room = omega (arith, has.fronts, c.push_front.ensures.capacity, c.lay_columns.ensures.front_capacity, c.lay_columns.ensures.few_fronts);
-    }
+pub cut_all-requires-clause-laid : goal.cut_all-requires-clause-laid
+cut_all-requires-clause-laid c =
+    let g = c.requires.given in
+    let bytes = c.args.bytes.now in
+    let signs = sym (ap (λ (v : Vec (Option RuleSign) Global). v.items) c.clear.ensures.signs) in
+    let row = c.lay_ruled.ensures.laid bytes g.lefts g.bars g.line g.above g.below g.whole
+    (subst (λ (ss : List (Option RuleSign)). RuleGiven bytes c.args.cells.now ss c.args.counts.now c.args.columns.now g.lefts g.bars g.line g.above
+    g.below) signs g.given) (c.clear.ensures.nothing bytes) in
+    record { done = row.done; fronts = row.fronts; so_far = row.so_far }
+
+pub cut_all-requires-clause-fronts : goal.cut_all-requires-clause-fronts
+cut_all-requires-clause-fronts c =
+    let g = c.requires.given in
+    let bytes = c.args.bytes.now in
+    let signs = sym (ap (λ (v : Vec (Option RuleSign) Global). v.items) c.clear.ensures.signs) in
+    (c.lay_ruled.ensures.laid bytes g.lefts g.bars g.line g.above g.below g.whole
+    (subst (λ (ss : List (Option RuleSign)). RuleGiven bytes c.args.cells.now ss c.args.counts.now c.args.columns.now g.lefts g.bars g.line g.above
+    g.below) signs g.given) (c.clear.ensures.nothing bytes)).many
+
+pub cut_all-requires-clause-room : goal.cut_all-requires-clause-room
+cut_all-requires-clause-room c =
+    let columns = length c.args.columns.now in
+    (room-kept columns c.clear.new.self c.lay_ruled.new.self c.lay_ruled.ensures.keeps (c.clear.ensures.room columns c.requires.room)).cut
+
+pub cut_all-requires-clause-none : goal.cut_all-requires-clause-none
+cut_all-requires-clause-none c = ap (λ v. v.items) c.lay_ruled.ensures.keeps.cut ∙ c.clear.ensures.no_cut
+
+pub cut_all-requires-clause-none_cut : goal.cut_all-requires-clause-none_cut
+cut_all-requires-clause-none_cut c = c.lay_ruled.ensures.keeps.first_cut ∙ c.clear.ensures.none_cut
+
+pub finish-requires-clause-row : goal.finish-requires-clause-row
+finish-requires-clause-row c =
+    let cut = c.cut_all.ensures in
+    let order = c.order.ensures in
+    row-ended c.lay_ruled.new.self c.order.new.self
+    (ended c.lay_ruled.new.self c.cut_all.new.self c.order.new.self cut.line cut.capacity cut.cut_capacity order.line order.capacity)
+    (row-kept c.clear.new.self c.lay_ruled.new.self c.lay_ruled.ensures.keeps c.clear.ensures.row)
 
 pub finish-requires-clause-room : goal.finish-requires-clause-room
 finish-requires-clause-room c =
-    let count = length c.args.columns.now in
-    let cleared = c.clear.new.self in
-    let begun = c.push_front.new.self in
-    let laid = c.lay_columns.new.self in
-    let ended = c.push_front-2.new.self in
-    let same = line-behind cleared laid ended
-    (line-behind cleared begun laid (front-line cleared begun c.push_front.ensures.line) c.lay_columns.ensures.line)
-    (front-line laid ended c.push_front-2.ensures.line) in
-    let cells = ap (λ (x : LineCells). vec_capacity x.cells) c.push_front-2.ensures.line ∙ c.lay_columns.ensures.capacity
-    ∙ ap (λ (x : LineCells). vec_capacity x.cells) c.push_front.ensures.line in
-    let fronts = c.push_front-2.ensures.capacity ∙ c.lay_columns.ensures.front_capacity ∙ c.push_front.ensures.capacity in
-    less-room (length ended.cells.items) count ended
-    (omega (arith, c.lay_columns.ensures.few, ap (λ (x : LineCells). length x.cells.items) c.push_front-2.ensures.line))
-    (room-by count cleared ended same cells fronts (c.clear.ensures.room count c.requires.room))
+    let columns = length c.args.columns.now in
+    let laid = c.lay_ruled in
+    let cut = c.cut_all.ensures in
+    let order = c.order.ensures in
+    room-less columns (length c.order.new.self.cells.items) c.order.new.self
+    (omega (arith, order.count, cut.count, laid.ensures.few))
+    (room-ended columns laid.new.self c.order.new.self
+    (ended laid.new.self c.cut_all.new.self c.order.new.self cut.line cut.capacity cut.cut_capacity order.line order.capacity)
+    (room-kept columns c.clear.new.self laid.new.self laid.ensures.keeps (c.clear.ensures.room columns c.requires.room)))
+
+pub finish-requires-clause-few : goal.finish-requires-clause-few
+finish-requires-clause-few c =
+    omega (arith, c.order.ensures.count, c.cut_all.ensures.count, c.lay_ruled.ensures.few, c.requires.few)
+
+pub returns-clause-draws : goal.returns-clause-draws
+returns-clause-draws c = λ lefts bars line above below whole given.
+    let bytes = c.args.bytes.now in
+    let width = c.args.width in
+    let any = record bars { has_any = true } in
+    let s : Sheet = record { bars = bars; width = width; columns = c.args.columns.now } in
+    let signs = sym (ap (λ (v : Vec (Option RuleSign) Global). v.items) c.clear.ensures.signs) in
+    let row = c.lay_ruled.ensures.laid bytes lefts bars line above below whole
+    (subst (λ (ss : List (Option RuleSign)). RuleGiven bytes c.args.cells.now ss c.args.counts.now s.columns lefts bars line above below) signs given)
+    (c.clear.ensures.nothing bytes) in
+    let shown = all_cut s row.fronts row.done in
+    let cut = c.cut_all.ensures.so_far bars row.done row.fronts row.so_far in
+    let order = c.order.ensures.so_far bytes shown row.fronts cut in
+    let own = rule_fronts s line lefts above below in
+    subst (λ (text : List ℕ). Draws bytes any width (kept_line c.finish.new.self) text)
+    (row.drawn (map shown_cell (in_order [] shown))
+    ∙ ap (λ (ss : List Shown). line_of 0 (with_fronts own (map shown_cell (in_order [] ss)))) row.cut
+    ∙ ap (λ (ss : List Shown). line_by s own ss) row.shown)
+    (c.finish.ensures.draws bytes any width (in_order [] shown) row.fronts order
+    (omega (
+      arith,
+      row.some,
+      row.many,
+      c.order.ensures.count,
+      c.cut_all.ensures.count,
+      ap (λ (x : LineCells). length x.fronts.items) c.order.ensures.line,
+      ap (λ (x : LineCells). length x.fronts.items) c.cut_all.ensures.line,
+    )))
+
+pub returns-clause-cut : goal.returns-clause-cut
+returns-clause-cut c = λ lefts bars line above below whole given.
+    let bytes = c.args.bytes.now in
+    let s : Sheet = record { bars = bars; width = c.args.width; columns = c.args.columns.now } in
+    let count = length s.columns in
+    let signs = sym (ap (λ (v : Vec (Option RuleSign) Global). v.items) c.clear.ensures.signs) in
+    let row = c.lay_ruled.ensures.laid bytes lefts bars line above below whole
+    (subst (λ (ss : List (Option RuleSign)). RuleGiven bytes c.args.cells.now ss c.args.counts.now s.columns lefts bars line above below) signs given)
+    (c.clear.ensures.nothing bytes) in
+    subst (λ (cut : List Left). CutOn count (kept_line c.finish.new.self) cut)
+    (row.cut_of ∙ ap (λ (ss : List Shown). cut_cells s (rule_fronts s line lefts above below) ss) row.shown)
+    (cut-kept count (cut_cells s row.fronts row.done) c.cut_all.new.self c.order.new.self c.finish.new.self c.order.ensures.line
+    c.finish.ensures.row (c.cut_all.ensures.cut bars row.done row.fronts row.so_far row.order))
+
+pub returns-clause-few : goal.returns-clause-few
+returns-clause-few c = omega (arith, c.finish.ensures.count, c.order.ensures.count, c.cut_all.ensures.count, c.lay_ruled.ensures.few)
 
 pub returns-clause-room : goal.returns-clause-room
 returns-clause-room c = λ room has.
-    let cleared = c.clear.new.self in
-    let begun = c.push_front.new.self in
-    let laid = c.lay_columns.new.self in
-    let ended = c.push_front-2.new.self in
-    let same = line-behind cleared laid ended
-    (line-behind cleared begun laid (front-line cleared begun c.push_front.ensures.line) c.lay_columns.ensures.line)
-    (front-line laid ended c.push_front-2.ensures.line) in
-    let cells = ap (λ (x : LineCells). vec_capacity x.cells) c.push_front-2.ensures.line ∙ c.lay_columns.ensures.capacity
-    ∙ ap (λ (x : LineCells). vec_capacity x.cells) c.push_front.ensures.line in
-    let fronts = c.push_front-2.ensures.capacity ∙ c.lay_columns.ensures.front_capacity ∙ c.push_front.ensures.capacity in
-    c.finish.ensures.room room (room-by room cleared ended same cells fronts (c.clear.ensures.room room has))
-
-pub returns-clause-draws : goal.returns-clause-draws
-returns-clause-draws c = λ bytes lefts bars line above below whole given.
-    let a = c.args in
-    let r = c.requires in
-    let cells = a.cells.now in
-    let columns = a.columns.now in
-    let counts = a.counts.now in
-    let s : Sheet = record { bars = bars; width = a.width; columns = columns } in
-    let cleared = c.clear.new.self in
-    let begun = c.push_front.new.self in
-    let laid_line = c.lay_columns.new.self in
-    let ended = c.push_front-2.new.self in
-    let is_left = c.rules_edge-is_left.result in
-    let is_right = c.rules_edge-is_right.result in
-    let left = get_or counts 0 0 in
-    let last = get_or counts (length columns) 0 in
-    let right = c.saturating_sub-right.result in
-    let right_is : right ≡ a.width - last = c.saturating_sub-right.ensures in
-    let from = c.left_end-from.result in
-    let to = c.right_end-to.result in
-    let signs : a.self.now.signs.items ≡ begun.signs.items =
-    sym (ap (λ (x : LineCells). x.signs.items) c.push_front.ensures.line
-    ∙ ap (λ (v : Vec (Option RuleSign) Global). v.items) c.clear.ensures.signs) in
-    let here = subst (λ (ss : List (Option RuleSign)). RuleGiven bytes cells ss counts columns lefts bars line above below) signs given in
-    let none : drop (length columns) columns ≡ [] = drop_all (length columns) columns (omega arith) in
-    let first_edge = c.edge.ensures in
-    let last_edge = c.edge-2.ensures in
-    let e1 = edge_drawn is_left 0 left in
-    let e2 = edge_drawn is_right right last in
-    let so_far = c.push_front.ensures.so_far bytes e1 [] [] first_edge.some first_edge.shows (c.clear.ensures.nothing bytes) in
-    let laid = c.lay_columns.ensures.laid bytes lefts bars a.width line above below e1 here so_far in
-    let all_fronts = (e1 ∷ laid.fronts) ++ e2 ∷ [] in
-    let so_far_2 : SoFar bytes (kept_line ended) laid.done all_fronts =
-    c.push_front-2.ensures.so_far bytes e2 laid.done (e1 ∷ laid.fronts) last_edge.some last_edge.shows laid.so_far in
-    let done_is = laid-shown bytes s lefts line above below e1 from to (kept_line laid_line) (length columns) none laid in
-    let fronts_is = laid-fronts bytes s lefts line above below e1 from to (kept_line laid_line) (length columns) none laid in
-    let enough = fronts-enough s lefts line above below bytes (kept_line ended) e1 e2 from to laid.done laid.fronts (get_or columns 0 no_column)
-    (drop 1 columns)
-    (drop-one columns 0 no_column r.some) (first-none bytes cells columns lefts given.left r.cover r.some a.is_whole line whole)
-    so_far_2 done_is fronts_is in
-    let drawn = c.finish.ensures.draws bytes (record bars { has_any = true }) a.width laid.done all_fronts so_far_2 enough in
-    let text = text-is s lefts line above below is_left is_right left last from to laid.done laid.fronts
-    (c.rules_edge-is_left.ensures ∙ left-ruled bytes cells columns lefts given.left r.cover r.some a.is_whole line whole)
-    (c.rules_edge-is_right.ensures ∙ right-ruled bytes cells columns lefts given.left r.cover r.some a.is_whole line whole)
-    (given.met 0 (omega arith)) (given.met (length columns) (omega arith))
-    c.left_end-from.ensures.value
-    (c.right_end-to.ensures.value ∙ ap (λ (n : ℕ). if is_right then n else last_end 0 columns) right_is)
-    done_is fronts_is in
-    subst (λ (bs : List ℕ). Draws bytes (record bars { has_any = true }) a.width (kept_line c.finish.new.self) bs)
-    (ap (λ (n : ℕ). line_of 0 (with_fronts ((e1 ∷ laid.fronts) ++ edge_drawn is_right n last ∷ []) (map shown_cell laid.done))) right_is ∙ text) drawn
-
-pub returns-clause-few : goal.returns-clause-few
-returns-clause-few c =
-    omega (arith, c.finish.ensures.count, c.lay_columns.ensures.few, ap (λ (x : LineCells). length x.cells.items) c.push_front-2.ensures.line)
+    let cut = c.cut_all.ensures in
+    let order = c.order.ensures in
+    c.finish.ensures.room room
+    (room-ended room c.lay_ruled.new.self c.order.new.self
+    (ended c.lay_ruled.new.self c.cut_all.new.self c.order.new.self cut.line cut.capacity cut.cut_capacity order.line order.capacity)
+    (room-kept room c.clear.new.self c.lay_ruled.new.self c.lay_ruled.ensures.keeps (c.clear.ensures.room room has)))

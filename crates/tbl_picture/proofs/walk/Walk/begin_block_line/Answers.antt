@@ -2,14 +2,13 @@ use Rattle.std.proofs.Common.{◌≡◌, ℕ, ◌+◌, ◌-◌, List, [], ◌∷
 use Rattle.std.proofs.lemmas.List.{length-replicate}
 use Rattle.roff_source.specs.Bytes.{blank}
 use Rattle.tbl_lines.specs.RowsLeft.{if_given}
-use Rattle.tbl_picture.specs.Walks.{AtColumn, KeptWalk, RowSteps, at_word, kept_by, lent_row, passed}
+use Rattle.tbl_picture.specs.Walks.{AtColumn, KeptWalk, RowSteps, at_word, kept_by, lent_row}
 use Rattle.tbl_pieces.proofs.Adding.{adds-fewer, adds-more}
 use Rattle.tbl_picture.proofs.WordSteps.{begun-steps, empty-steps, ended-steps}
 use Rattle.tbl_picture.proofs.walk.Walk.begin_block_line.Goals as goal
 use Rattle.tbl_text.specs.BlockPlaces.{IsWithin, LiesBehind, PartLies, part_at, parts_at, word_at}
 use Rattle.tbl_text.specs.BlockWords.{EmptyLine, OneWord}
 use Rattle.tbl_text.specs.declared.block_parts.BlockPart.{BlockPart}
-use Rattle.tbl_text.specs.declared.block_parts.BlockPlace.TheVariants.{AtEnd}
 
 pub returns-in-Some-Word-default-clause-steps : goal.returns-in-Some-Word-default-clause-steps
 returns-in-Some-Word-default-clause-steps c = λ frame.
@@ -56,8 +55,7 @@ returns-in-Some-EmptyLine-default-clause-steps c = λ frame.
     let steps = empty-steps row w r c.column-held.ensures (c.requires.kind r c.column-held.ensures) frame pieces arm.behind c.requires.next
     (subst (λ (b : List ℕ). parts_at b r.place ≡ EmptyLine ∷ parts_at b arm.behind) value parts)
     (subst (λ (b : List ℕ). IsWithin b arm.behind) value arm.ensures.on.within) in
-    subst (λ (k : KeptWalk). RowSteps frame row w k pieces pieces) (sym c.pass-in-Some-EmptyLine-default.ensures)
-    (subst (λ (n : ℕ). RowSteps frame row w (passed row.bars.has_any arm.behind n w) pieces pieces) (sym (ap (λ (k : KeptWalk). k.place) c.pass.view_is)) steps)
+    subst (λ (k : KeptWalk). RowSteps frame row w k pieces pieces) (sym c.skip.ensures) steps
 
 pub returns-in-None-clause-steps : goal.returns-in-None-clause-steps
 returns-in-None-clause-steps c = λ frame.
@@ -67,5 +65,4 @@ returns-in-None-clause-steps c = λ frame.
     let pieces = c.args.pieces.now in
     let steps = ended-steps row w r c.column-held.ensures (c.requires.kind r c.column-held.ensures) frame pieces c.requires.next
     (subst (λ (b : List ℕ). parts_at b r.place ≡ []) c.block_bytes-block.ensures.value c.in-None.ensures.parts) in
-    subst (λ (k : KeptWalk). RowSteps frame row w k pieces pieces) (sym c.pass-in-None-2.ensures)
-    (subst (λ (n : ℕ). RowSteps frame row w (passed row.bars.has_any AtEnd n w) pieces pieces) (sym (ap (λ (k : KeptWalk). k.place) c.pass-in-None.view_is)) steps)
+    subst (λ (k : KeptWalk). RowSteps frame row w k pieces pieces) (sym c.skip-in-None.ensures) steps

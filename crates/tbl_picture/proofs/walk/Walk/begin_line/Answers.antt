@@ -1,12 +1,18 @@
-use Rattle.std.proofs.Common.{◌≤◌, List, refl, sym, ap, subst, ◌∙◌, drop, length, codes, arith}
+use Rattle.std.proofs.Common.{◌≤◌, ◌<◌, List, refl, sym, ap, subst, ◌∙◌, drop, length, codes, arith}
 use Rattle.tbl_lines.specs.PictureLines.{Cell}
 use Rattle.tbl_lines.specs.RowsWalked.{AreGlyphless, LastHasGlyph}
-use Rattle.tbl_picture.specs.Walks.{BeforeLine, KeptWalk, RowSteps, kept_by, lent_row, line_cells, next_column}
+use Rattle.tbl_lines.specs.declared.row_lent.RowLent.{RowLent}
+use Rattle.tbl_lines.proofs.CellsLent.{cells-few-columns}
+use Rattle.tbl_picture.specs.Walks.{BeforeLine, KeptWalk, LiesInColumns, RowSteps, kept_by, lent_row, line_cells, next_column}
 use Rattle.tbl_pieces.proofs.Adding.{adds-fewer}
 use Rattle.tbl_picture.proofs.LineSteps.{begun-line}
 use Rattle.tbl_picture.proofs.walk.Walk.begin_line.Goals as goal
 use Rattle.tbl_picture.specs.Nexts.{Next, next_by}
 use Rattle.tbl_text.specs.declared.block_parts.BlockPlace.{BlockPlace}
+
+-- a row has so many cells at the most
+few-columns : (row : RowLent) → LiesInColumns row → length (lent_row row).columns < 4294967296
+few-columns row lies = omega (arith, lies.few, cells-few-columns row.keys.now row.columns.now lies.cells)
 
 pub returns-clause-steps : goal.returns-clause-steps
 returns-clause-steps c = λ frame.
@@ -20,7 +26,7 @@ returns-clause-steps c = λ frame.
     let before = c.args.pieces.now in
     let after = c.add.new.self in
     let steps = begun-line row w frame before after count (ap (λ (k : KeptWalk). k.next) view ∙ c.requires.next)
-    (subst (λ (k : KeptWalk). BeforeLine row k) (sym view) c.requires.before) (subst (λ (ps : List BlockPlace). count ≤ length (cells ps)) places found.few)
+    (subst (λ (k : KeptWalk). BeforeLine row k) (sym view) c.requires.before) (few-columns c.args.row.now c.requires.lies) (subst (λ (ps : List BlockPlace). count ≤ length (cells ps)) places found.few)
     (subst (λ (ps : List BlockPlace). LastHasGlyph count (cells ps)) places found.last)
     (subst (λ (ps : List BlockPlace). AreGlyphless (drop count (cells ps))) places found.behind)
     (adds-fewer row.bytes frame 1 4 before after (codes "\\&") (omega arith) (c.add.ensures.adds row.bytes frame refl)) in

@@ -30,7 +30,6 @@ returns c = λ bytes frame narrow.
     let met : ℕ → KeptWalk → ℕ = λ column k.
     met_at_edge k.bars (Whole sign) (line_beside bytes formats false rows.elements k.above)
     (behind_rules (rows_of formats r) (line_beside bytes formats true rows.elements below)) column in
-    let place_is : left + 0 ≡ left = omega arith in
     let left_is : left ≡ met 0 w = c.met_at_edge-left.ensures bytes sign ∙ ap (met 0) (sym view) in
     let right_is : right ≡ met (length rows.columns) w =
     c.met_at_edge-right.ensures bytes sign ∙ ap (λ (cs : List Column). met (length cs) c.args.self.now) c.columns.ensures
@@ -43,8 +42,7 @@ returns c = λ bytes frame narrow.
     (omega (arith, c.met_at_edge-left.type_inv)) c.rules_of-rules.ensures.value (c.rules_of-rules.ensures.rows formats c.requires.served)
     c.lengths_of.ensures.lengths c.lengths_of.ensures.last (left_is, right_is) in
     let same = c.row_below-below.ensures.line bytes formats in
-    subst (λ (k : KeptWalk). RuleBegins bytes frame formats rows sign is_last k (record w { place = left + 0; next = AtRule rule }) before after) view
-    (subst (λ (n : ℕ). RuleBegins bytes frame formats rows sign is_last w (record w { place = n; next = AtRule rule }) before after) (sym place_is)
+    subst (λ (k : KeptWalk). RuleBegins bytes frame formats rows sign is_last k (record w { place = left; next = AtRule rule }) before after) view
     (record {
       rule = rule;
       line = refl;
@@ -54,4 +52,4 @@ returns c = λ bytes frame narrow.
       stands = stands;
       same = same;
       adds = adds;
-    }))
+    })

@@ -4,8 +4,8 @@ use Rattle.roff_source.specs.Bytes.{blank}
 use Rattle.tbl_layout.specs.DataLines.{sign_byte}
 use Rattle.tbl_lines.specs.PictureLines.{crossed_at, crossing}
 use Rattle.tbl_pieces.specs.PieceQueue.{Adds}
-use Rattle.tbl_lines.specs.RowsLeft.{if_given}
-use Rattle.tbl_picture.specs.Walks.{FrontStands, KeptWalk, RowSteps, front_passed, kept_by, lent_row}
+use Rattle.tbl_lines.specs.RowsLeft.{if_given, one_less}
+use Rattle.tbl_picture.specs.Walks.{FrontStands, IsNear, KeptWalk, RowSteps, front_passed, kept_by, lent_row, reached_by}
 use Rattle.tbl_pieces.proofs.Adding.{adds-fewer, adds-more}
 use Rattle.tbl_picture.proofs.FrontSteps.{crossing-steps}
 use Rattle.tbl_picture.proofs.walk.Walk.give_crossing.Goals as goal
@@ -27,6 +27,8 @@ returns c = λ frame.
     let gap = c.gap_to.result in
     let gap_is : gap ≡ place - w.place = c.gap_to.ensures ∙ ap (λ (k : KeptWalk). place - k.place) (sym view) in
     let rest_is : rest ≡ end - (place + n) = omega (arith, c.saturating_sub.ensures, c.saturating_sub-rest.ensures) in
+    let reached : KeptWalk → ℕ = λ k. reached_by k.count k.place place (n + rest) in
+    let near = subst (λ (k : KeptWalk). IsNear (one_less k.count) (reached k)) (sym view) c.pass_front.ensures.near in
     let before = c.args.pieces.now in
     let second = c.give.new.pieces in
     let third = c.give-2.new.pieces in
@@ -39,6 +41,6 @@ returns c = λ frame.
     let parts = adds-more row.bytes frame 1 1 second third after cross rule (c.give-2.ensures.adds row.bytes frame (length-replicate n crossing)) drawn in
     let all = adds-fewer row.bytes frame (1 + (1 + 1)) 4 before after (blanks ++ (cross ++ rule)) (omega arith)
     (adds-more row.bytes frame 1 (1 + 1) before second after blanks (cross ++ rule) (c.give.ensures.adds row.bytes frame (length-replicate gap blank)) parts) in
-    let steps = crossing-steps row w at next frame n before after place end gap rest (place + (n + rest)) sign c.requires.some stands line gap_is rest_is refl all in
-    subst (λ (k : KeptWalk). RowSteps frame row c.args.self.now k before after) (sym c.pass_front.ensures)
-    (subst (λ (k : KeptWalk). RowSteps frame row k (front_passed row at (place + (n + rest)) k) before after) view steps)
+    let steps = crossing-steps row w at next frame n before after place end gap rest (reached w) sign c.requires.some stands line gap_is rest_is refl near all in
+    subst (λ (k : KeptWalk). RowSteps frame row c.args.self.now k before after) (sym c.pass_front.ensures.value)
+    (subst (λ (k : KeptWalk). RowSteps frame row k (front_passed row at (reached k) k) before after) view steps)

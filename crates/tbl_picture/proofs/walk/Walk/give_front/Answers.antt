@@ -2,7 +2,7 @@ use Rattle.std.proofs.Common.{◌≡◌, ◌≢◌, ℕ, suc, ◌∷◌, drop, s
 use Rattle.tbl_lines.specs.PictureLines.{bars_at, crossed_at, nothing_there}
 use Rattle.tbl_lines.specs.RowsLeft.{cell_of_front}
 use Rattle.tbl_lines.specs.RowsWalked.{HasBars}
-use Rattle.tbl_picture.specs.Walks.{KeptWalk, RowSteps, WalkedRow, front_passed, lent_row, row_fronts_of}
+use Rattle.tbl_picture.specs.Walks.{KeptWalk, RowSteps, WalkedRow, lent_row, row_fronts_of}
 use Rattle.tbl_lines.specs.declared.fronts.Front.{Front}
 use Rattle.tbl_lines.specs.declared.fronts.Front.TheVariants.{Ruled}
 use Rattle.tbl_picture.proofs.FrontSteps.{front-stands, nothing-steps, stands-late}
@@ -21,8 +21,7 @@ returns-in-Nothing c = λ frame.
     let at = c.args.at in
     let stands = front-stands row w at nothing_there c.requires.front (subst (with-front row at) c.in-Nothing.is c.front_at.ensures.at) in
     let steps = nothing-steps row w at c.requires.next frame pieces stands in
-    subst (λ (k : KeptWalk). RowSteps frame row w k pieces pieces) (sym c.pass_front-in-Nothing.ensures)
-    (subst (λ (n : ℕ). RowSteps frame row w (front_passed row at n w) pieces pieces) (sym (ap (λ (k : KeptWalk). k.place) c.pass_front.view_is)) steps)
+    subst (λ (k : KeptWalk). RowSteps frame row w k pieces pieces) (sym c.skip_front.ensures) steps
 
 pub give_bars-requires-clause-front : goal.give_bars-requires-clause-front
 give_bars-requires-clause-front c =

@@ -3,9 +3,9 @@ use Rattle.std.proofs.lemmas.List.{length-replicate}
 use Rattle.roff_source.specs.Bytes.{blank}
 use Rattle.tbl_lines.specs.PictureLines.{repeated}
 use Rattle.tbl_pieces.specs.PieceQueue.{Adds}
-use Rattle.tbl_lines.specs.RowsLeft.{begins_at, cell_left, if_given}
+use Rattle.tbl_lines.specs.RowsLeft.{begins_at, cell_left, if_given, one_less}
 use Rattle.tbl_lines.specs.RowsWalked.{HasGlyph, LastHasGlyph}
-use Rattle.tbl_picture.specs.Walks.{AtColumn, KeptWalk, RowSteps, kept_by, lent_row, passed}
+use Rattle.tbl_picture.specs.Walks.{AtColumn, IsNear, KeptWalk, RowSteps, kept_by, lent_row, passed, reached_by}
 use Rattle.tbl_pieces.proofs.Adding.{adds-fewer, adds-more}
 use Rattle.tbl_picture.proofs.CellSteps.{none-steps, run-steps}
 use Rattle.tbl_lines.proofs.CellsGiven.{repeated-first, repeated-last, repeated-late, repeated-moved}
@@ -23,8 +23,7 @@ returns-then-self-ne0 c = λ frame.
     let steps = none-steps row w r c.requires.at c.requires.next frame pieces r.place
     (repeated-late row.bytes r c.args.byte c.args.count c.requires.repeats w.line (subst (λ (n : ℕ). n ≢ 0) line_is c.if-self-ne0.true))
     (repeated-moved row.bytes r c.args.byte c.args.count c.requires.repeats w.line) c.requires.at.within in
-    subst (λ (k : KeptWalk). RowSteps frame row w k pieces pieces) (sym c.pass-then-self-ne0.ensures)
-    (subst (λ (n : ℕ). RowSteps frame row w (passed row.bars.has_any r.place n w) pieces pieces) (sym (ap (λ (k : KeptWalk). k.place) c.pass.view_is)) steps)
+    subst (λ (k : KeptWalk). RowSteps frame row w k pieces pieces) (sym c.skip.ensures) steps
 
 pub returns : goal.returns
 returns c = λ frame.
@@ -39,7 +38,8 @@ returns c = λ frame.
     let at : AtColumn row w r = subst (λ (k : KeptWalk). AtColumn row k r) (sym view) c.requires.at in
     let gap = c.gap_to.result in
     let gap_now : gap ≡ c.begins_at-at.result - w.place = c.gap_to.ensures ∙ ap (λ (k : KeptWalk). c.begins_at-at.result - k.place) (sym view) in
-    let reached = c.begins_at-at.result + count in
+    let reached : KeptWalk → ℕ = λ k. reached_by k.count k.place c.begins_at-at.result count in
+    let near = subst (λ (k : KeptWalk). IsNear (one_less k.count) (reached k)) (sym view) c.pass.ensures.near in
     let before = c.args.pieces.now in
     let between = c.give.new.pieces in
     let after = c.give-2.new.pieces in
@@ -52,9 +52,9 @@ returns c = λ frame.
     (omega arith) (adds-more bytes frame 1 1 before between after (if_given w.count (replicate gap blank)) (if_given w.count (replicate count b))
     (c.give.ensures.adds bytes frame (length-replicate gap blank)) (c.give-2.ensures.adds bytes frame (length-replicate count b))) in
     let next = ap (λ (k : KeptWalk). k.next) view ∙ c.requires.next in
-    let steps = run-steps row w r at next frame before after (repeated b count) gap reached first
+    let steps = run-steps row w r at next frame before after (repeated b count) gap (reached w) first
     (repeated-moved bytes r b count repeats w.line)
-    gap_is (ap (λ (n : ℕ). n + count) c.begins_at-at.ensures.value)
+    gap_is (ap (λ (n : ℕ). reached_by w.count w.place n count) c.begins_at-at.ensures.value) near
     (subst (λ (more : List ℕ). Adds bytes frame 4 before after (if_given w.count (replicate gap blank) ++ more)) (sym (repeated-last w.count b count has)) both) in
-    subst (λ (k : KeptWalk). RowSteps frame row c.args.self.now k before after) (sym c.pass-2.ensures)
-    (subst (λ (k : KeptWalk). RowSteps frame row k (passed row.bars.has_any r.place reached k) before after) view steps)
+    subst (λ (k : KeptWalk). RowSteps frame row c.args.self.now k before after) (sym c.pass.ensures.value)
+    (subst (λ (k : KeptWalk). RowSteps frame row k (passed row.bars.has_any r.place (reached k) k) before after) view steps)

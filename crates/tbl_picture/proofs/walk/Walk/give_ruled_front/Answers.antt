@@ -4,9 +4,9 @@ use Rattle.roff_source.specs.Bytes.{blank}
 use Rattle.tbl_layout.specs.DataLines.{sign_byte}
 use Rattle.tbl_lines.specs.PictureLines.{crossing}
 use Rattle.tbl_pieces.specs.PieceQueue.{Adds}
-use Rattle.tbl_lines.specs.RowsLeft.{cell_of_front, if_given}
+use Rattle.tbl_lines.specs.RowsLeft.{cell_of_front, if_given, one_less}
 use Rattle.tbl_lines.specs.declared.fronts.Front.TheVariants.{Ruled}
-use Rattle.tbl_picture.specs.Walks.{FrontStands, KeptWalk, RowSteps, front_passed, kept_by, lent_row}
+use Rattle.tbl_picture.specs.Walks.{FrontStands, IsNear, KeptWalk, RowSteps, front_passed, kept_by, lent_row, reached_by}
 use Rattle.tbl_pieces.proofs.Adding.{adds-more}
 use Rattle.tbl_picture.proofs.FrontSteps.{ruled-steps}
 use Rattle.tbl_picture.proofs.walk.Walk.give_ruled_front.Goals as goal
@@ -48,7 +48,8 @@ returns c = λ frame.
     let ruled = adds-more row.bytes frame 1 (1 + 1) second third after rule (cross ++ behind) begun crossed in
     let all = adds-more row.bytes frame 1 (1 + (1 + 1)) before second after blanks (rule ++ (cross ++ behind))
     (c.give.ensures.adds row.bytes frame (length-replicate gap blank)) ruled in
-    let reached = from + (front + n + rest) in
-    let steps = ruled-steps row w at next frame n before after from place end gap front rest reached sign stands gap_is front_is rest_is refl all in
-    subst (λ (k : KeptWalk). RowSteps frame row c.args.self.now k before after) (sym c.pass_front.ensures)
-    (subst (λ (k : KeptWalk). RowSteps frame row k (front_passed row at reached k) before after) view steps)
+    let reached : KeptWalk → ℕ = λ k. reached_by k.count k.place from (front + n + rest) in
+    let near = subst (λ (k : KeptWalk). IsNear (one_less k.count) (reached k)) (sym view) c.pass_front.ensures.near in
+    let steps = ruled-steps row w at next frame n before after from place end gap front rest (reached w) sign stands gap_is front_is rest_is refl near all in
+    subst (λ (k : KeptWalk). RowSteps frame row c.args.self.now k before after) (sym c.pass_front.ensures.value)
+    (subst (λ (k : KeptWalk). RowSteps frame row k (front_passed row at (reached k) k) before after) view steps)

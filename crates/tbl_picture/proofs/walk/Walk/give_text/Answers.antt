@@ -4,8 +4,8 @@ use Rattle.std.proofs.lemmas.List.{length-replicate}
 use Rattle.roff_source.specs.Bytes.{blank}
 use Rattle.tbl_layout.specs.declared.entry.Entry.{Entry}
 use Rattle.tbl_pieces.specs.PieceQueue.{Adds}
-use Rattle.tbl_lines.specs.RowsLeft.{begins_at, cell_left, first_of, if_given, text_run}
-use Rattle.tbl_picture.specs.Walks.{AtColumn, KeptWalk, RowSteps, kept_by, lent_row, passed}
+use Rattle.tbl_lines.specs.RowsLeft.{begins_at, cell_left, first_of, if_given, text_run, one_less}
+use Rattle.tbl_picture.specs.Walks.{AtColumn, IsNear, KeptWalk, RowSteps, kept_by, lent_row, passed, reached_by}
 use Rattle.tbl_pieces.proofs.Adding.{adds-fewer, adds-more}
 use Rattle.tbl_picture.proofs.CellSteps.{end-within, run-steps}
 use Rattle.tbl_lines.proofs.CellsGiven.{text-empty, text-first, text-last, text-late, text-moved}
@@ -27,7 +27,8 @@ returns c = λ frame.
     let gap = c.gap_to.result in
     let gap_now : gap ≡ c.begins_at-at.result - w.place = c.gap_to.ensures ∙ ap (λ (k : KeptWalk). c.begins_at-at.result - k.place) (sym view) in
     let to = c.end_given-to.result in
-    let reached = c.begins_at-at.result + width in
+    let reached : KeptWalk → ℕ = λ k. reached_by k.count k.place c.begins_at-at.result width in
+    let near = subst (λ (k : KeptWalk). IsNear (one_less k.count) (reached k)) (sym view) c.pass.ensures.near in
     let before = c.args.pieces.now in
     let between = c.give.new.pieces in
     let after = c.give-2.new.pieces in
@@ -40,13 +41,13 @@ returns c = λ frame.
     (omega arith) (adds-more bytes frame 1 1 before between after (if_given w.count (replicate gap blank)) (if_given w.count (slice_range bytes r.entry.from to)) blanks text) in
     let kind = c.requires.kind r c.column-held.ensures in
     let next = ap (λ (k : KeptWalk). k.next) view ∙ c.requires.next in
-    let steps = run-steps row w r at next frame before after (text_run bytes r.entry glyphs width) gap reached
+    let steps = run-steps row w r at next frame before after (text_run bytes r.entry glyphs width) gap (reached w)
     (text-first bytes r w.line glyphs width kind c.if-self-ne0.false c.if-held.false)
     (text-moved bytes r w.line glyphs width kind)
-    gap_is (ap (λ (n : ℕ). n + width) c.begins_at-at.ensures.value)
+    gap_is (ap (λ (n : ℕ). reached_by w.count w.place n width) c.begins_at-at.ensures.value) near
     (subst (λ (more : List ℕ). Adds bytes frame 4 before after (if_given w.count (replicate gap blank) ++ more)) last both) in
-    subst (λ (k : KeptWalk). RowSteps frame row c.args.self.now k before after) (sym c.pass.ensures)
-    (subst (λ (k : KeptWalk). RowSteps frame row k (passed row.bars.has_any r.place reached k) before after) view steps)
+    subst (λ (k : KeptWalk). RowSteps frame row c.args.self.now k before after) (sym c.pass.ensures.value)
+    (subst (λ (k : KeptWalk). RowSteps frame row k (passed row.bars.has_any r.place (reached k) k) before after) view steps)
 
 pub pass_empty-requires-clause-empty : goal.pass_empty-requires-clause-empty
 pass_empty-requires-clause-empty c = λ held at.

@@ -2,14 +2,14 @@ use Rattle.std.proofs.Common.{◌≡◌, ℕ, ◌+◌, ◌≤◌, ◌<◌, List,
 use Rattle.std.specs.List.{slice_range}
 use Rattle.std.proofs.lemmas.List.{length-replicate}
 use Rattle.roff_source.specs.Bytes.{blank}
-use Rattle.tbl_lines.specs.RowsLeft.{block_text, given, if_given, one_less}
-use Rattle.tbl_picture.specs.Walks.{AtColumn, InWord, KeptWalk, RowSteps, at_word, columns_walked, kept_by, lent_row, passed}
+use Rattle.tbl_lines.specs.RowsLeft.{block_text, if_given, one_less}
+use Rattle.tbl_picture.specs.Walks.{AtColumn, InWord, IsNear, KeptWalk, RowSteps, at_word, columns_walked, kept_by, lent_row, passed, reached_by}
 use Rattle.tbl_pieces.proofs.Adding.{adds-fewer, adds-more}
 use Rattle.tbl_picture.proofs.CellSteps.{end-within}
 use Rattle.tbl_layout.specs.KeptEntries.{measure_by, no_entry}
 use Rattle.tbl_layout.specs.declared.entry.Entry.{Entry}
 use Rattle.tbl_lines.specs.RowsWalked.{IsBlock}
-use Rattle.tbl_picture.proofs.ColumnSteps.{cells_behind, column-there, entry-there}
+use Rattle.tbl_picture.proofs.ColumnSteps.{column-there, entry-there}
 use Rattle.tbl_lines.proofs.GivenFields.{block-given}
 use Rattle.tbl_lines.proofs.RowColumns.{length-row_columns}
 use Rattle.tbl_picture.proofs.WordsGiven.{end-some, ends-steps, joins-steps, some-left, stands-at, word-in, word-last, word-within}
@@ -99,17 +99,18 @@ returns-in-Ends-clause-steps c = λ frame.
     let before = c.args.pieces.now in
     let after = c.give-in-Ends.new.pieces in
     let text = if_given w.count (slice_range row.bytes from to) in
-    let reached = c.begins_at.result + c.args.width in
+    let reached : KeptWalk → ℕ = λ k. reached_by k.count k.place c.begins_at.result c.args.width in
+    let near = subst (λ (k : KeptWalk). IsNear (one_less k.count) (reached k)) (sym view) c.pass.ensures.near in
     let adds = adds-fewer row.bytes frame 1 4 before after text (omega arith)
     (c.give-in-Ends.ensures.adds row.bytes frame (length-slice_range row.bytes from to (word-within row.bytes r.entry end at.lies some within))) in
     let text_is = ap (λ (bytes : List ℕ). if_given w.count bytes) (word-in row.bytes r.entry word.from end at.lies some within)
     ∙ ap (λ (n : ℕ). if_given w.count (slice_range block word.from n)) c.end_given-end.ensures
     ∙ word-last block word w.count lies.last in
-    let steps = ends-steps row w r at word c.args.width c.args.place next stands frame before after reached text
+    let steps = ends-steps row w r at word c.args.width c.args.place next stands frame before after (reached w) text
     (subst (λ (b : List ℕ). rest_of_line m c.args.width (parts_at b c.args.place) ≡ []) c.block_bytes-block.ensures.value
     (subst (λ (n : ℕ). rest_of_line n c.args.width (parts_at c.block_bytes-block.result.now c.args.place) ≡ []) (c.from.ensures ∙ c.measure.ensures) arm.ensures.line))
     text_is
-    (ap (λ (n : ℕ). given (one_less w.count) (n + c.args.width) (cells_behind row w r at)) c.begins_at.ensures.value)
+    (ap (λ (n : ℕ). reached_by w.count w.place n c.args.width) c.begins_at.ensures.value) near
     adds in
-    subst (λ (k : KeptWalk). RowSteps frame row c.args.self.now k before after) (sym c.pass.ensures)
-    (subst (λ (k : KeptWalk). RowSteps frame row k (passed row.bars.has_any c.args.place reached k) before after) view steps)
+    subst (λ (k : KeptWalk). RowSteps frame row c.args.self.now k before after) (sym c.pass.ensures.value)
+    (subst (λ (k : KeptWalk). RowSteps frame row k (passed row.bars.has_any c.args.place (reached k) k) before after) view steps)

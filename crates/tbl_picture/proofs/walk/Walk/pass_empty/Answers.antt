@@ -30,6 +30,5 @@ returns c = λ frame pieces.
     ∙ ap (λ (n : ℕ). get_or a.places.items n (AtLine 0 None)) (sym at)
     ∙ sym (get_or_read a.places.items c.len.result c.index-place.result.now some c.index-place.ensures (AtLine 0 None)) in
     let steps = none-steps row w r there.at c.requires.next frame pieces r.place empty.none empty.moved there.at.within in
-    subst (λ (k : KeptWalk). RowSteps frame row w k pieces pieces) (sym c.pass-2.ensures)
-    (subst (λ (n : ℕ). RowSteps frame row w (passed row.bars.has_any c.index-place.result.now n w) pieces pieces) (sym (ap (λ (k : KeptWalk). k.place) c.pass.view_is))
-    (subst (λ (p : BlockPlace). RowSteps frame row w (passed row.bars.has_any p w.place w) pieces pieces) place steps))
+    subst (λ (k : KeptWalk). RowSteps frame row w k pieces pieces) (sym c.skip.ensures)
+    (subst (λ (p : BlockPlace). RowSteps frame row w (passed row.bars.has_any p w.place w) pieces pieces) place steps)

@@ -62,8 +62,8 @@ returns-in-Row c = record {
       let before = c.args.pieces.now in
       let after = c.step_at_row.new.pieces in
       let row = c.in-Row in
-      let at = subst (λ (k : KeptWalk). drop k.element rows.elements ≡ Row row.keys row.rules row.field-2 row.field-4 row.entries.now ∷ drop (suc k.element) rows.elements)
+      let at = subst (λ (k : KeptWalk). drop k.element rows.elements ≡ Row row.keys row.rules row.field-2 row.entries.now ∷ drop (suc k.element) rows.elements)
       c.self.view_is row.ensures in
-      row-at-element bytes frame formats rows w can before after within c.requires.next row.keys row.rules row.field-2 row.field-4 row.entries.now
+      row-at-element bytes frame formats rows w can before after within c.requires.next row.keys row.rules row.field-2 row.entries.now
       (drop (suc w.element) rows.elements) at c.step_at_row.new.self (c.step_at_row.ensures bytes frame can.narrow);
 }

@@ -23,7 +23,7 @@ steps_in_row-has_ended-requires-clause-lies c =
     let w = c.self.inside in
     let can = c.requires.can in
     let keys = c.row_of_all-row_keys.result.now in
-    let there = Row c.in-Row.keys c.in-Row.field-1 c.in-Row.height c.in-Row.field-4 c.in-Row.entries.now in
+    let there = Row c.in-Row.keys c.in-Row.field-1 c.in-Row.height c.in-Row.entries.now in
     let laid = all-at (ElementLaid bytes formats (length rows.columns)) w.element rows.elements there (drop (suc w.element) rows.elements) can.laid.elements c.in-Row.ensures in
     let columns = sym c.columns.ensures in
     let small : w.room < 4294967296 = search rules in
@@ -50,12 +50,11 @@ returns-in-Row-clause-step c = λ frame within.
     let keys = c.in-Row.keys in
     let rules = c.in-Row.field-1 in
     let height = c.in-Row.height in
-    let is_tall = c.in-Row.field-4 in
     let entries = c.in-Row.entries.now in
     let before = c.args.pieces.now in
     let after = c.steps_in_row-has_ended.new.pieces in
     let elements = drop (suc w.element) rows.elements in
-    let at = subst (λ (k : KeptWalk). drop k.element rows.elements ≡ Row keys rules height is_tall entries ∷ drop (suc k.element) rows.elements) view c.in-Row.ensures in
+    let at = subst (λ (k : KeptWalk). drop k.element rows.elements ≡ Row keys rules height entries ∷ drop (suc k.element) rows.elements) view c.in-Row.ensures in
     let format = row_at formats keys in
     let row : Bars → ℕ → FormatRow → List Column → WalkedRow = λ b n f cs.
     record { bars = b; width = n; bytes = bytes; format = f; columns = cells_of f.keys cs; height = height; entries = all_entries f entries; fronts = None } in
@@ -67,7 +66,7 @@ returns-in-Row-clause-step c = λ frame within.
     (c.steps_in_row-has_ended.ensures.steps frame)))) in
     let under = subst (IsInRow bytes formats rows w) at c.requires.row in
     subst (λ (k : KeptWalk). Steps bytes frame formats rows w k before after) (sym c.go_on.ensures)
-    (row-by bytes frame formats rows w c.requires.can before after within keys rules height is_tall entries elements at t mid under does)
+    (row-by bytes frame formats rows w c.requires.can before after within keys rules height entries elements at t mid under does)
 
 pub go_on-requires : goal.go_on-requires
 go_on-requires c = λ _.
@@ -88,7 +87,7 @@ go_on-requires c = λ _.
       (does-stay c.steps_in_row-has_ended.result [] row c.args.self.now c.steps_in_row-has_ended.new.self c.args.pieces.now c.steps_in_row-has_ended.new.pieces
           (c.steps_in_row-has_ended.ensures.steps [])).element,
       ap (λ (k : KeptWalk). k.element) c.self.view_is,
-      within-drop a.element rows.elements (Row c.in-Row.keys c.in-Row.field-1 c.in-Row.height c.in-Row.field-4 c.in-Row.entries.now) (drop (suc a.element) rows.elements) c.in-Row.ensures,
+      within-drop a.element rows.elements (Row c.in-Row.keys c.in-Row.field-1 c.in-Row.height c.in-Row.entries.now) (drop (suc a.element) rows.elements) c.in-Row.ensures,
       c.count.ensures,
       c.count.type_inv,
     )

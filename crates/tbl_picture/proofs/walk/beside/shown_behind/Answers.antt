@@ -53,5 +53,5 @@ returns-else-not-is_first_line c = λ bytes.
     ∙ ap (λ (j : Option RuleSign). if is_some j then 0 else shown) joined
     ∙ ap (λ (k : ℕ). if is_some (joined_first (drop n all)) then 0 else k) bars_is
     ∙ ap (λ (t : Bool). if t && is_some (joined_first (drop n all)) then 0 else bars) (sym first)
-    ∙ sym (shown-row boxing bytes formats c.args.is_below elements at row.keys row.field-1 row.height row.field-4 row.entries.now (drop (suc at) elements) column row.ensures n there)
+    ∙ sym (shown-row boxing bytes formats c.args.is_below elements at row.keys row.field-1 row.height row.entries.now (drop (suc at) elements) column row.ensures n there)
     ∙ ap (λ (b : Beside). shown_behind boxing (line_beside bytes formats c.args.is_below elements b) column) (sym c.in-Row.is)

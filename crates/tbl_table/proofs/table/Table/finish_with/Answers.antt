@@ -41,7 +41,7 @@ returns-clause-to_come c =
     (rw c.close.ensures at c.give.ensures.answer) ∙ width-met old.limits c.args.number c.args.line_length old.reading.table few in
     let is = c.args.has_newline in
     let whole = closed old.reading.table in
-    let t = ended_in whole.phase c.args.number whole in
+    let t = ended_in whole.phase c.args.number c.args.line_length whole in
     let given = output_or_read (output_in t.phase c.args.line_length t) old.reading.read in
     (rw c.close.ensures at c.give.ensures.to_come)
     ∙ ap (λ (bytes : List ℕ). given_within c.give.result bytes) (sym (newline-append is given old.reading.line))

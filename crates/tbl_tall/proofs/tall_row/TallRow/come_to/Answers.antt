@@ -2,9 +2,8 @@ use Rattle.std.proofs.Common.{◌≡◌, ◌+◌, ◌<◌, ◌≤◌, ℕ, List,
 use Rattle.std.specs.List.{AllByRecursion}
 use Rattle.tbl_format.specs.Format.{columns_of}
 use Rattle.tbl_format.specs.RowsServed.{all_rows, row_at}
-use Rattle.tbl_kept.specs.Rows.{Command, ElementLaid}
 use Rattle.tbl_lines.specs.LinesLeft.{OfRow}
-use Rattle.tbl_tall.proofs.CellsNext.{all-at, all-less, row-within}
+use Rattle.tbl_tall.proofs.CellsNext.{all-less, row-within}
 use Rattle.tbl_tall.proofs.KeysCover.{cover-all, cover-some, fewer-room}
 use Rattle.tbl_tall.proofs.RowsFilled.{filled-comes}
 use Rattle.tbl_tall.proofs.tall_row.TallRow.come_to.Goals as goal
@@ -61,7 +60,6 @@ returns-clause-comes c = λ bytes s keys lefts beside all stand above then_come.
     let lines = c.set_lines.ensures.lines in
     let rest = c.end.ensures.rest in
     let own = c.as_slice-2.ensures.value in
-    let laid = all-at (ElementLaid bytes formats (length rows.columns)) rows.elements c.args.row.at (Command 0 0) c.requires.at here.laid.elements in
     let new : KeptTall = record {
       last = last.result;
       cells = cells;
@@ -78,7 +76,7 @@ returns-clause-comes c = λ bytes s keys lefts beside all stand above then_come.
     let same_lines : c.set_lines.new.self.wholes + c.set_lines.new.self.count ≡ new.band.wholes + new.band.count = omega (arith, same_wholes, same_count) in
     filled-comes bytes formats c.args.boxing rows s c.args.row c.args.rules (kept_by a) new keys lefts beside all c.requires.lie c.requires.at c.requires.row here
     (record {
-      left = c.fill_cells.ensures.left bytes keys lefts laid above
+      left = c.fill_cells.ensures.left bytes keys lefts here.laid.elements above
           (subst (λ (cs : List CellLeft). AllLeft bytes cs lefts) (sym c.as_slice.ensures.value) here.left);
       has = c.fill_cells.ensures.keys;
       through = λ lefts_own columns kept many. (rw own at c.end.ensures.through) bytes lefts_own columns kept many;

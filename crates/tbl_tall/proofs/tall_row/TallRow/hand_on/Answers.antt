@@ -25,7 +25,7 @@ invariant_of-self c =
     }
 
 pub returns-clause-comes : goal.returns-clause-comes
-returns-clause-comes c = λ bytes s cells above keys rules height is_tall entries columns boxed places laid there ended.
+returns-clause-comes c = λ bytes s cells above keys rules height entries columns boxed places laid there ended.
     let formats = all_rows c.args.format.now.format in
     let elements = c.args.rows.now.elements in
     let boxing = c.args.boxing in

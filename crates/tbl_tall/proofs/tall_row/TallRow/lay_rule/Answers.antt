@@ -14,18 +14,18 @@ use Rattle.tbl_line_cells.specs.declared.cells.CellLeft.{CellLeft}
 
 pub count-requires-clause-line : goal.count-requires-clause-line
 count-requires-clause-line c =
-    let can = rw (← c.self.view_is) at c.requires.next in
-    let n = can.next in
+    let n = rw (← c.self.view_is) at c.requires.next in
+    let s : Sheet = record { bars = c.args.bars; width = c.args.width; columns = c.args.columns.now } in
     let formats = all_rows c.args.format.now.format in
-    (next-line can.bytes formats n.s (kept_by c.self.inside) n.heights n.cells n.above n.elements n.rest n.line n.comes n.rule).more
+    (next-line c.args.bytes.now formats s (kept_by c.self.inside) n.heights n.cells n.above n.elements n.rest n.line n.comes n.rule).more
 
 pub fill_signs-requires-clause-line : goal.fill_signs-requires-clause-line
 fill_signs-requires-clause-line c =
-    let can = rw (← c.self.view_is) at c.requires.next in
-    let n = can.next in
+    let n = rw (← c.self.view_is) at c.requires.next in
+    let s : Sheet = record { bars = c.args.bars; width = c.args.width; columns = c.args.columns.now } in
     let formats = all_rows c.args.format.now.format in
     let told = c.count.ensures.rest in
-    let line = next-line can.bytes formats n.s (kept_by c.self.inside) n.heights n.cells n.above n.elements n.rest n.line n.comes n.rule in
+    let line = next-line c.args.bytes.now formats s (kept_by c.self.inside) n.heights n.cells n.above n.elements n.rest n.line n.comes n.rule in
     omega (
       arith,
       line.more,
@@ -36,35 +36,35 @@ fill_signs-requires-clause-line c =
 
 pub fill_signs-requires-clause-keys : goal.fill_signs-requires-clause-keys
 fill_signs-requires-clause-keys c = λ none.
-    let can = rw (← c.self.view_is) at c.requires.next in
-    let n = can.next in
+    let n = rw (← c.self.view_is) at c.requires.next in
+    let s : Sheet = record { bars = c.args.bars; width = c.args.width; columns = c.args.columns.now } in
     let formats = all_rows c.args.format.now.format in
     let told = c.count.ensures.rest in
-    let line = next-line can.bytes formats n.s (kept_by c.self.inside) n.heights n.cells n.above n.elements n.rest n.line n.comes n.rule in
+    let line = next-line c.args.bytes.now formats s (kept_by c.self.inside) n.heights n.cells n.above n.elements n.rest n.line n.comes n.rule in
     omega (
       arith,
-      given-keys formats (kept_band c.self.inside.band) c.args.whole n.line can.sign line.alike none,
+      given-keys formats (kept_band c.self.inside.band) c.args.whole n.line n.sign line.alike none,
       ap (λ (b : KeptBand). b.at) told,
       ap (λ (b : KeptBand). b.wholes) told,
     )
 
 pub fill_signs-requires-clause-room : goal.fill_signs-requires-clause-room
 fill_signs-requires-clause-room c =
-    let can = rw (← c.self.view_is) at c.requires.next in
-    let same = ap (λ (s : Sheet). length s.columns) can.sheet in
-    omega (arith, same, can.next.comes.room, (c.clear_rule.ensures.room c.self.inside.room c.self.invariant.line).signs)
+    let n = rw (← c.self.view_is) at c.requires.next in
+    let s : Sheet = record { bars = c.args.bars; width = c.args.width; columns = c.args.columns.now } in
+    omega (arith, n.comes.room, (c.clear_rule.ensures.room c.self.inside.room c.self.invariant.line).signs)
 
 pub lay_rule-requires-clause-cover : goal.lay_rule-requires-clause-cover
 lay_rule-requires-clause-cover c =
-    let can = rw (← c.self.view_is) at c.requires.next in
-    let n = can.next in
-    let count = length n.s.columns in
+    let n = rw (← c.self.view_is) at c.requires.next in
+    let s : Sheet = record { bars = c.args.bars; width = c.args.width; columns = c.args.columns.now } in
+    let count = length s.columns in
     let format = next_format n.elements in
     let cells = c.self.inside.cells.items in
-    let has = left-has can.bytes cells n.cells (all_keys count format) n.comes.left n.comes.keys.bars n.comes.keys.ends in
+    let has = left-has c.args.bytes.now cells n.cells (all_keys count format) n.comes.left n.comes.keys.bars n.comes.keys.ends in
     let cover = cover-all count format cells n.comes.within has in
     rw c.as_slice.ensures.value (covers (length c.args.columns.now) (keys_in cells) cover.order
-    (cover.all ∙ ap (λ (s : Sheet). length s.columns) can.sheet))
+    cover.all)
 
 pub invariant_of-self : goal.invariant_of-self
 invariant_of-self c =
@@ -78,6 +78,7 @@ invariant_of-self c =
       line = c.lay_rule.ensures.room room (record {
         signs = omega (arith, cleared.signs, c.fill_signs.ensures.capacity);
         cells = cleared.cells;
+        cut = cleared.cut;
         fronts = cleared.fronts;
         columns = cleared.columns;
         keys = cleared.keys;
@@ -88,10 +89,60 @@ invariant_of-self c =
       come_above = c.self.invariant.come_above;
     }
 
-pub returns-clause-draws : goal.returns-clause-draws
-returns-clause-draws c = λ bytes heights cells above elements rest line places own comes rule sign.
+pub lay_rule-requires-clause-given : goal.lay_rule-requires-clause-given
+lay_rule-requires-clause-given c =
     let a = c.self.inside in
     let b = kept_band a.band in
+    let bytes = c.args.bytes.now in
+    let formats = all_rows c.args.format.now.format in
+    let s : Sheet = record { bars = c.args.bars; width = c.args.width; columns = c.args.columns.now } in
+    let n = length s.columns in
+    let can = rw (← c.self.view_is) at c.requires.next in
+    let heights = can.heights in
+    let cells = can.cells in
+    let above = can.above in
+    let elements = can.elements in
+    let rest = can.rest in
+    let line = can.line in
+    let rule = can.rule in
+    let sign = can.sign in
+    let places = can.places in
+    let own = can.next in
+    let here = can.comes in
+    let all = overs 0 cells s.columns in
+    let through : GoThrough c.count.new.self.through.items all = subst (λ (k : KeptBand). GoThrough k.through all) (sym c.count.ensures.rest)
+    here.band.through in
+    let signs = c.fill_signs.new.signs.items in
+    let drawn : (column : ℕ) → column < n → get_or signs column None ≡ sign_at (line_given formats b c.args.whole) (over_at all column) column
+    = subst (λ (k : KeptBand). (column : ℕ) → column < n → get_or signs column None
+    ≡ sign_at (line_given formats k c.args.whole) (over_at all column) column) c.count.ensures.rest (c.fill_signs.ensures.signs all through) in
+    let counts = c.count.new.self.counts.items in
+    let first = row_below n cells elements in
+    let Met : ℕ → Type 0 = λ m. (boundary : ℕ) → boundary ≤ m → get_or counts boundary 0
+    ≡ bars_met s.bars m (band_line formats b b.at) all above (lines_behind formats b all (b.at + 1) first) boundary in
+    let met : Met n = subst Met here.band.as_many (c.count.ensures.met all above first
+    (subst (λ (m : ℕ). BandStands formats s.bars m b all above first) (sym here.band.as_many) here.band)) in
+    let below = below_rule s line cells rest in
+    let made = rule-given bytes formats s (kept_by a) heights cells above elements rest line here rule c.args.whole signs counts sign places own
+    drawn met in
+    let given = subst (λ (cs : List CellLeft). RuleGiven bytes cs signs c.as_slice-2.result.now s.columns cells s.bars line above below)
+    (sym c.as_slice.ensures.value)
+    (subst (λ (ns : List ℕ). RuleGiven bytes a.cells.items signs ns s.columns cells s.bars line above below) (sym c.as_slice-2.ensures.value) made) in
+    record {
+      lefts = cells;
+      bars = s.bars;
+      line = line;
+      above = above;
+      below = below;
+      whole = c.is_some.ensures ∙ given-whole c.args.whole line sign;
+      given = given;
+    }
+
+pub returns-clause-draws : goal.returns-clause-draws
+returns-clause-draws c = λ heights cells above elements rest line places own comes rule sign.
+    let a = c.self.inside in
+    let b = kept_band a.band in
+    let bytes = c.args.bytes.now in
     let formats = all_rows c.args.format.now.format in
     let s : Sheet = record { bars = c.args.bars; width = c.args.width; columns = c.args.columns.now } in
     let n = length s.columns in
@@ -110,9 +161,39 @@ returns-clause-draws c = λ bytes heights cells above elements rest line places 
     let met : Met n = subst Met here.band.as_many (c.count.ensures.met all above first
     (subst (λ (m : ℕ). BandStands formats s.bars m b all above first) (sym here.band.as_many) here.band)) in
     let below = below_rule s line cells rest in
-    let given = rule-given bytes formats s (kept_by a) heights cells above elements rest line here rule c.args.whole signs counts sign places own
+    let made = rule-given bytes formats s (kept_by a) heights cells above elements rest line here rule c.args.whole signs counts sign places own
     drawn met in
-    c.lay_rule.ensures.draws bytes cells s.bars line above below (c.is_some.ensures ∙ given-whole c.args.whole line sign)
-    (subst (λ (cs : List CellLeft). RuleGiven bytes cs signs c.as_slice-2.result.now s.columns cells s.bars line above below)
+    let given = subst (λ (cs : List CellLeft). RuleGiven bytes cs signs c.as_slice-2.result.now s.columns cells s.bars line above below)
     (sym c.as_slice.ensures.value)
-    (subst (λ (ns : List ℕ). RuleGiven bytes a.cells.items signs ns s.columns cells s.bars line above below) (sym c.as_slice-2.ensures.value) given))
+    (subst (λ (ns : List ℕ). RuleGiven bytes a.cells.items signs ns s.columns cells s.bars line above below) (sym c.as_slice-2.ensures.value) made) in
+    c.lay_rule.ensures.draws cells s.bars line above below (c.is_some.ensures ∙ given-whole c.args.whole line sign) given
+
+pub returns-clause-cut : goal.returns-clause-cut
+returns-clause-cut c = λ heights cells above elements rest line places own comes rule sign.
+    let a = c.self.inside in
+    let b = kept_band a.band in
+    let bytes = c.args.bytes.now in
+    let formats = all_rows c.args.format.now.format in
+    let s : Sheet = record { bars = c.args.bars; width = c.args.width; columns = c.args.columns.now } in
+    let n = length s.columns in
+    let here = rw (← c.self.view_is) at comes in
+    let all = overs 0 cells s.columns in
+    let through : GoThrough c.count.new.self.through.items all = subst (λ (k : KeptBand). GoThrough k.through all) (sym c.count.ensures.rest)
+    here.band.through in
+    let signs = c.fill_signs.new.signs.items in
+    let drawn : (column : ℕ) → column < n → get_or signs column None ≡ sign_at (line_given formats b c.args.whole) (over_at all column) column
+    = subst (λ (k : KeptBand). (column : ℕ) → column < n → get_or signs column None
+    ≡ sign_at (line_given formats k c.args.whole) (over_at all column) column) c.count.ensures.rest (c.fill_signs.ensures.signs all through) in
+    let counts = c.count.new.self.counts.items in
+    let first = row_below n cells elements in
+    let Met : ℕ → Type 0 = λ m. (boundary : ℕ) → boundary ≤ m → get_or counts boundary 0
+    ≡ bars_met s.bars m (band_line formats b b.at) all above (lines_behind formats b all (b.at + 1) first) boundary in
+    let met : Met n = subst Met here.band.as_many (c.count.ensures.met all above first
+    (subst (λ (m : ℕ). BandStands formats s.bars m b all above first) (sym here.band.as_many) here.band)) in
+    let below = below_rule s line cells rest in
+    let made = rule-given bytes formats s (kept_by a) heights cells above elements rest line here rule c.args.whole signs counts sign places own
+    drawn met in
+    let given = subst (λ (cs : List CellLeft). RuleGiven bytes cs signs c.as_slice-2.result.now s.columns cells s.bars line above below)
+    (sym c.as_slice.ensures.value)
+    (subst (λ (ns : List ℕ). RuleGiven bytes a.cells.items signs ns s.columns cells s.bars line above below) (sym c.as_slice-2.ensures.value) made) in
+    c.lay_rule.ensures.cut cells s.bars line above below (c.is_some.ensures ∙ given-whole c.args.whole line sign) given

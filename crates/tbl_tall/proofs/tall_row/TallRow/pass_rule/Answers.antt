@@ -20,7 +20,7 @@ pub pass_cells-requires : goal.pass_cells-requires
 pass_cells-requires c = record {
   kept =
       let next = rw (← c.self.view_is) at c.requires.next in
-      rw c.as_mut_slice.ensures.value (record { lefts = next.cells; are = next.comes.left });
+      rw c.as_mut_slice.ensures.value (record { lefts = next.cells; left = next.comes.left });
 }
 
 pub pass-requires-clause-fits : goal.pass-requires-clause-fits

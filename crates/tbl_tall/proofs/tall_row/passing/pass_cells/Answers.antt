@@ -13,7 +13,7 @@ pass_cell-requires c = record {
       let i = c.loop-at.invariant in
       let p = c.requires.kept in
       let some : c.loop-at.at < length c.loop-at.cells = omega (arith, c.loop-at-test.true, i.many) in
-      kept-at c.args.bytes.now c.loop-at.cells (passed_at c.args.is_rule c.loop-at.at p.lefts) c.loop-at.at _ some (i.left p.lefts p.are);
+      kept-at c.args.bytes.now c.loop-at.cells (passed_at c.args.is_rule c.loop-at.at p.lefts) c.loop-at.at _ some (i.left p.lefts p.left);
 }
 
 pub loop-at-preserved : goal.loop-at-preserved

@@ -1,0 +1,17 @@
+pub mod PiecesBehind
+pub mod CellsFit
+pub mod ShownWhole
+pub mod RowApart
+pub mod RuleApart
+pub mod InTurn
+pub mod CellsStand
+pub mod CellsStay
+pub mod CellsFresh
+pub mod LinesNarrow
+pub mod EndsInTime
+pub mod LongestFronts
+pub mod RunsApart
+pub mod RowRuns
+pub mod StopsInFront
+pub mod StopsBelow
+pub mod FreeToStop

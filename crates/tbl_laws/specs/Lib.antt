@@ -1,0 +1,2 @@
+pub mod PiecesApart
+pub mod RunningOn

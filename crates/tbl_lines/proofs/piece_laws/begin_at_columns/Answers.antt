@@ -1,5 +1,0 @@
-use Rattle.tbl_lines.proofs.PiecesBehind.{begin-at-columns}
-use Rattle.tbl_lines.proofs.piece_laws.begin_at_columns.Goals as goal
-
-pub returns : goal.returns
-returns c = begin-at-columns

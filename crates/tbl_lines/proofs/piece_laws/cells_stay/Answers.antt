@@ -1,5 +1,0 @@
-use Rattle.tbl_lines.proofs.CellsStay.{cells-stay}
-use Rattle.tbl_lines.proofs.piece_laws.cells_stay.Goals as goal
-
-pub returns : goal.returns
-returns c = cells-stay

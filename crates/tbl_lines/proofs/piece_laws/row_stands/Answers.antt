@@ -1,5 +1,0 @@
-use Rattle.tbl_lines.proofs.CellsStand.{row-stands}
-use Rattle.tbl_lines.proofs.piece_laws.row_stands.Goals as goal
-
-pub returns : goal.returns
-returns c = row-stands

@@ -1,5 +1,0 @@
-use Rattle.tbl_lines.proofs.CellsStand.{rule-stands}
-use Rattle.tbl_lines.proofs.piece_laws.rule_stands.Goals as goal
-
-pub returns : goal.returns
-returns c = rule-stands

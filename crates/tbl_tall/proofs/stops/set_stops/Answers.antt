@@ -1,0 +1,128 @@
+use Rattle.std.proofs.Common.{◌≡◌, ◌<◌, ◌-◌, ℕ, suc, drop, length, set, ap, subst, ◌∙◌, arith}
+use Rattle.std.proofs.lemmas.List.{length-set}
+use Rattle.std.specs.Prelude.{if◌then◌else◌}
+use Rattle.tbl_format.proofs.CellColumns.{cell-within, columns_of-behind}
+use Rattle.tbl_format.specs.Cells.{cell_count}
+use Rattle.tbl_format.specs.RowsServed.{all_rows}
+use Rattle.tbl_kept.proofs.HeightSteps.{cells-room}
+use Rattle.tbl_kept.specs.Rows.{Command, elements_of}
+use Rattle.tbl_kept.specs.RowsLaying.{element_at}
+use Rattle.tbl_lines.specs.CellsLeft.{all_keys, stopped}
+use Rattle.tbl_line_cells.specs.KeptCells.{AllLeft, IsLeft}
+use Rattle.tbl_tall.proofs.CellsNext.{all-at, keys-many}
+use Rattle.tbl_tall.proofs.KeysCover.{all-cells, all-columns}
+use Rattle.tbl_tall.proofs.StopsBelow.{kept-end, kept-within}
+use Rattle.tbl_tall.proofs.StopsSet.{all-same, few-by, first_behind, first-end, first-next, has-many, same-come, same-keys, same-many, same-of, same-set, start-few, stops-next, stops-none}
+use Rattle.tbl_tall.proofs.stops.set_stops.Goals as goal
+use Rattle.tbl_tall.specs.StopsKept.{format_kept, is_used_at, start_in, stopped_from}
+use Rattle.tbl_tall.specs.TallRows.{ElementLies}
+
+pub loop-at-init : goal.loop-at-init
+loop-at-init c =
+    let cells = c.args.cells.now in
+    let n = length c.args.rows.now.columns in
+    let formats = all_rows c.args.format.now.format in
+    let e = element_at c.args.rows.now.elements c.args.element in
+    let es = drop (suc c.args.element) c.args.rows.now.elements in
+    record {
+      left = λ bytes lefts laid all. stops-none bytes n (format_kept formats e).keys (elements_of bytes formats es) cells lefts 0 all;
+      first = λ bytes lefts all. ap length c.columns-next.ensures ∙ first-end bytes n 0 cells lefts all;
+      same = all-same cells;
+      few = omega (arith, ap length c.columns-next.ensures);
+      within = omega arith;
+    }
+
+pub stopped_cell-requires-clause-few : goal.stopped_cell-requires-clause-few
+stopped_cell-requires-clause-few c =
+    let n = length c.args.rows.now.columns in
+    let formats = all_rows c.args.format.now.format in
+    let e = element_at c.args.rows.now.elements c.args.element in
+    let format = format_kept formats e in
+    let within = kept-within formats n e (all-at (ElementLies formats n) c.args.rows.now.elements c.args.element (Command 0 0) c.requires.at c.requires.lie) in
+    omega (
+      arith,
+      c.loop-at.invariant.within,
+      c.loop-at-test.true,
+      has-many c.args.cells.now (all_keys n format) c.requires.keys,
+      keys-many n format,
+      cells-room n format.keys within,
+      c.requires.small,
+    )
+
+pub stopped_cell-requires-clause-end : goal.stopped_cell-requires-clause-end
+stopped_cell-requires-clause-end c =
+    let n = length c.args.rows.now.columns in
+    let at = c.loop-at.at - 1 in
+    let formats = all_rows c.args.format.now.format in
+    let e = element_at c.args.rows.now.elements c.args.element in
+    let format = format_kept formats e in
+    let within = kept-within formats n e (all-at (ElementLies formats n) c.args.rows.now.elements c.args.element (Command 0 0) c.requires.at c.requires.lie) in
+    let some : at < cell_count format.keys n = omega (
+      arith,
+      c.loop-at.invariant.within,
+      c.loop-at-test.true,
+      has-many c.args.cells.now (all_keys n format) c.requires.keys,
+      keys-many n format,
+    ) in
+    omega (arith, kept-end formats e at c.requires.row, (cell-within format.keys n at within.cells within.short some).1)
+
+pub loop-at-preserved : goal.loop-at-preserved
+loop-at-preserved c =
+    let i = c.loop-at.invariant in
+    let cells = c.loop-at.cells in
+    let old = c.args.cells.now in
+    let n = length c.args.rows.now.columns in
+    let at = c.loop-at.at - 1 in
+    let new = c.stopped_cell.result in
+    let now = set cells at new in
+    let formats = all_rows c.args.format.now.format in
+    let e = element_at c.args.rows.now.elements c.args.element in
+    let es = drop (suc c.args.element) c.args.rows.now.elements in
+    let format = format_kept formats e in
+    let names = format.keys in
+    let within = kept-within formats n e (all-at (ElementLies formats n) c.args.rows.now.elements c.args.element (Command 0 0) c.requires.at c.requires.lie) in
+    let next : c.loop-at.at ≡ suc at = omega (arith, c.loop-at-test.true) in
+    let some : at < length cells = omega (arith, c.loop-at-test.true, i.within, same-many cells old i.same) in
+    let some_now : at < length now = omega (arith, some, length-set cells at new) in
+    let same = same-set cells old at _ new some (same-of new _ c.stopped_cell.ensures.same) i.same in
+    record {
+      left = λ bytes lefts laid all.
+          let elements = elements_of bytes formats es in
+          stops-next bytes n names elements cells lefts at 0 0 c.loop-at.next _ new some
+          (λ m l others here left first.
+          let same_cell : at ≡ m = omega (arith, here) in
+          subst (λ (k : ℕ). IsLeft bytes new (stopped n names elements k l others)) same_cell
+          (c.stopped_cell.ensures.left bytes l others laid left first))
+          (subst (λ (k : ℕ). c.loop-at.next ≡ first_behind n 0 k lefts) next (i.first bytes lefts all))
+          (subst (λ (k : ℕ). AllLeft bytes cells (stopped_from n names elements k 0 lefts)) next (i.left bytes lefts laid all));
+      first = λ bytes lefts all.
+          c.first_from-next.ensures
+          ∙ ap (λ (m : ℕ). if is_used_at now at then start_in now at else m)
+          (subst (λ (k : ℕ). c.loop-at.next ≡ first_behind n 0 k lefts) next (i.first bytes lefts all))
+          ∙ first-next bytes n 0 now old lefts at some_now all same;
+      same = same;
+      few =
+          let keys = all_keys n format in
+          let covered = columns_of-behind keys in
+          let all = all-columns n format within in
+          let begin = start-few 0 now keys at (same-keys now old keys same c.requires.keys) (all-cells n format within) in
+          let limit = few-by (is_used_at now at) (start_in now at) c.loop-at.next n (omega (arith, begin, covered, all)) i.few in
+          omega (arith, c.first_from-next.ensures, limit);
+      within = omega (arith, i.within);
+    }
+
+pub returns-clause-left : goal.returns-clause-left
+returns-clause-left c = λ bytes lefts laid all.
+    let n = length c.args.rows.now.columns in
+    let formats = all_rows c.args.format.now.format in
+    let e = element_at c.args.rows.now.elements c.args.element in
+    let es = drop (suc c.args.element) c.args.rows.now.elements in
+    let none : c.loop-at.at ≡ 0 = omega (arith, c.loop-at-test.false) in
+    subst (λ (k : ℕ). AllLeft bytes c.loop-at.cells (stopped_from n (format_kept formats e).keys (elements_of bytes formats es) k 0 lefts)) none
+    (c.loop-at.invariant.left bytes lefts laid all)
+
+pub returns-clause-keys : goal.returns-clause-keys
+returns-clause-keys c = λ keys has. same-keys c.loop-at.cells c.args.cells.now keys c.loop-at.invariant.same has
+
+pub returns-clause-come : goal.returns-clause-come
+returns-clause-come c = λ n come. same-come c.loop-at.cells c.args.cells.now n c.loop-at.invariant.same come
