@@ -478,7 +478,7 @@ def main():
         sys.exit(__doc__.strip())
     program = os.path.abspath(words[0]) if words else PROGRAM
     if not is_there(program):
-        sys.exit(f"bench/run.py: {program} is missing; ./roff --version builds it")
+        sys.exit(f"bench/run.py: {program} is missing; ./roff --prove builds it")
     if not is_there(GNU_TIME):
         print(f"{GNU_TIME} isn't installed: no memory is measured")
     formatters, counting, aims = all_formatters(program), counter(), []

@@ -169,7 +169,7 @@ def main():
         sys.exit(__doc__.strip())
     program = os.path.abspath(words[0]) if words else PROGRAM
     if not os.access(program, os.X_OK):
-        sys.exit(f"bench/stages.py: {program} is missing; ./roff --version builds it")
+        sys.exit(f"bench/stages.py: {program} is missing; ./roff --prove builds it")
     stages, functions = {}, {}
     with tempfile.TemporaryDirectory() as folder:
         for kind in KINDS:

@@ -223,7 +223,7 @@ def words_and_program(script):
     if words_given[:1] == ["--program"]:
         program, words_given = pathlib.Path(words_given[1]).resolve(), words_given[2:]
     if not program.exists():
-        sys.exit("tests/%s: %s is missing; ./roff --version builds it" % (script, program))
+        sys.exit("tests/%s: %s is missing; ./roff --prove builds it" % (script, program))
     return words_given, program
 
 

@@ -281,7 +281,7 @@ def differs(number):
 
 def main():
     if not PROGRAM.exists():
-        sys.exit("tests/documents.py: %s is missing; ./roff --version builds it" % PROGRAM)
+        sys.exit("tests/documents.py: %s is missing; ./roff --prove builds it" % PROGRAM)
     count, first = ([int(word) for word in sys.argv[1:]] + [3000, 0][len(sys.argv) - 1:])[:2]
     differ = sum(differs(number) for number in range(first, first + count))
     print("%d documents, %d differ" % (count, differ))

@@ -1446,7 +1446,7 @@ def main():
     if words[:1] == ["--program"]:
         program, words = pathlib.Path(words[1]).resolve(), words[2:]
     if not program.exists():
-        raise SystemExit("tests/hostile.py: %s is missing; ./roff --version builds it" % program)
+        raise SystemExit("tests/hostile.py: %s is missing; ./roff --prove builds it" % program)
     if not GNU_TIME.exists():
         raise SystemExit("tests/hostile.py: %s is missing, which measures" % GNU_TIME)
     for kind in set(words) - set(CHECKS):

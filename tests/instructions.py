@@ -69,7 +69,7 @@ def main():
         sys.exit(__doc__.strip())
     program = os.path.abspath(words[0]) if words else str(PROGRAM)
     if not os.access(program, os.X_OK):
-        sys.exit(f"tests/instructions.py: {program} is missing; ./roff --version builds it")
+        sys.exit(f"tests/instructions.py: {program} is missing; ./roff --prove builds it")
     counts = counts_of(program)
     if "--store" in sys.argv:
         STORED.write_text("".join(f"{kind} {count}\n" for kind, count in counts.items()))

@@ -548,7 +548,7 @@ def differs(name, lines, given, printed=None):
 
 def main():
     if not PROGRAM.exists():
-        sys.exit("tests/interrupted.py: %s is missing; ./roff --version builds it" % PROGRAM)
+        sys.exit("tests/interrupted.py: %s is missing; ./roff --prove builds it" % PROGRAM)
     count, first = ([int(word) for word in sys.argv[1:]] + [3000, 0][len(sys.argv) - 1:])[:2]
     differ = sum(differs("worked document", text.split("|"), {}, printed.replace("|", "\n")) for text, printed in WORKED)
     for number in range(first, first + count):

@@ -13,7 +13,7 @@ program=$top/crates/roff/out/roff
 memory=100000
 
 if [ ! -x "$program" ]; then
-    echo "tests/no_memory.sh: $program is missing; ./roff --version builds it" >&2
+    echo "tests/no_memory.sh: $program is missing; ./roff --prove builds it" >&2
     exit 1
 fi
 work=$(mktemp -d) || exit 1

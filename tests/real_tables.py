@@ -170,7 +170,7 @@ def main():
     if words[:1] == ["--program"]:
         PROGRAM, words = pathlib.Path(words[1]).resolve(), words[2:]
     if not PROGRAM.exists():
-        raise SystemExit("tests/real_tables.py: %s is missing; ./roff --version builds it" % PROGRAM)
+        raise SystemExit("tests/real_tables.py: %s is missing; ./roff --prove builds it" % PROGRAM)
     found = all_tables(words or [PAGES])
     if not found:
         raise SystemExit("tests/real_tables.py: there are no tables in %s" % " ".join(words or [PAGES]))

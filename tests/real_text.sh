@@ -18,7 +18,7 @@ text=/usr/share/common-licenses/GPL-3
 kinds='text centred temporary_indents tabs unfilled spaced interrupted environments short_pages'
 
 if [ ! -x "$program" ]; then
-    echo "tests/real_text.sh: $program is missing; ./roff --version builds it" >&2
+    echo "tests/real_text.sh: $program is missing; ./roff --prove builds it" >&2
     exit 1
 fi
 if [ ! -r "$text" ]; then

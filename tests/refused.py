@@ -93,7 +93,7 @@ def differences(library, words, counts):
 
 def main():
     if not PROGRAM.exists():
-        sys.exit("tests/refused.py: %s is missing; ./roff --version builds it" % PROGRAM)
+        sys.exit("tests/refused.py: %s is missing; ./roff --prove builds it" % PROGRAM)
     commands = [[word] for word in sys.argv[1:] or ("nroff", "tbl", "both")]
     others = [["--help"], ["--version"], ["help", "tbl"], ["nroff", "--bytes", "x"], ["nroff", "-o", "x"], ["nroff", "-ra5", "-rx"]]
     others += [["nroff", "-ra5", "-rb7", "none"], ["nroff", *["-"] * 40, "-ra5"]]

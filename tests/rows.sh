@@ -23,7 +23,7 @@ while :; do
 done
 
 if [ ! -x "$program" ]; then
-    echo "tests/rows.sh: $program is missing; ./roff --version builds it" >&2
+    echo "tests/rows.sh: $program is missing; ./roff --prove builds it" >&2
     exit 1
 fi
 work=$(mktemp -d) || exit 1

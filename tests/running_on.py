@@ -182,7 +182,7 @@ def main():
     elif words[:1] == ["--program"]:
         program, words = pathlib.Path(words[1]).resolve(), words[2:]
     if not is_model and not program.exists():
-        raise SystemExit("tests/running_on.py: %s is missing; ./roff --version builds it" % program)
+        raise SystemExit("tests/running_on.py: %s is missing; ./roff --prove builds it" % program)
     failures = 0
     for name in words or ROWS:
         document = Document(*ROWS[name])

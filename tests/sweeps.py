@@ -158,7 +158,7 @@ def main():
     if words[:1] == ["--program"]:
         PROGRAM, words = pathlib.Path(words[1]).resolve(), words[2:]
     if not PROGRAM.exists():
-        raise SystemExit("tests/sweeps.py: %s is missing; ./roff --version builds it" % PROGRAM)
+        raise SystemExit("tests/sweeps.py: %s is missing; ./roff --prove builds it" % PROGRAM)
     names = set(words)
     counts, documents = [], 0
     with tempfile.TemporaryDirectory() as folder:

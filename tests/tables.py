@@ -333,7 +333,7 @@ def main():
     if words[:1] == ["--program"]:
         PROGRAM, words = pathlib.Path(words[1]).resolve(), words[2:]
     if not PROGRAM.exists():
-        raise SystemExit("tests/tables.py: %s is missing; ./roff --version builds it" % PROGRAM)
+        raise SystemExit("tests/tables.py: %s is missing; ./roff --prove builds it" % PROGRAM)
     if words == ["--bytes"]:
         numbers, checked = range(256 * len(AROUND)), check_byte
     elif words == ["--shapes"]:
