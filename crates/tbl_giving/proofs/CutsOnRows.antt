@@ -25,6 +25,7 @@ row-stands bytes formats s t heights cells above format fields elements comes = 
   within = comes.within;
   some = comes.some;
   room = comes.room;
+  first = λ _. comes.band.below_shown;
 }
 
 -- it stands so where its line is laid
@@ -39,6 +40,7 @@ stands-laid bytes s t new format cells lines same stands =
       within = stands.within;
       some = stands.some;
       room = stands.room;
+      first = stands.first;
     })
 
 -- none of its lines was given

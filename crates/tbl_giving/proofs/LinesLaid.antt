@@ -216,6 +216,7 @@ module _ (bytes : List ℕ) (formats : List FormatRow) (rows : KeptRows) (g : Ke
               within = stands.within;
               some = stands.some;
               room = stands.room;
+              first = stands.first;
             });
       }) in
       line-begins bytes formats rows on room tall w OnRow still w_room (omega (arith, few, come.drawn.few))

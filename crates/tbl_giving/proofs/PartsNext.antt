@@ -188,5 +188,6 @@ module _ (bytes : List ℕ) (formats : List FormatRow) (rows : KeptRows) (g : Ke
             within = comes.within;
             some = comes.some;
             room = comes.room;
+            first = λ _. comes.band.below_shown;
           };
         })

@@ -42,25 +42,28 @@ impl CellLeft {
         self.rows > 0
     }
 
-    /// What is left of it behind the line: of a block a line less, and of any other field nothing.
-    pub fn behind_line(self, escapes: &mut OpenEscapes, bytes: &[u8]) -> CellLeft
-        requires lies { Lies bytes.now self.entry }
-        requires within { IsWithin (block_text bytes.now self.entry) self.place }
-        ensures left { (l : Left) → IsLeft bytes.now self l
-            → IsLeft bytes.now result (behind_line l) }
+    /// The line was given: of a block a line less is left, and of any other field nothing.
+    pub fn pass_line(&mut self, escapes: &mut OpenEscapes, bytes: &[u8])
+        requires lies { Lies bytes.now self.old.entry }
+        requires within { IsWithin (block_text bytes.now self.old.entry) self.old.place }
+        ensures left { (l : Left) → IsLeft bytes.now self.old l
+            → IsLeft bytes.now self.new (behind_line l) }
         ensures room { escapes.new.room ≡ escapes.old.room }
     {
         if self.lead > 0 {
-            return self.with(self.entry, self.lead - 1, self.place);
+            self.lead -= 1;
+            return;
         }
         match self.entry.kind {
             EntryKind::Block(_) => {
                 let block = block_bytes(bytes, self.entry);
                 let measure = u64::from(self.entry.measure());
-                let place = behind_block_line(escapes, block, self.place, measure);
-                self.with(self.entry, 0, place)
+                self.place = behind_block_line(escapes, block, self.place, measure);
             }
-            _ => self.with(Entry::NOTHING, 0, BlockPlace::AtEnd),
+            _ => {
+                self.entry = Entry::NOTHING;
+                self.place = BlockPlace::AtEnd;
+            }
         }
     }
 
@@ -88,22 +91,6 @@ impl CellLeft {
         self.key.has_no_width
             && self.lead == 0
             && column.passes(self.key.key, self.entry.stands(self.key.key))
-    }
-
-    /// What stands in it ends at the latest behind so many columns, if it is without width.
-    pub fn with_stop(self, stop: usize) -> CellLeft
-        ensures { result ≡ record self { stop = stop } }
-    {
-        CellLeft {
-            key: self.key,
-            entry: self.entry,
-            lead: self.lead,
-            place: self.place,
-            rows: self.rows,
-            is_used: self.is_used,
-            stop,
-            is_cut: self.is_cut,
-        }
     }
 
     /// Something in it is cut on a line.

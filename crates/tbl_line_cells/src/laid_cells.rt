@@ -1,7 +1,8 @@
 //! The cells of a line, and where those stand that are texts (Lesk, "Tbl": Formatting).
 
-ghost use Rattle.std.specs.Prelude.{◌≡◌, ℕ, ◌<◌, ◌^◌, List, Some, false, true};
-ghost use Rattle.tbl_layout.specs.declared.entry.EntryKind.TheVariants.{Repeated};
+ghost use Rattle.std.specs.Prelude.{◌≡◌, ℕ, ◌<◌, ◌^◌, List, None, Some, false, true};
+ghost use Rattle.tbl_layout.specs.declared.data_lines.RuleSign.{RuleSign as OneSign};
+ghost use Rattle.tbl_layout.specs.declared.entry.EntryKind.TheVariants.{Repeated, Ruled};
 ghost use Rattle.tbl_lines.specs.CellsLeft.{Left};
 ghost use Rattle.tbl_lines.specs.LinesLeft.{runs_on, shown};
 ghost use Rattle.tbl_lines.specs.PictureLines.{bar};
@@ -107,15 +108,29 @@ pub fn laid(cell: CellLeft, column: Column, end: usize) -> LaidCell
             if cell.runs_on(column) {
                 return running(cell, column);
             }
-            LaidCell {
-                column,
-                key,
-                entry: cell.entry,
-                place: cell.place,
-                text: text_at(cell, column),
-                runs_on: None,
-            }
+            laid_within(cell, column)
         }
+    }
+}
+
+/// A cell that is no rule, and of which nothing runs on.
+// It is called for each cell.
+#[inline(always)]
+pub fn laid_within(cell: CellLeft, column: Column) -> LaidCell
+    requires here { cell.lead ≡ 0 }
+    requires other { (sign : OneSign) → cell.entry.kind ≡ Ruled sign → ⊥ }
+    requires narrow { IsNarrow column }
+    ensures shown { (bytes : List ℕ) (l : Left) (end : ℕ) → IsLeft bytes cell l
+        → runs_on l column ≡ false → IsShown bytes result (shown l column end) }
+    ensures stays { result.runs_on ≡ None }
+{
+    LaidCell {
+        column,
+        key: cell.key.key,
+        entry: cell.entry,
+        place: cell.place,
+        text: text_at(cell, column),
+        runs_on: None,
     }
 }
 

@@ -7,13 +7,11 @@ ghost use Rattle.std.specs.Prelude.{◌≢◌, ◌-◌, ◌&&◌, get_or, true, 
 ghost use Rattle.std.specs.List.{AllByRecursion, insert};
 ghost use Rattle.tbl_layout.specs.KeptEntries.{Lies};
 ghost use Rattle.tbl_layout.specs.declared.bars.Bars.{Bars};
-ghost use Rattle.tbl_lines.specs.CellsLeft.{Left};
-ghost use Rattle.tbl_lines.specs.LinesLeft.{Shown, all_cut, cut_cells, in_order, shown};
+ghost use Rattle.tbl_lines.specs.LinesLeft.{Shown, all_cut, cut_cells, in_order};
 ghost use Rattle.tbl_lines.specs.LinesLeft.{is_there, shown_cell};
 ghost use Rattle.tbl_lines.specs.PictureLines.{Cell, Sheet, line_of, with_fronts};
 ghost use Rattle.tbl_lines.specs.RowsLeft.{cell_left, cell_of_front, first_of};
 ghost use Rattle.tbl_lines.specs.RowsWalked.{AreNarrow, HasBars, IsNarrow};
-ghost use Rattle.tbl_line_cells.specs.KeptCells.{IsLeft};
 ghost use Rattle.tbl_line_cells.specs.LaidCells.{DrawsByte, EndsItself, IsDrawn, IsLaidCell};
 ghost use Rattle.tbl_line_cells.specs.LaidCells.{IsShown, drawn_in, on_line};
 ghost use Rattle.tbl_line_cells.specs.LaidCells.{place_among, row_column};
@@ -22,8 +20,7 @@ ghost use Rattle.tbl_line_cells.specs.LinesDrawn.{InFront, IsNoted, LineIsLaid, 
 ghost use Rattle.tbl_line_cells.specs.LinesDrawn.{SoFar, passes_room, shown_in};
 ghost use Rattle.tbl_line_cells.specs.LinesDrawn.{as_row, if_any, kept_line};
 
-use crate::cells::CellLeft;
-use crate::laid_cells::{LaidCell, RunsOn, TextAt, laid, place_of};
+use crate::laid_cells::{LaidCell, RunsOn, TextAt, place_of};
 use crate::running::{cut_to, drawn_by, drawn_in_front, fill_false, room_of};
 use roff_escape::OpenEscapes;
 use std::alloc::{AllocError, Global};
@@ -106,26 +103,6 @@ impl LineCells {
         self.keys.clear();
         self.entries.clear();
         self.places.clear();
-    }
-
-    /// A cell, whose rule, if it is one, ends at a column of the page.
-    pub fn push_cell(&mut self, cell: CellLeft, column: Column, end: usize)
-        requires narrow { IsNarrow column }
-        requires end { end < 2 ^ 32 }
-        requires room { length self.old.cells.items < vec_capacity self.old.cells }
-        ensures so_far { (bytes : List ℕ) (l : Left) (done : List Shown) (fronts : List Cell)
-            → IsLeft bytes cell l → SoFar bytes (kept_line self.old) done fronts
-            → SoFar bytes (kept_line self.new) (done ++ shown l column end ∷ []) fronts }
-        ensures line { self.new ≡ record self.old {
-          cells = self.new.cells;
-          has_running = self.new.has_running;
-        } }
-        ensures count { length self.new.cells.items ≡ suc (length self.old.cells.items) }
-        ensures capacity { vec_capacity self.new.cells ≡ vec_capacity self.old.cells }
-    {
-        let laid = laid(cell, column, end);
-        self.has_running = self.has_running || laid.runs_on.is_some();
-        self.cells.push_reserved(laid);
     }
 
     /// What is no text: a byte that is repeated, or nothing.

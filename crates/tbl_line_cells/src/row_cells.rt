@@ -20,11 +20,13 @@ ghost use Rattle.tbl_line_cells.specs.LinesDrawn.{RowIsLaid, SoFar};
 ghost use Rattle.tbl_line_cells.specs.LinesDrawn.{kept_line, keys_of};
 
 use crate::cells::CellLeft;
+use crate::laid_cells::{laid, laid_within};
 use crate::line_cells::LineCells;
 use roff_escape::OpenEscapes;
 use tbl_layout::bars::{Bars, edge_bars, inner_bars};
 use tbl_layout::columns::{Column, bar_place};
 use tbl_layout::data_lines::RuleSign;
+use tbl_layout::entry::EntryKind;
 use tbl_lines::fronts::Front;
 use tbl_lines::row_columns::joint;
 use tbl_options::options::Boxing;
@@ -94,7 +96,7 @@ impl LineCells {
         let left = edge_bars(boxing, cells[0].key.bars);
         self.push_front(bars_at(0, left));
         let column = self.lay_cells(cells, columns, boxing);
-        let last = cells[cells.len() - 1];
+        let last = &cells[cells.len() - 1];
         self.push_cell(last, column, column.start + column.width);
         let right = edge_bars(boxing, last_bars);
         self.push_front(bars_at(width.saturating_sub(right as usize), right));
@@ -129,8 +131,8 @@ impl LineCells {
     {
         let mut column = as_one(columns, 0, cells[0].key.end as usize);
         for at in 0..cells.len() - 1 {
-            let cell = cells[at];
-            let next_cell = cells[at + 1];
+            let cell = &cells[at];
+            let next_cell = &cells[at + 1];
             let next = as_one(columns, cell.key.end as usize, next_cell.key.end as usize);
             self.lay_between(boxing, cell, next_cell, column, next);
             column = next;
@@ -142,8 +144,8 @@ impl LineCells {
     fn lay_between(
         &mut self,
         boxing: Boxing,
-        cell: CellLeft,
-        next_cell: CellLeft,
+        cell: &CellLeft,
+        next_cell: &CellLeft,
         column: Column,
         next: Column,
     )
@@ -152,7 +154,7 @@ impl LineCells {
         requires room { length self.old.cells.items < vec_capacity self.old.cells }
         requires room_fronts { length self.old.fronts.items < vec_capacity self.old.fronts }
         ensures so_far { (bytes : List ℕ) (l m : Left) (done : List Shown) (fronts : List Cell)
-            → IsLeft bytes cell l → IsLeft bytes next_cell m
+            → IsLeft bytes cell.now l → IsLeft bytes next_cell.now m
             → SoFar bytes (kept_line self.old) done fronts
             → let bars = inner_bars boxing m.key.bars in
             SoFar bytes (kept_line self.new)
@@ -170,9 +172,60 @@ impl LineCells {
         ensures capacity_fronts { vec_capacity self.new.fronts ≡ vec_capacity self.old.fronts }
     {
         let bars = inner_bars(boxing, next_cell.key.bars);
-        let joined = cell.joined(next_cell);
+        let joined = cell.joined(*next_cell);
         self.push_cell(cell, column, end_by(joined, bars, column, next));
         self.push_front(front_between(joined, bars, column, next));
+    }
+
+    /// A cell, whose rule, if it is one, ends at a column of the page.
+    // It is called for each cell.
+    #[inline(always)]
+    pub fn push_cell(&mut self, cell: &CellLeft, column: Column, end: usize)
+        requires narrow { IsNarrow column }
+        requires end { end < 2 ^ 32 }
+        requires room { length self.old.cells.items < vec_capacity self.old.cells }
+        ensures so_far { (bytes : List ℕ) (l : Left) (done : List Shown) (fronts : List Cell)
+            → IsLeft bytes cell.now l → SoFar bytes (kept_line self.old) done fronts
+            → SoFar bytes (kept_line self.new) (done ++ shown l column end ∷ []) fronts }
+        ensures line { self.new ≡ record self.old {
+          cells = self.new.cells;
+          has_running = self.new.has_running;
+        } }
+        ensures count { length self.new.cells.items ≡ suc (length self.old.cells.items) }
+        ensures capacity { vec_capacity self.new.cells ≡ vec_capacity self.old.cells }
+    {
+        match cell.entry.kind {
+            EntryKind::Ruled(_) => self.push_any(cell, column, end),
+            _ => {
+                if cell.lead == 0 && !cell.runs_on(column) {
+                    self.cells.push_reserved(laid_within(*cell, column));
+                } else {
+                    self.push_any(cell, column, end);
+                }
+            }
+        }
+    }
+
+    /// The same of one that may be a rule, begin below the line, or run on.
+    // Such a cell is rare.
+    #[inline(never)]
+    fn push_any(&mut self, cell: &CellLeft, column: Column, end: usize)
+        requires narrow { IsNarrow column }
+        requires end { end < 2 ^ 32 }
+        requires room { length self.old.cells.items < vec_capacity self.old.cells }
+        ensures so_far { (bytes : List ℕ) (l : Left) (done : List Shown) (fronts : List Cell)
+            → IsLeft bytes cell.now l → SoFar bytes (kept_line self.old) done fronts
+            → SoFar bytes (kept_line self.new) (done ++ shown l column end ∷ []) fronts }
+        ensures line { self.new ≡ record self.old {
+          cells = self.new.cells;
+          has_running = self.new.has_running;
+        } }
+        ensures count { length self.new.cells.items ≡ suc (length self.old.cells.items) }
+        ensures capacity { vec_capacity self.new.cells ≡ vec_capacity self.old.cells }
+    {
+        let laid = laid(*cell, column, end);
+        self.has_running = self.has_running || laid.runs_on.is_some();
+        self.cells.push_reserved(laid);
     }
 }
 

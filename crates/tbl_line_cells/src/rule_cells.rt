@@ -197,7 +197,7 @@ impl LineCells {
             self.push_ruled(at, from, to);
         } else if at == begin_of(cells, cell) {
             let column = as_one(columns, at, begin_of(cells, cell + 1));
-            self.push_cell(cells[cell], column, column.start + column.width);
+            self.push_cell(&cells[cell], column, column.start + column.width);
         }
     }
 

@@ -51,14 +51,12 @@ pub record AreFronts (columns : List Column) (fronts : List Front) : Type 0 wher
   pub count : length fronts ≡ front_count columns
   pub some : AllByRecursion HasBars fronts
 
--- its cells have their columns; and where it is given what stands in front of them, that is as much as it has to be, and the keys don't
--- say it
+-- its cells have their columns; and where it is given what stands in front of them, that is as much as it has to be
 pub record LiesInColumns (row : RowLent) : Type 0 where
   pub cells : AreWithin (length row.columns.now) row.keys.now
   pub narrow : AreNarrow row.columns.now
   pub few : length row.columns.now < 4294967296
   pub plain : row.is_plain ≡ true → columns_of row.keys.now ≡ length row.keys.now
-  pub by_keys : row.is_plain ≡ true → row.fronts ≡ None
   pub fronts : MatchOption row.fronts (Unit {0}) (λ fronts. AreFronts (lent_columns row) fronts.now)
 
 abbrev pub lent_row : RowLent → WalkedRow

@@ -43,9 +43,6 @@ pub fn front_at(row: &RowLent<'_>, at: usize) -> Front
         drop at all ≡ cell_of_front result ∷ drop (suc at) all }
     ensures some { HasBars result }
 {
-    if row.is_plain {
-        return front_by_keys(row, at);
-    }
     match row.fronts {
         Some(fronts) => fronts[at],
         None => front_by_keys(row, at),

@@ -33,7 +33,7 @@ pub struct RowLent<'a> {
     pub entries: &'a [Entry],
     /// How many lines it has.
     pub height: u32,
-    /// Whether each of its cells has one column, and its keys say what stands in front of them.
+    /// Whether each of its cells has one column.
     pub is_plain: bool,
     /// What stands in front of each cell, and behind the last, if its keys don't say that.
     pub fronts: Option<&'a [Front]>,

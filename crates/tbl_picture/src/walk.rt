@@ -33,6 +33,7 @@ use tbl_text::block_words::BlockWord;
 
 pub mod beside;
 mod cells;
+mod drawn;
 mod elements;
 mod fronts;
 mod lines;

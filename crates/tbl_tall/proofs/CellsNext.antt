@@ -112,6 +112,15 @@ module _ (bytes : List ℕ) (f : ℕ → FormatKey → Left) (keys : List Format
       subst (λ (cs : List CellLeft). AllLeft bytes cs all) (append-none cells)
       (so_far [] (subst (λ (ks : List FormatKey). AllLeft bytes [] (cells_by f cell ks)) (sym (drop-past keys cell past)) tt))
 
+-- behind some cells one more stands
+pub record OneMore (Stands Few : CellLeft → Type 0) (own : FormatKey) (old : List CellLeft) (room : ℕ) (new : List CellLeft) (now : ℕ) : Type 0 where
+  pub cell : CellLeft
+  pub items : new ≡ old ++ cell ∷ []
+  pub capacity : now ≡ room
+  pub stands : Stands cell
+  pub key : HasKey cell own
+  pub few : Few cell
+
 pub cells-map : (f : FormatKey → Left) (cell : ℕ) (keys : List FormatKey) → cells_by (λ (n : ℕ) (k : FormatKey). f k) cell keys ≡ map f keys
 cells-map f cell [] = refl
 cells-map f cell (k ∷ keys) = ap (λ (rest : List Left). f k ∷ rest) (cells-map f (suc cell) keys)

@@ -25,5 +25,6 @@ pub mod RuleFits
 pub mod RuleGivens
 pub mod CutsMarked
 pub mod MarksApart
+pub mod NoneBelow
 pub mod StopsBelow
 pub mod StopsSet

@@ -3,6 +3,7 @@ use Rattle.std.proofs.Common.{◌≡◌, ℕ, suc, ◌+◌, ◌-◌, List, [], �
 use Rattle.std.specs.Prelude.{Some}
 use Rattle.tbl_format.proofs.CellColumns.{columns_behind, columns_of-behind}
 use Rattle.tbl_format.specs.Cells.{AreCells, by_cells}
+use Rattle.tbl_format.specs.Format.{columns_of}
 use Rattle.tbl_format.specs.FormatRows.{AreWithin}
 use Rattle.tbl_format.specs.declared.format.FormatKey.{FormatKey}
 use Rattle.tbl_layout.specs.KeptEntries.{all_entries}
@@ -33,6 +34,10 @@ single-within keys columns single many = record {
   cells = single-order 0 keys single;
   short = omega (arith, columns_of-behind keys, single-columns 0 keys single, many);
 }
+
+-- they have as many columns
+single-count : (keys : List FormatKey) → AreSingle 0 keys → columns_of keys ≡ length keys
+single-count keys single = omega (arith, columns_of-behind keys, single-columns 0 keys single)
 
 single-ones : (from : ℕ) (keys : List FormatKey) (columns : List Column) → AreSingle from keys → length keys ≡ length columns
     → map as_one (by_cells from keys columns) ≡ columns
@@ -87,6 +92,9 @@ module _ (bytes : List ℕ) (bars : Bars) (width : ℕ) (line : KeptLine) (text 
       subst (λ (ks : List FormatKey). AreWithin (length columns) ks) (sym own_keys)
       (subst (λ (cs : List Column). AreWithin (length cs) line.keys) (sym own_columns)
       (single-within line.keys line.columns draws.keys draws.as_many_keys))
+
+  pub plain-own : columns_of keys ≡ length keys
+  plain-own = subst (λ (ks : List FormatKey). columns_of ks ≡ length ks) (sym own_keys) (single-count line.keys draws.keys)
 
   pub narrow-own : AreNarrow columns
   narrow-own = subst AreNarrow (sym own_columns) draws.narrow

@@ -178,4 +178,8 @@ module _ (bytes : List ℕ) (s : Sheet) (t : KeptTall) (cells : List CellLeft) (
     within = stands.within;
     some = stands.some;
     room = stands.room;
+    first = λ is.
+        let one = stands.first is in
+        let shown = row-same s.bars.boxing (length s.columns) (bars_at_end (length s.columns) format) lefts (map f lefts) same in
+        record { boundaries = one.boundaries; shown = λ boundary few. one.shown boundary few ∙ shown boundary few };
   }

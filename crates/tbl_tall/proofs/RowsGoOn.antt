@@ -103,8 +103,8 @@ behind-key l = key-by (l.lead == 0) l.field l
 
 pub line-passed : (bytes : List ℕ) (s : Sheet) (t new : KeptTall) (format : FormatRow) (cells : List Left) (more : ℕ)
     → RowStands bytes s t format cells (suc more) → AllLeft bytes new.cells (map behind_line cells) → new.lines_left ≡ t.lines_left - 1
-    → new.last ≡ t.last → new.room ≡ t.room → RowStands bytes s new format (map behind_line cells) more
-line-passed bytes s t new format cells more stands left high last room = record {
+    → new.last ≡ t.last → new.room ≡ t.room → new.is_first ≡ false → RowStands bytes s new format (map behind_line cells) more
+line-passed bytes s t new format cells more stands left high last room given = record {
   left = left;
   keys = keys-stay behind_line behind-key cells (all_keys (length s.columns) format) stands.keys;
   height = omega (arith, high, stands.height);
@@ -112,6 +112,7 @@ line-passed bytes s t new format cells more stands left high last room = record 
   within = stands.within;
   some = stands.some;
   room = omega (arith, stands.room, room);
+  first = λ is. absurd cc;
 }
 
 -- and it was the last

@@ -1,11 +1,14 @@
 -- How many lines of the picture a cell has below its row, without the rules that a box adds (Lesk, "Tbl": Format).
-use Rattle.std.specs.Prelude.{◌≡◌, ℕ, suc, ◌+◌, Bool, List, [], ◌∷◌, drop, get_or, length, Option, None, Some}
+use Rattle.std.specs.Prelude.{◌≡◌, ℕ, suc, ◌+◌, Bool, false, List, [], ◌∷◌, drop, get_or, length, Option, None, Some}
 use Rattle.tbl_format.specs.Format.{FormatRow}
 use Rattle.tbl_format.specs.declared.format.FormatKey.{FormatKey}
 use Rattle.tbl_kept.specs.KeptHeights.{cell_below_kept}
 use Rattle.tbl_kept.specs.Rows.{Command as CommandKept, KeptElement, Row as RowKept, Rule as RuleKept, rows_in_front}
+use Rattle.tbl_kept.specs.RowsLaying.{goes_on}
 use Rattle.tbl_layout.specs.Entries.{Command, Element, Row, Rule}
 use Rattle.tbl_layout.specs.Heights.{cell_below, rules_between}
+use Rattle.tbl_layout.specs.KeptEntries.{all_entries, no_entry}
+use Rattle.tbl_layout.specs.declared.entry.Entry.{Entry}
 
 -- none, if no cell goes on with it, else so many and those of that cell
 abbrev pub over_by : Option ℕ → ℕ → (ℕ → ℕ) → ℕ
@@ -30,6 +33,15 @@ lines_kept bytes formats is_inside row cell rules (RowKept keys rule_rows height
     (λ below. lines_kept bytes formats is_inside (RowKept keys rule_rows height entries) below 0 elements)
 lines_kept bytes formats is_inside row cell rules (RuleKept sign ∷ elements) = lines_kept bytes formats is_inside row cell (suc rules) elements
 lines_kept bytes formats is_inside row cell rules (CommandKept from to ∷ elements) = lines_kept bytes formats is_inside row cell rules elements
+
+-- none stands below any cell of a row in front of some elements
+abbrev pub NoneOver : List FormatRow → List KeptElement → Type 0
+NoneOver formats elements = (bytes : List ℕ) (is_inside : Bool) (row : KeptElement) (cell rules : ℕ)
+    → lines_kept bytes formats is_inside row cell rules elements ≡ 0
+
+-- no cell of a row of these keys with these fields goes on with one above it
+abbrev pub NoneGoesOn : List FormatKey → List Entry → Type 0
+NoneGoesOn keys entries = (bars cell : ℕ) → goes_on (get_or (all_entries (record { keys = keys; bars = bars }) entries) cell no_entry).kind ≡ false
 
 -- the heights of the rows among elements that are kept
 abbrev pub heights_kept : List KeptElement → List ℕ

@@ -1,5 +1,5 @@
 -- The row that comes next, with the lines of rules in front of it, as it is kept (Lesk, "Tbl": Format).
-use Rattle.std.specs.Prelude.{◌≡◌, ℕ, zero, suc, ◌≤◌, ◌<◌, ◌==◌, List, [], ◌∷◌, get_or, length, map, vec_capacity, Option, None, Some, if◌then◌else◌}
+use Rattle.std.specs.Prelude.{◌≡◌, ℕ, zero, suc, ◌≤◌, ◌<◌, ◌==◌, Bool, true, List, [], ◌∷◌, get_or, length, map, vec_capacity, Option, None, Some, if◌then◌else◌}
 use Rattle.std.specs.List.{AllByRecursion}
 use Rattle.tbl_format.specs.Format.{FormatRow}
 use Rattle.tbl_format.specs.FormatRows.{AreWithin}
@@ -20,13 +20,14 @@ use Rattle.tbl_line_cells.specs.LinesDrawn.{KeptLine, HasRoom, kept_line}
 use Rattle.tbl_line_cells.specs.declared.cells.CellLeft.{CellLeft}
 use Rattle.tbl_tall.specs.declared.tall_row.TallRow.TheInside.{Inside}
 
--- how many bars it has behind its last cell, its cells and those of the row above, how many lines it has still, the lines of rules in
--- front of it, the line that is laid, how many rows have ended, and for how many columns there is room
+-- how many bars it has behind its last cell, its cells and those of the row above, how many lines it has still, and whether none of them
+-- was given, the lines of rules in front of it, the line that is laid, how many rows have ended, and for how many columns there is room
 pub record KeptTall : Type 0 where
   pub last : ℕ
   pub cells : List CellLeft
   pub above : List CellLeft
   pub lines_left : ℕ
+  pub is_first : Bool
   pub band : KeptBand
   pub line : KeptLine
   pub come : ℕ
@@ -136,7 +137,8 @@ pub record RuleIsNext (bytes : List ℕ) (formats : List FormatRow) (t : KeptTal
   pub rule : RuleComes elements line rest
   pub places : HavePlaces formats s
 
--- a row whose cells are left so, with so many bars behind the last, and has so many lines still
+-- a row whose cells are left so, with so many bars behind the last, and has so many lines still; in front of its first line the bars of
+-- that are kept
 pub record RowStands (bytes : List ℕ) (s : Sheet) (t : KeptTall) (format : FormatRow) (cells : List Left) (lines : ℕ) : Type 0 where
   pub left : AllLeft bytes t.cells cells
   pub keys : HaveKeys cells (all_keys (length s.columns) format)
@@ -145,6 +147,8 @@ pub record RowStands (bytes : List ℕ) (s : Sheet) (t : KeptTall) (format : For
   pub within : AreWithin (length s.columns) format.keys
   pub some : 0 < length s.columns
   pub room : length s.columns ≤ t.room
+  pub first : t.is_first ≡ true
+      → ShowBars s.bars.boxing (length s.columns) t.band.below (OfRow cells (bars_at_end (length s.columns) format))
 
 -- a line of it comes
 pub record LineIsNext (bytes : List ℕ) (t : KeptTall) : Type 0 where
@@ -180,6 +184,7 @@ kept_by a = record {
   cells = a.cells.items;
   above = a.above.items;
   lines_left = a.lines_left;
+  is_first = a.is_first;
   band = kept_band a.band;
   line = kept_line a.line;
   come = a.come;

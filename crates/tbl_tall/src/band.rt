@@ -117,6 +117,14 @@ impl Band {
         push_shown(&mut self.above, cells, last_bars, boxing, 0);
     }
 
+    /// The line that stands below them stands above those that come.
+    pub fn turn(&mut self)
+        ensures above { self.new.above.items ≡ self.old.below.items }
+        ensures room { (many : ℕ) → HasRoom self.old many → HasRoom self.new many }
+    {
+        std::mem::swap(&mut self.above, &mut self.below);
+    }
+
     /// So many rules over the whole picture, and so many rows of rule keys, from one of all rows of
     /// formats on.
     pub fn set_lines(&mut self, wholes: usize, first: usize, count: usize)

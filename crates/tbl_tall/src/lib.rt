@@ -4,6 +4,7 @@
 
 mod band;
 pub mod band_laws;
+mod in_front;
 pub mod laws;
 mod lines_over;
 mod next_cells;

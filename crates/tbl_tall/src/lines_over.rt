@@ -1,36 +1,47 @@
 //! How far a cell goes on below its row (Lesk, "Tbl": Format).
 
-ghost use Rattle.std.specs.Prelude.{◌≡◌, ℕ, suc, ◌+◌, ◌*◌, ◌<◌, ◌≤◌, ◌^◌, List, drop, length, IfSome};
+ghost use Rattle.std.specs.Prelude.{◌≡◌, ℕ, suc, ◌+◌, ◌*◌, ◌<◌, ◌≤◌, ◌^◌, List, drop, length, IfSome, false};
 ghost use Rattle.tbl_format.specs.Cells.{end_of};
 ghost use Rattle.tbl_format.specs.RowsServed.{all_rows, row_at};
 ghost use Rattle.tbl_kept.specs.KeptHeights.{cell_below_kept};
 ghost use Rattle.tbl_kept.specs.Rows.{KeptElement};
-ghost use Rattle.tbl_kept.specs.RowsLaying.{element_at};
-ghost use Rattle.tbl_tall.specs.LinesOver.{lines_kept};
+ghost use Rattle.tbl_kept.specs.RowsLaying.{element_at, goes_on};
+ghost use Rattle.tbl_tall.specs.LinesOver.{NoneGoesOn, NoneOver, lines_kept};
 ghost use Rattle.tbl_tall.specs.RowsNext.{end_kept};
 ghost use Rattle.tbl_tall.specs.TallRows.{RowsLie};
 
 use tbl_format::cells::end_of;
+use tbl_format::format::FormatKey;
 use tbl_format::format_rows::FormatRows;
 use tbl_kept::rows::heights::rules_between;
 use tbl_kept::rows::{Lent, TableRows};
+use tbl_layout::entry::{Entry, EntryKind};
 
-/// How many lines of the picture a cell of a row has below it.
+/// How many lines of the picture a cell of a row has below it, where some cells of the row may go on
+/// in the next one, or none does.
+// It is called for each cell, and mostly is over at once.
+#[inline(always)]
 pub fn lines_over(
     rows: &TableRows,
     format: &FormatRows,
     is_inside: bool,
     element: usize,
     cell: usize,
+    is_over: bool,
 ) -> u128
     requires small { cell < 2 ^ 61 }
     requires at { element < length rows.now.elements }
     requires lie { RowsLie (all_rows format.now.format) rows.now }
+    requires over { is_over ≡ false → NoneOver (all_rows format.now.format)
+        (drop (suc element) rows.now.elements) }
     ensures value { (bytes : List ℕ) → result ≡ lines_kept bytes (all_rows format.now.format)
         is_inside (element_at rows.now.elements element) cell 0
         (drop (suc element) rows.now.elements) }
     ensures most { result < 2 ^ 127 }
 {
+    if !is_over {
+        return 0;
+    }
     rows.stay_few();
     let end = end_in(rows, format, element, cell);
     let mut row = element;
@@ -107,3 +118,45 @@ pub fn cell_under(
 fn stays_few(number: u32)
     ensures { number < 2 ^ 32 }
 {}
+
+/// Whether a cell of the first row behind an element may go on with one above it.
+pub fn may_go_on(rows: &TableRows, format: &FormatRows, element: usize) -> bool
+    requires at { element < length rows.now.elements }
+    requires lie { RowsLie (all_rows format.now.format) rows.now }
+    ensures { result ≡ false → NoneOver (all_rows format.now.format)
+        (drop (suc element) rows.now.elements) }
+{
+    rows.stay_few();
+    for at in element + 1..rows.count() {
+        match rows.element(at) {
+            Lent::Row(keys, _, _, entries) => {
+                return may_be_above(format.row_of_all(keys), entries);
+            }
+            Lent::Rule(_) => {}
+            Lent::Command(_, _) => (),
+        }
+    }
+    false
+}
+
+/// Whether a field of a row of these keys may be that of the cell above it.
+fn may_be_above(keys: &[FormatKey], entries: &[Entry]) -> bool
+    ensures { result ≡ false → NoneGoesOn keys.now entries.now }
+{
+    if entries.len() < keys.len() {
+        return true;
+    }
+    for at in 0..entries.len() {
+        if goes_on(entries[at]) {
+            return true;
+        }
+    }
+    false
+}
+
+/// Whether a field is that of the cell above.
+pub fn goes_on(entry: Entry) -> bool
+    ensures { result ≡ goes_on entry.kind }
+{
+    matches!(entry.kind, EntryKind::Above)
+}

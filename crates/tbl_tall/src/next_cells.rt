@@ -4,41 +4,39 @@
 ghost use Rattle.std.specs.List.{AllByRecursion};
 ghost use Rattle.std.specs.Option.{MatchOption};
 ghost use Rattle.std.specs.Prelude.{◌≡◌, ℕ, suc, ◌+◌, ◌-◌, ◌<◌, ◌≤◌, ◌^◌, [], ◌∷◌, List, Bool, drop, length};
-ghost use Rattle.std.specs.Prelude.{vec_capacity, None, Some, IfSome, is_some, map, ◌&&◌};
+ghost use Rattle.std.specs.Prelude.{vec_capacity, None, Some, IfSome, false, map};
 ghost use Rattle.tbl_format.specs.Cells.{cell_count, end_of};
 ghost use Rattle.tbl_format.specs.RowsServed.{all_rows, row_at};
 ghost use Rattle.tbl_format.specs.declared.format.FormatKey.{FormatKey};
 ghost use Rattle.tbl_format.specs.declared.format.Key.{Key};
+ghost use Rattle.tbl_kept.specs.KeptHeights.{field_kept};
 ghost use Rattle.tbl_kept.specs.Rows.{ElementLaid, elements_of};
-ghost use Rattle.tbl_kept.specs.RowsLaying.{element_at, goes_on};
+ghost use Rattle.tbl_kept.specs.RowsLaying.{element_at};
 ghost use Rattle.tbl_layout.specs.Entries.{Rule, key_at};
 ghost use Rattle.tbl_layout.specs.Heights.{lines_in};
 ghost use Rattle.tbl_layout.specs.KeptEntries.{IsLaid, Lies, content_of};
 ghost use Rattle.tbl_layout.specs.declared.entry.Entry.{Entry};
-ghost use Rattle.tbl_lines.specs.CellsLeft.{Left, all_keys, all_stopped, bars_at_end, cell_by};
+ghost use Rattle.tbl_lines.specs.CellsLeft.{Left, all_keys, all_stopped, cell_by};
 ghost use Rattle.tbl_lines.specs.CellsLeft.{keys_behind, nothing_left, own_field};
-ghost use Rattle.tbl_lines.specs.PictureLines.{frame_rules};
 ghost use Rattle.tbl_lines.specs.RowsLeft.{block_text};
 ghost use Rattle.tbl_lines.specs.RowsLent.{first_place};
 ghost use Rattle.tbl_line_cells.specs.KeptCells.{AllLeft, GoesOnBy, IsKeyAt, IsLeft, lead_by};
+ghost use Rattle.tbl_tall.specs.LinesOver.{NoneOver};
 ghost use Rattle.tbl_tall.specs.RowsNext.{GoesOnWith, HasKey, HasKeys, RowAbove, RowIsAt};
 ghost use Rattle.tbl_tall.specs.RowsNext.{above_kept, begun_kept, cell_kept, cells_by};
-ghost use Rattle.tbl_tall.specs.RowsNext.{rules_in_front};
 ghost use Rattle.tbl_tall.specs.TallRows.{RowsLie};
 ghost use Rattle.tbl_line_cells.specs.declared.cells.CellLeft.{CellLeft as OneCell};
 ghost use Rattle.tbl_text.specs.BlockPlaces.{IsWithin};
 
-use crate::lines_over::lines_over;
+use crate::lines_over::{goes_on, lines_over, may_go_on};
 use crate::stops::set_stops;
-use tbl_format::cells::{cell_count, columns_of, end_of};
+use tbl_format::cells::{cell_count, end_of};
 use tbl_format::format::{FormatKey, Key, Standing};
 use tbl_format::format_rows::FormatRows;
 use tbl_kept::rows::TableRows;
 use tbl_kept::rows::heights::lines_of;
-use tbl_layout::data_lines::RuleSign;
 use tbl_layout::entry::{Entry, EntryKind};
 use tbl_line_cells::cells::CellLeft;
-use tbl_options::options::Boxing;
 use tbl_text::block_parts::BlockPlace;
 
 /// A row among all elements, by its place, the row of the formats that serves it, how many rows of
@@ -127,13 +125,33 @@ fn fill_left(
     let keys = format.row_of_all(row.keys);
     let last_bars = format.bars_of_all(row.keys);
     let count = cell_count(keys, rows.columns().len());
+    let is_over = may_go_on(rows, format, row.at);
     for cell in 0..count {
         let key = key_of(keys, last_bars, cell);
-        cells.push_reserved(cell_of(cells_above, rows, format, is_inside, row, cell, key));
+        let field = rows.field_of(format, row.at, cell);
+        // Most cells begin with their rows.
+        if goes_on(field) {
+            let left = cell_of(
+                cells_above,
+                rows,
+                format,
+                is_inside,
+                row,
+                cell,
+                key,
+                is_over,
+            );
+            cells.push_reserved(left);
+        } else {
+            let begun = begun(rows, format, is_inside, row, cell, key, field, is_over);
+            cells.push_reserved(begun);
+        }
     }
 }
 
 /// One of them, which has this key.
+// Such a cell is rare.
+#[inline(never)]
 fn cell_of(
     cells_above: &[CellLeft],
     rows: &TableRows,
@@ -142,6 +160,7 @@ fn cell_of(
     row: RowComing,
     cell: usize,
     key: FormatKey,
+    is_over: bool,
 ) -> CellLeft
     requires lie { RowsLie (all_rows format.now.format) rows.now }
     requires row { RowIsAt rows.now.elements row }
@@ -150,6 +169,8 @@ fn cell_of(
     requires first { row.above ≡ None → cells_above.now ≡ [] }
     requires small { cell < 2 ^ 61 }
     requires come { AllByRecursion (λ (c : OneCell). c.rows < 2 ^ 63) cells_above.now }
+    requires over { is_over ≡ false → NoneOver (all_rows format.now.format)
+        (drop (suc row.at) rows.now.elements) }
     ensures left { (bytes : List ℕ) (above : List FormatKey) (lefts : List Left)
         → ElementLaid bytes (all_rows format.now.format) (length rows.now.columns)
         (element_at rows.now.elements row.at)
@@ -164,7 +185,10 @@ fn cell_of(
 {
     match left_above(cells_above, rows, format, row, cell) {
         Some(left) => left.gone_on(key),
-        None => begun(rows, format, is_inside, row, cell, key),
+        None => {
+            let field = rows.field_of(format, row.at, cell);
+            begun(rows, format, is_inside, row, cell, key, field, is_over)
+        }
     }
 }
 
@@ -206,13 +230,6 @@ fn left_above(
     }
 }
 
-/// Whether a field is that of the cell above.
-fn goes_on(entry: Entry) -> bool
-    ensures { result ≡ goes_on entry.kind }
-{
-    matches!(entry.kind, EntryKind::Above)
-}
-
 /// One of some cells, if there are so many.
 fn cell_at(cells: &[CellLeft], at: usize) -> Option<CellLeft>
     ensures left { (bytes : List ℕ) (lefts : List Left) (new : Left) → AllLeft bytes cells.now lefts
@@ -246,7 +263,9 @@ fn key_of(keys: &[FormatKey], last_bars: u8, cell: usize) -> FormatKey
     }
 }
 
-/// A cell that begins with its row.
+/// A cell that begins with its row, of which this is the field.
+// It is called for each cell.
+#[inline(always)]
 fn begun(
     rows: &TableRows,
     format: &FormatRows,
@@ -254,11 +273,17 @@ fn begun(
     row: RowComing,
     cell: usize,
     key: FormatKey,
+    field: Entry,
+    is_over: bool,
 ) -> CellLeft
     requires lie { RowsLie (all_rows format.now.format) rows.now }
     requires row { RowIsAt rows.now.elements row }
     requires at { row.at < length rows.now.elements }
     requires small { cell < 2 ^ 61 }
+    requires field { field ≡ field_kept (all_rows format.now.format) cell
+        (element_at rows.now.elements row.at) }
+    requires over { is_over ≡ false → NoneOver (all_rows format.now.format)
+        (drop (suc row.at) rows.now.elements) }
     ensures left { (bytes : List ℕ)
         → ElementLaid bytes (all_rows format.now.format) (length rows.now.columns)
         (element_at rows.now.elements row.at)
@@ -268,8 +293,8 @@ fn begun(
     ensures key { HasKey result key }
     ensures rows { result.rows ≡ 0 }
 {
-    let entry = own_entry(rows.field_of(format, row.at, cell));
-    let more = lines_over(rows, format, is_inside, row.at, cell);
+    let entry = own_entry(field);
+    let more = lines_over(rows, format, is_inside, row.at, cell, is_over);
     let place = first_place(entry);
     CellLeft {
         key,
@@ -350,43 +375,3 @@ pub fn fill_nothing(cells: &mut Vec<CellLeft>, columns: usize)
         });
     }
 }
-
-/// How many bars stand behind the last cell of a row.
-pub fn bars_at_end(rows: &TableRows, format: &FormatRows, keys: usize) -> u8
-    requires { keys < length (all_rows format.now.format) }
-    ensures { result ≡ bars_at_end (length rows.now.columns)
-        (row_at (all_rows format.now.format) keys) }
-{
-    if columns_of(format.row_of_all(keys)) < rows.columns().len() {
-        0
-    } else {
-        format.bars_of_all(keys)
-    }
-}
-
-/// How many rules stand in front of a row behind so many: a box adds one between rows where none
-/// stands, also none of rule keys.
-pub fn rules_in_front(boxing: Boxing, row: RowComing, rules: usize) -> usize
-    ensures value { result
-        ≡ rules_in_front (boxing.is_inside && is_some row.above) rules row.rules }
-    ensures most { result ≤ rules + 1 }
-{
-    if boxing.is_inside && row.above.is_some() && rules == 0 && row.rules == 0 {
-        1
-    } else {
-        rules
-    }
-}
-
-/// How many lines of rules a box adds above everything, and below.
-pub fn frame_lines(boxing: Boxing) -> usize
-    ensures value { result ≡ length (frame_rules boxing) }
-    ensures most { result ≤ 1 }
-{
-    if boxing.bars == 0 { 0 } else { 1 }
-}
-
-/// A number of 64 bits is less than 2 ^ 64.
-pub fn stays_within(number: usize)
-    ensures { number < 2 ^ 64 }
-{}

@@ -49,21 +49,22 @@ pub fn set_stops(cells: &mut [CellLeft], rows: &TableRows, format: &FormatRows, 
     let mut at = cells.len();
     while at > 0 {
         let last = at - 1;
-        cells[last] = stopped_cell(cells[last], rows, format, element, last, next);
+        let cell = &mut cells[last];
+        set_stop(cell, rows, format, element, last, next);
         next = first_from(cells, last, next);
         at = last;
     }
 }
 
 /// The same of one of them, behind which something stands next behind so many columns.
-fn stopped_cell(
-    cell: CellLeft,
+fn set_stop(
+    cell: &mut CellLeft,
     rows: &TableRows,
     format: &FormatRows,
     element: usize,
     at: usize,
     next: usize,
-) -> CellLeft
+)
     requires lie { RowsLie (all_rows format.now.format) rows.now }
     requires at { element < length rows.now.elements }
     requires row { IsRow (element_at rows.now.elements element) }
@@ -75,20 +76,20 @@ fn stopped_cell(
     ensures left { (bytes : List ℕ) (l : Left) (others : List Left)
         → AllByRecursion (ElementLaid bytes (all_rows format.now.format)
         (length rows.now.columns)) rows.now.elements
-        → IsLeft bytes cell l → next ≡ first_used (length rows.now.columns) l.key.end others
-        → IsLeft bytes result (stopped (length rows.now.columns)
+        → IsLeft bytes cell.old l → next ≡ first_used (length rows.now.columns) l.key.end others
+        → IsLeft bytes cell.new (stopped (length rows.now.columns)
         (format_kept (all_rows format.now.format) (element_at rows.now.elements element)).keys
         (elements_of bytes (all_rows format.now.format) (drop (suc element) rows.now.elements))
         at l others) }
-    ensures same { result ≡ record cell { stop = result.stop } }
+    ensures same { cell.new ≡ record cell.old { stop = cell.new.stop } }
 {
     if !cell.key.has_no_width {
-        return cell;
+        return;
     }
     if cell.goes_on() {
-        return cell;
+        return;
     }
-    cell.with_stop(stop_below(rows, format, element, at, next))
+    cell.stop = stop_below(rows, format, element, at, next);
 }
 
 /// Behind how many columns the first cell in which something stands begins, from this one on, where

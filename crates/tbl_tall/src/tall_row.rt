@@ -20,9 +20,8 @@ ghost use Rattle.tbl_line_cells.specs.LinesDrawn.{Draws, laid_row};
 ghost use Rattle.tbl_tall.specs.LinesOver.{heights_kept};
 
 use crate::band::Band;
-use crate::next_cells::{
-    RowComing, bars_at_end, fill_cells, fill_nothing, frame_lines, rules_in_front, stays_within,
-};
+use crate::in_front::{bars_at_end, frame_lines, rules_in_front, stays_within};
+use crate::next_cells::{RowComing, fill_cells, fill_nothing};
 use std::alloc::{AllocError, Global};
 use std::marker::Model;
 use tbl_format::format_rows::FormatRows;
@@ -47,6 +46,8 @@ pub struct TallRow {
     above: Vec<CellLeft>,
     /// How many lines it has still.
     lines_left: u32,
+    /// Whether none of its lines was given.
+    is_first: bool,
     band: Band,
     /// A line of the row, or a line of rules in front of it.
     line: LineCells,
@@ -81,6 +82,7 @@ impl TallRow {
             cells: Vec::with_capacity(alloc, columns)?,
             above: Vec::with_capacity(alloc, columns)?,
             lines_left: 0,
+            is_first: false,
             band: Band::new(alloc, columns)?,
             line: LineCells::new(alloc, columns)?,
             come: 0,
@@ -107,7 +109,7 @@ impl TallRow {
             columns: self.line.columns.as_slice(),
             entries: self.line.entries.as_slice(),
             height: 1,
-            is_plain: false,
+            is_plain: true,
             fronts: Some(self.line.fronts.as_slice()),
         }
     }
@@ -282,6 +284,7 @@ impl TallRow {
         );
         self.last_bars = bars_at_end(rows, format, row.keys);
         self.lines_left = row.height;
+        self.is_first = true;
         let wholes = rules_in_front(boxing, row, rules);
         self.band
             .set_lines(wholes, row.keys.saturating_sub(row.rules), row.rules);

@@ -6,15 +6,14 @@ ghost use Rattle.tbl_layout.specs.declared.entry.EntryKind.TheVariants.{Split, T
 ghost use Rattle.tbl_pieces.specs.Pieces.{bytes_of, piece_len};
 ghost use Rattle.tbl_pieces.specs.PieceQueue.{Adds, KeptPieces};
 ghost use Rattle.tbl_lines.specs.RowsLeft.{end_given, if_given};
-ghost use Rattle.tbl_lines.specs.RowsWalked.{IsBlock, IsEmptyOn, Repeats};
+ghost use Rattle.tbl_lines.specs.RowsWalked.{IsBlock, IsEmptyOn};
 ghost use Rattle.tbl_picture.specs.Nexts.{AtCell, AtLine};
 
 use super::fronts::{count_given, next_column};
 use super::{Next, Walk};
 use roff_escape::OpenEscapes;
-use tbl_layout::data_lines::{RuleSign, sign_byte};
 use tbl_layout::entry::{EntryKind, SplitEntry};
-use tbl_lines::row_columns::{RowColumn, block_bytes, column_at, column_behind};
+use tbl_lines::row_columns::{RowColumn, block_bytes, column_at};
 use tbl_lines::row_lent::RowLent;
 use tbl_pieces::piece_queue::PieceQueue;
 use tbl_pieces::pieces::Piece;
@@ -128,16 +127,6 @@ impl Walk {
         column_at(row, self.places.as_slice(), self.behind.len())
     }
 
-    /// The column at which the walk stands, also behind the last field.
-    fn any_column(&self, row: &RowLent<'_>) -> RowColumn
-        requires lies { LiesInColumns row.now }
-        requires line { InLine (lent_row row.now) self.now }
-        requires left { length self.now.behind < length (lent_entries row.now) }
-        ensures { AtColumn (lent_row row.now) self.now result }
-    {
-        column_behind(row, self.places.as_slice(), self.behind.len())
-    }
-
     /// Whether that column has a field in it.
     // It is called for each cell.
     #[inline(always)]
@@ -182,47 +171,15 @@ impl Walk {
             EntryKind::Text(glyphs, width) => self.give_text(pieces, row, glyphs, width),
             EntryKind::Split(split) => self.give_split(pieces, row, split),
             EntryKind::Block(_) => self.begin_block_line(pieces, escapes, row),
-            EntryKind::Ruled(sign) => {
-                let held = self.column(row);
-                self.give_repeated(pieces, row, held, sign_byte(sign), held.rule_width());
-            }
-            EntryKind::Short => {
-                let held = self.column(row);
-                let count = held.column.needs.widest_entry();
-                self.give_repeated(pieces, row, held, sign_byte(RuleSign::Single), count);
-            }
-            EntryKind::Repeated(byte) => {
-                let held = self.column(row);
-                self.give_repeated(pieces, row, held, byte, held.column.width);
-            }
+            EntryKind::Ruled(sign) => self.give_rule_over(pieces, row, sign),
+            EntryKind::Short => self.give_short_rule(pieces, row),
+            EntryKind::Repeated(byte) => self.give_byte(pieces, row, byte),
             EntryKind::Above => self.pass_empty(row),
         }
     }
 
-    /// A cell of the line behind the last field: the rule of a rule key, or nothing.
-    // Such a cell is rare.
-    #[inline(never)]
-    fn give_unfilled(&mut self, pieces: &mut PieceQueue, row: &RowLent<'_>)
-        requires lies { LiesInColumns row.now }
-        requires next { self.old.next ≡ AtCell }
-        requires line { InLine (lent_row row.now) self.old }
-        requires left { length self.old.behind < length (lent_entries row.now) }
-        requires unfilled { length row.now.entries.now ≤ length self.old.behind }
-        requires room { pieces.old.taken + 4 ≤ pieces.old.room }
-        ensures { (frame : List ℕ)
-            → RowSteps frame (lent_row row.now) self.old self.new pieces.old pieces.new }
-    {
-        let held = self.any_column(row);
-        match held.entry.kind {
-            EntryKind::Ruled(sign) => {
-                self.give_repeated(pieces, row, held, sign_byte(sign), held.rule_width());
-            }
-            _ => self.pass_empty(row),
-        }
-    }
-
     /// Nothing of a column's field stands on the line.
-    fn pass_empty(&mut self, row: &RowLent<'_>)
+    pub(super) fn pass_empty(&mut self, row: &RowLent<'_>)
         requires next { self.old.next ≡ AtCell }
         requires line { InLine (lent_row row.now) self.old }
         requires left { length self.old.behind < length (lent_entries row.now) }
@@ -292,31 +249,6 @@ impl Walk {
             Piece::Block(split.behind as usize, to as usize),
         );
         self.pass(row, held.place, at, split.width as usize);
-    }
-
-    /// A byte that is repeated so often, on the first line of its row.
-    fn give_repeated(
-        &mut self,
-        pieces: &mut PieceQueue,
-        row: &RowLent<'_>,
-        held: RowColumn,
-        byte: u8,
-        count: usize,
-    )
-        requires next { self.old.next ≡ AtCell }
-        requires at { AtColumn (lent_row row.now) self.old held }
-        requires repeats { Repeats byte count held }
-        requires room { pieces.old.taken + 4 ≤ pieces.old.room }
-        ensures { (frame : List ℕ)
-            → RowSteps frame (lent_row row.now) self.old self.new pieces.old pieces.new }
-    {
-        if self.line != 0 {
-            return self.skip(row, held.place);
-        }
-        let at = held.begins_at();
-        give(pieces, self.count, Piece::Blanks(self.gap_to(at)));
-        give(pieces, self.count, Piece::Repeated(byte, count));
-        self.pass(row, held.place, at, count);
     }
 
     /// The line of a block begins, or the block has none there.

@@ -79,12 +79,14 @@ impl TallRow {
         keep_bars(
             &mut self.band,
             self.lines_left,
+            self.is_first,
             self.cells.as_slice(),
             self.last_bars,
             boxing,
         );
         pass_cells(self.cells.as_mut_slice(), escapes, bytes, false);
         self.lines_left = one_less(self.lines_left);
+        self.is_first = false;
         self.lines_left > 0
     }
 
@@ -222,35 +224,52 @@ fn pass_cells(cells: &mut [CellLeft], escapes: &mut OpenEscapes, bytes: &[u8], i
     ensures room { escapes.new.room ≡ escapes.old.room }
 {
     for at in 0..cells.len() {
-        cells[at] = pass_cell(cells[at], escapes, bytes, is_rule);
+        let cell = &mut cells[at];
+        pass_cell(cell, escapes, bytes, is_rule);
     }
 }
 
 /// The same of one of them.
-fn pass_cell(cell: CellLeft, escapes: &mut OpenEscapes, bytes: &[u8], is_rule: bool) -> CellLeft
-    requires kept { IsKept bytes.now cell }
-    ensures left { (l : Left) → IsLeft bytes.now cell l → IsLeft bytes.now result (passed is_rule l) }
-    ensures rows { result.rows ≡ cell.rows }
+fn pass_cell(cell: &mut CellLeft, escapes: &mut OpenEscapes, bytes: &[u8], is_rule: bool)
+    requires kept { IsKept bytes.now cell.old }
+    ensures left { (l : Left) → IsLeft bytes.now cell.old l
+        → IsLeft bytes.now cell.new (passed is_rule l) }
+    ensures rows { cell.new.rows ≡ cell.old.rows }
     ensures room { escapes.new.room ≡ escapes.old.room }
 {
     if is_rule && !cell.goes_on() {
-        return cell;
+        return;
     }
-    cell.behind_line(escapes, bytes)
+    cell.pass_line(escapes, bytes);
 }
 
-/// The bars of a row's last line are kept, if of so many lines that is the next one.
-fn keep_bars(band: &mut Band, lines: u32, cells: &[CellLeft], last_bars: u8, boxing: Boxing)
+/// The bars of a row's last line are kept, if of so many lines that is the next one. Those of its
+/// first line are kept below the lines of rules.
+fn keep_bars(
+    band: &mut Band,
+    lines: u32,
+    is_first: bool,
+    cells: &[CellLeft],
+    last_bars: u8,
+    boxing: Boxing,
+)
     requires cells { AreCells 0 (keys_in cells.now) }
     requires some { 0 < length cells.now }
     requires small { columns_of (keys_in cells.now) < 2 ^ 32 }
     requires room { BandHasRoom band.old (columns_of (keys_in cells.now)) }
     ensures above { lines ≡ 1 → (bytes : List ℕ) (lefts : List Left) → AllLeft bytes cells.now lefts
+        → (is_first ≡ true → ShowBars boxing (columns_of (keys_in cells.now))
+        band.old.below.items (OfRow lefts last_bars))
         → ShowBars boxing (columns_of (keys_in cells.now)) band.new.above.items
         (OfRow lefts last_bars) }
     ensures room { (many : ℕ) → BandHasRoom band.old many → BandHasRoom band.new many }
 {
-    if lines == 1 {
+    if lines != 1 {
+        return;
+    }
+    if is_first {
+        band.turn();
+    } else {
         band.begin(cells, last_bars, boxing);
     }
 }

@@ -1,13 +1,13 @@
 use Rattle.std.proofs.Common.{◌<◌, sym, ◌∙◌, arith}
-use Rattle.tbl_line_cells.proofs.LaidShown.{ends-itself, laid-shown, lead-stays, nothing-shown}
+use Rattle.tbl_line_cells.proofs.LaidShown.{lead-stays, nothing-shown}
 use Rattle.tbl_line_cells.proofs.laid_cells.laid.Goals as goal
 
 pub returns-else-runs_on : goal.returns-else-runs_on
 returns-else-runs_on c = λ bytes l is.
-    let cell = c.args.cell in
-    let stays = sym (c.runs_on.ensures bytes l is) ∙ c.if-runs_on.false in
-    laid-shown bytes cell c.args.column c.args.end is.laid l c.text_at-in_default.result is (omega (arith, c.if-cell-gt0.false))
-    (ends-itself cell.entry.kind c.in_default.not-Ruled) c.requires.narrow stays (c.text_at-in_default.ensures bytes l c.args.end is stays)
+    c.laid_within.ensures.shown bytes l c.args.end is (sym (c.runs_on.ensures bytes l is) ∙ c.if-runs_on.false)
+
+pub laid_within-requires-clause-other : goal.laid_within-requires-clause-other
+laid_within-requires-clause-other c = c.in_default.not-Ruled
 
 pub returns-then-runs_on : goal.returns-then-runs_on
 returns-then-runs_on c = λ bytes l is.

@@ -85,3 +85,7 @@ loop-at-preserved c =
         | in-Command w ↦ omega (arith, w.lines-is, i.most)
       ];
     }
+
+pub returns-then-not-is_over-clause-value : goal.returns-then-not-is_over-clause-value
+returns-then-not-is_over-clause-value c = λ bytes.
+    sym (c.requires.over c.if-not-is_over.true bytes c.args.is_inside (element_at c.args.rows.now.elements c.args.element) c.args.cell 0)

@@ -31,9 +31,9 @@ returns-clause-left c = λ bytes laid letter.
     } in
     subst (λ (e : KeptElement). IsLeft bytes made (begun_kept bytes formats c.args.is_inside e es c.args.cell c.args.key)) (sym there)
     (begun-is bytes formats (length c.args.rows.now.columns) c.args.is_inside r.keys r.rules r.height c.requires.row.entries es
-    c.args.cell c.args.key c.field_of.result c.own_entry-entry.result c.first_place-place.result c.lines_over-more.result c.lead_of.result c.is_used.result
+    c.args.cell c.args.key c.args.field c.own_entry-entry.result c.first_place-place.result c.lines_over-more.result c.lead_of.result c.is_used.result
     (subst (λ (e : KeptElement). ElementLaid bytes formats (length c.args.rows.now.columns) e) there laid) letter
-    (c.field_of.ensures ∙ ap (λ (e : KeptElement). field_kept formats c.args.cell e) there)
+    (c.requires.field ∙ ap (λ (e : KeptElement). field_kept formats c.args.cell e) there)
     (c.own_entry-entry.ensures.field bytes) (c.own_entry-entry.ensures.lies bytes) (c.own_entry-entry.ensures.laid bytes)
     (c.lines_over-more.ensures.value bytes ∙ ap (λ (e : KeptElement). lines_kept bytes formats c.args.is_inside e c.args.cell 0 es) there)
     (λ key own. rw c.from.ensures at (c.lead_of.ensures bytes key own))

@@ -32,8 +32,8 @@ loop-at-init c =
       within = omega arith;
     }
 
-pub stopped_cell-requires-clause-few : goal.stopped_cell-requires-clause-few
-stopped_cell-requires-clause-few c =
+pub set_stop-requires-clause-few : goal.set_stop-requires-clause-few
+set_stop-requires-clause-few c =
     let n = length c.args.rows.now.columns in
     let formats = all_rows c.args.format.now.format in
     let e = element_at c.args.rows.now.elements c.args.element in
@@ -49,8 +49,8 @@ stopped_cell-requires-clause-few c =
       c.requires.small,
     )
 
-pub stopped_cell-requires-clause-end : goal.stopped_cell-requires-clause-end
-stopped_cell-requires-clause-end c =
+pub set_stop-requires-clause-end : goal.set_stop-requires-clause-end
+set_stop-requires-clause-end c =
     let n = length c.args.rows.now.columns in
     let at = c.loop-at.at - 1 in
     let formats = all_rows c.args.format.now.format in
@@ -73,7 +73,7 @@ loop-at-preserved c =
     let old = c.args.cells.now in
     let n = length c.args.rows.now.columns in
     let at = c.loop-at.at - 1 in
-    let new = c.stopped_cell.result in
+    let new = c.set_stop.new.cell in
     let now = set cells at new in
     let formats = all_rows c.args.format.now.format in
     let e = element_at c.args.rows.now.elements c.args.element in
@@ -84,7 +84,7 @@ loop-at-preserved c =
     let next : c.loop-at.at ≡ suc at = omega (arith, c.loop-at-test.true) in
     let some : at < length cells = omega (arith, c.loop-at-test.true, i.within, same-many cells old i.same) in
     let some_now : at < length now = omega (arith, some, length-set cells at new) in
-    let same = same-set cells old at _ new some (same-of new _ c.stopped_cell.ensures.same) i.same in
+    let same = same-set cells old at _ new some (same-of new _ c.set_stop.ensures.same) i.same in
     record {
       left = λ bytes lefts laid all.
           let elements = elements_of bytes formats es in
@@ -92,7 +92,7 @@ loop-at-preserved c =
           (λ m l others here left first.
           let same_cell : at ≡ m = omega (arith, here) in
           subst (λ (k : ℕ). IsLeft bytes new (stopped n names elements k l others)) same_cell
-          (c.stopped_cell.ensures.left bytes l others laid left first))
+          (c.set_stop.ensures.left bytes l others laid left first))
           (subst (λ (k : ℕ). c.loop-at.next ≡ first_behind n 0 k lefts) next (i.first bytes lefts all))
           (subst (λ (k : ℕ). AllLeft bytes cells (stopped_from n names elements k 0 lefts)) next (i.left bytes lefts laid all));
       first = λ bytes lefts all.

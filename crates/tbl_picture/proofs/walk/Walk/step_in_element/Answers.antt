@@ -32,7 +32,6 @@ steps_in_row-has_ended-requires-clause-lies c =
           (subst (AreWithin (length rows.columns)) (sym c.row_of_all-row_keys.ensures.keys) laid.cells);
       narrow = subst AreNarrow columns can.narrow;
       few = omega (arith, ap length c.columns.ensures, can.room, ap (λ (k : KeptWalk). k.room) c.self.view_is, small);
-      by_keys = λ _. refl;
       fronts = tt;
       plain = λ is. sym c.columns_of.ensures.value ∙ eqb-true c.columns_of.result (length keys) is;
     }

@@ -1,4 +1,4 @@
-use Rattle.std.proofs.Common.{◌≡◌, ◌+◌, ◌<◌, ◌≤◌, ℕ, List, length, map, refl, sym, ap, subst, ◌∙◌, arith}
+use Rattle.std.proofs.Common.{◌≡◌, ◌+◌, ◌<◌, ◌≤◌, ℕ, true, List, length, map, refl, sym, ap, subst, ◌∙◌, arith}
 use Rattle.std.specs.List.{AllByRecursion}
 use Rattle.tbl_format.specs.Format.{columns_of}
 use Rattle.tbl_format.specs.RowsServed.{all_rows, row_at}
@@ -65,6 +65,7 @@ returns-clause-comes c = λ bytes s keys lefts beside all stand above then_come.
       cells = cells;
       above = a.above.items;
       lines_left = c.args.row.height;
+      is_first = true;
       band = kept_band c.end.new.self;
       line = kept_line a.line;
       come = a.come;

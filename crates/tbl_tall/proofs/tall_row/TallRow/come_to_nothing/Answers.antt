@@ -59,6 +59,7 @@ returns-clause-comes c = λ bytes formats boxing rows s lefts beside heights key
       cells = c.fill_nothing.new.cells.items;
       above = a.above.items;
       lines_left = 0;
+      is_first = a.is_first;
       band = kept_band c.end_nothing.new.self;
       line = kept_line a.line;
       come = a.come;

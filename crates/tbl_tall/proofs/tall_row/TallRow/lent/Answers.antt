@@ -1,6 +1,6 @@
 use Rattle.std.proofs.Common.{List, length, ap, ◌∙◌, arith}
 use Rattle.tbl_layout.specs.declared.columns.Column.{Column}
-use Rattle.tbl_tall.proofs.LinesLent.{entries-own, fronts-own, narrow-own, row-own, within-own}
+use Rattle.tbl_tall.proofs.LinesLent.{entries-own, fronts-own, narrow-own, plain-own, row-own, within-own}
 use Rattle.tbl_tall.proofs.tall_row.TallRow.lent.Goals as goal
 use Rattle.tbl_tall.specs.TallRows.{KeptTall}
 
@@ -17,8 +17,9 @@ returns-clause-lies c = λ text draws.
       narrow = narrow-own c.args.bytes.now c.args.bars c.args.width line text draws c.as_slice.result.now c.as_slice-2.result.now
           c.as_slice-3.result.now c.as_slice-4.result.now keys columns entries fronts;
       few = omega (arith, draws.few, ap (λ (cs : List Column). length cs) columns);
-      plain = λ is. absurd cc;
-      by_keys = λ is. absurd cc;
+      plain = λ is.
+          plain-own c.args.bytes.now c.args.bars c.args.width line text draws c.as_slice.result.now c.as_slice-2.result.now
+          c.as_slice-3.result.now c.as_slice-4.result.now keys columns entries fronts;
       fronts = fronts-own c.args.bytes.now c.args.bars c.args.width line text draws c.as_slice.result.now c.as_slice-2.result.now
           c.as_slice-3.result.now c.as_slice-4.result.now keys columns entries fronts;
     }

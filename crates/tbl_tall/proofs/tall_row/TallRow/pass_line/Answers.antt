@@ -1,4 +1,4 @@
-use Rattle.std.proofs.Common.{◌≤◌, ℕ, List, length, refl, sym, subst, ◌∙◌, arith}
+use Rattle.std.proofs.Common.{◌≤◌, ℕ, false, List, length, refl, sym, subst, ◌∙◌, arith}
 use Rattle.std.proofs.lemmas.List.{with_items_is}
 use Rattle.std.specs.List.{AllByRecursion}
 use Rattle.tbl_format.specs.Format.{columns_of}
@@ -85,6 +85,7 @@ returns-clause-stands c = λ s format cells more stands.
       cells = c.pass_cells.new.cells;
       above = a.above.items;
       lines_left = c.one_less-self-inside.result;
+      is_first = false;
       band = kept_band c.keep_bars.new.band;
       line = kept_line a.line;
       come = a.come;
@@ -92,7 +93,7 @@ returns-clause-stands c = λ s format cells more stands.
     } in
     rw written (line-passed c.args.bytes.now s (kept_by a) new format cells more here
     (c.pass_cells.ensures.left cells (subst (λ (cs : List CellLeft). AllLeft c.args.bytes.now cs cells) (sym c.as_mut_slice.ensures.value) here.left))
-    c.one_less-self-inside.ensures refl refl)
+    c.one_less-self-inside.ensures refl refl refl)
 
 pub returns-clause-ended : goal.returns-clause-ended
 returns-clause-ended c = λ s format cells boxed places stands.
@@ -106,6 +107,7 @@ returns-clause-ended c = λ s format cells boxed places stands.
       cells = c.pass_cells.new.cells;
       above = a.above.items;
       lines_left = c.one_less-self-inside.result;
+      is_first = false;
       band = kept_band c.keep_bars.new.band;
       line = kept_line a.line;
       come = a.come;
@@ -113,7 +115,11 @@ returns-clause-ended c = λ s format cells boxed places stands.
     } in
     let has = left-has bytes a.cells.items cells (all_keys n format) here.left here.keys.bars here.keys.ends in
     let all = (cover-all n format a.cells.items here.within has).all in
-    let shown = (rw c.as_slice.ensures.value at c.keep_bars.ensures.above) here.height bytes cells here.left in
+    let kept = (rw c.as_slice.ensures.value at c.keep_bars.ensures.above) here.height bytes cells here.left in
+    let shown = kept (λ is.
+    subst (λ (last : ℕ). ShowBars c.args.boxing (columns_of (keys_in a.cells.items)) a.band.below.items (OfRow cells last)) (sym here.last)
+    (subst (λ (m : ℕ). ShowBars c.args.boxing m a.band.below.items (OfRow cells (bars_at_end n format))) (sym all)
+    (subst (λ (b : Boxing). ShowBars b n a.band.below.items (OfRow cells (bars_at_end n format))) boxed (here.first is)))) in
     rw written (row-ended bytes s (kept_by a) new format cells here places
     (c.pass_cells.ensures.left cells (subst (λ (cs : List CellLeft). AllLeft bytes cs cells) (sym c.as_mut_slice.ensures.value) here.left))
     (subst (λ (b : Boxing). ShowBars b n new.band.above (OfRow cells (bars_at_end n format))) (sym boxed)

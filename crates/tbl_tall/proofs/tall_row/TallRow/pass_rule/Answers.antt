@@ -80,6 +80,7 @@ returns-clause-comes c = λ s heights cells above elements rest line boxed comes
       cells = c.pass_cells.new.cells;
       above = a.above.items;
       lines_left = a.lines_left;
+      is_first = a.is_first;
       band = kept_band c.pass.new.self;
       line = kept_line a.line;
       come = a.come;

@@ -21,7 +21,7 @@ loop-at-preserved c =
     let i = c.loop-at.invariant in
     let at = c.loop-at.at in
     let cells = c.loop-at.cells in
-    let new = c.pass_cell.result in
+    let new = c.pass_cell.new.cell in
     let next : suc at ≡ at + 1 = omega arith in
     let some : at < length cells = omega (arith, c.loop-at-test.true, i.many) in
     record {
