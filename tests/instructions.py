@@ -6,9 +6,10 @@
 
 A document of 60 KB of each kind (bench/make_text.py) is formatted under callgrind, and one of the same kind without text, which is
 taken away. What is stored stands in tests/instructions.txt: a kind, and its instructions. More by a twentieth than there is a
-failure, and so are fields that take more than half as much again as tabs, and tables with boxes that take more than 250 a byte; the
-exit status is 1 then. Fewer is told too, so that a new count can be stored. The count is the same in each run of a program, whatever
-else the machine does; C libraries differ by less than a hundredth. It wants valgrind, and takes half a minute.
+failure, and so are fields that take more than half as much again as tabs, tables with boxes that take more than 250 a byte, and those
+with spans that take more than 200; the exit status is 1 then. Fewer is told too, so that a new count can be stored. The count is the
+same in each run of a program, whatever else the machine does; C libraries differ by less than a hundredth. It wants valgrind, and
+takes half a minute.
 """
 import os
 import pathlib
@@ -32,8 +33,8 @@ KINDS = {"text": "nroff", "requests": "nroff", "registers": "nroff", "macros": "
 MORE = 1.05
 # As much as tabs that open fields may take beside those that open none.
 MOST_OF_FIELDS = 1.5
-# As many instructions a byte as tables with boxes may take.
-MOST_OF_BOXES = 250
+# As many instructions a byte as tables with boxes, and with spans, may take.
+MOST_OF_TABLES = {"boxes": 250, "spans": 200}
 
 
 def count_of(program, command, kind, size, folder):
@@ -82,9 +83,10 @@ def main():
     fields = counts["fields"] / counts["tabs"]
     failures += fields > MOST_OF_FIELDS
     print(f"fields take {fields:.2f} times as much as tabs{'  too many' if fields > MOST_OF_FIELDS else ''}")
-    boxes = counts["boxes"] / SIZE
-    failures += boxes > MOST_OF_BOXES
-    print(f"boxes take {boxes:.1f} instructions a byte, and may take {MOST_OF_BOXES}{'  too many' if boxes > MOST_OF_BOXES else ''}")
+    for kind, most in MOST_OF_TABLES.items():
+        taken = counts[kind] / SIZE
+        failures += taken > most
+        print(f"{kind} take {taken:.1f} instructions a byte, and may take {most}{'  too many' if taken > most else ''}")
     print(f"{len(counts)} kinds, {failures} failures")
     sys.exit(1 if failures else 0)
 
