@@ -3,7 +3,7 @@
 
     bench/pages.py
 
-The program of crates/pages_bench does each work, which its head explains. Where it is missing or older than its
+The program of crates/bench_pages does each work, which its head explains. Where it is missing or older than its
 sources, it is proved and built first. With callgrind (of valgrind) the table has instructions a call, and what is wanted:
 those of 21,000 calls less those of 1,000, so that the start counts nowhere. Without it, it has nanoseconds a call: the
 best time of three for 5,000,000 calls, less the best for none. It takes about ten seconds.
@@ -18,8 +18,8 @@ import time
 sys.dont_write_bytecode = True
 import built
 
-CRATE = "pages_bench"
-BELOW = ("roff_num", "roff_layout", "roff_lines", "roff_sinks", "roff_pages")
+CRATE = "bench_pages"
+BELOW = ("roff_num", "page_model", "roff_lines", "page_bytes", "roff_pages")
 PROGRAM = built.program_of(CRATE)
 
 FEW, MANY = 1_000, 21_000

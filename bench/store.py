@@ -3,7 +3,7 @@
 
     bench/store.py
 
-The program of crates/store_bench does each work, which its head explains. Where it is missing or older than its
+The program of crates/bench_store does each work, which its head explains. Where it is missing or older than its
 sources, it is proved and built first. All works take turns, three times each, and the best time counts; the best time
 of the same work done no times is taken away. It takes about ten seconds.
 """
@@ -14,7 +14,7 @@ import time
 sys.dont_write_bytecode = True
 import built
 
-CRATE = "store_bench"
+CRATE = "bench_store"
 BELOW = ("roff_num", "roff_store")
 PROGRAM = built.program_of(CRATE)
 

@@ -28,7 +28,7 @@ PAIRS = {"(": ")", "[": "]", "{": "}"}
 VISIBILITY = re.compile(r"pub\b(?:\s*\([^)]*\))?\s*")
 FUNCTION = re.compile(r"(?:const\s+|unsafe\s+)*fn\s+(\w+)")
 # Where a name is found: `crate::strand::Strand` is `Strand`, and `roff_num::Name` is `Name`.
-PATH = re.compile(r"\b(?:crate|self|super|roff_\w+)::(?:[a-z_]\w*::)*(?=\w)")
+PATH = re.compile(r"\b(?:crate|self|super|(?:roff|input|page|run|read|law|tbl|cli|test|bench)_\w+)::(?:[a-z_]\w*::)*(?=\w)")
 
 Item = collections.namedtuple("Item", "name is_public signature clauses")
 

@@ -13,7 +13,7 @@ import pathlib
 import re
 
 CRATES = pathlib.Path(__file__).resolve().parent.parent / "crates"
-INPUT_AHEAD = "roff_ahead/src/input_ahead.rt"
+INPUT_AHEAD = "input_ahead/src/input_ahead.rt"
 
 # How often each file has such a value.
 WRITTEN = {

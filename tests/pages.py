@@ -2,9 +2,9 @@
 """Makes calls by chance on pages, and compares what they write and answer with a plain model.
 
     tests/pages.py [LISTS [CALLS]]        # 200 lists of 300 calls, if nothing else is said
-    tests/pages.py --store                # writes the stored run of crates/pages_calls anew
+    tests/pages.py --store                # writes the stored run of crates/test_pages anew
 
-The program is crates/pages_calls, whose head says what it reads and tells; build it first, by `rt run` in its folder. The
+The program is crates/test_pages, whose head says what it reads and tells; build it first, by `rt run` in its folder. The
 model here keeps lists of boxes, and goes over all traps each time. The lists are the same in each run. Limits are
 small or 0, sinks fail behind some bytes, and some numbers are as large as they may be.
 """
@@ -14,7 +14,7 @@ import subprocess
 import sys
 
 TOP = pathlib.Path(__file__).resolve().parent.parent
-CRATE = TOP / "crates" / "pages_calls"
+CRATE = TOP / "crates" / "test_pages"
 MOST, GREATEST = 1 << 33, 2147483647
 BLANKS = {"_": " ", "%": "\x01", "~": "\x00", "^": "\x02"}
 NAMES = ["a", "b", "FO", "HD", "XX"]
@@ -327,7 +327,7 @@ def sweeps():
 def run(lines):
     """What the program writes."""
     given = "".join(line + "\n" for line in lines).encode()
-    return subprocess.run([CRATE / "out" / "pages_calls"], input=given, stdout=subprocess.PIPE, check=True).stdout
+    return subprocess.run([CRATE / "out" / "test_pages"], input=given, stdout=subprocess.PIPE, check=True).stdout
 
 
 def modelled(lines):

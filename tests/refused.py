@@ -21,7 +21,7 @@ import tempfile
 
 TOP = pathlib.Path(__file__).resolve().parent.parent
 PROGRAM = TOP / "crates" / "roff" / "out" / "roff"
-DOCUMENT = TOP / "crates" / "roff_rows" / "data" / "examples" / "first.roff"
+DOCUMENT = TOP / "crates" / "test_rows" / "data" / "examples" / "first.roff"
 MEMORY = b"roff: out of memory\n"
 FAILURES = re.compile(rb"(nroff|tbl): line \d+: (read|write) failed\n")
 

@@ -3,7 +3,7 @@
 #
 #     tests/rows.sh [--program PROGRAM] [--data FOLDER] [NAME ..]
 #
-# PROGRAM is crates/roff/out/roff if none is given, and FOLDER crates/roff_rows/data. NAME is a row or a
+# PROGRAM is crates/roff/out/roff if none is given, and FOLDER crates/test_rows/data. NAME is a row or a
 # folder of rows. A row is a document NAME.roff, with its output in NAME.txt, its messages in
 # NAME.messages, its exit status in NAME.status and the words of the command line in NAME.args; where
 # NAME.source says "fails", a folder is read behind it. What isn't there is usual: no output, no messages,
@@ -12,7 +12,7 @@
 
 top=$(CDPATH='' cd -P -- "$(dirname -- "$0")/.." && pwd -P) || exit 1
 program=$top/crates/roff/out/roff
-data=$top/crates/roff_rows/data
+data=$top/crates/test_rows/data
 while :; do
     case ${1-} in
         --program) program=$(realpath -- "${2:?}") ;;

@@ -23,7 +23,7 @@ import tempfile
 
 TOP = pathlib.Path(__file__).resolve().parent.parent
 PROGRAM = TOP / "crates" / "roff" / "out" / "roff"
-DATA = TOP / "crates" / "roff_rows" / "data"
+DATA = TOP / "crates" / "test_rows" / "data"
 OF_TEXT = ("bytes", "store", "stack", "depth", "names", "line", "environments", "conditions", "traps", "diversions", "output",
            "messages")
 OF_TABLES = ("rows", "columns", "text", "width")

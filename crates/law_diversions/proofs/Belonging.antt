@@ -1,31 +1,31 @@
 -- Where what happens is put: in the innermost open diversion, or on the page.
 use Rattle.std.proofs.Common.{◌≡◌, Bool, true, false, not, ◌||◌, List, [], ◌∷◌, ◌++◌, Option, Some, None, arith, append-nil, refl, sym, ◌∙◌, ap, subst}
 use Rattle.std.specs.Prelude.{is_some, nat_le, if◌then◌else◌}
-use Rattle.roff_layout.specs.DeviceText.{device_lines, device_text}
-use Rattle.roff_layout.specs.DivertedText.{diverted_lines, diverted_text}
-use Rattle.roff_layout.specs.DueTexts.{TextDue, bytes_due, text_due}
-use Rattle.roff_layout.specs.Happenings.{Happening, Does, Places, Titles, is_eject}
-use Rattle.roff_layout.specs.Layout.{Box, Diversion, Layout, page_place}
-use Rattle.roff_layout.specs.Lines.{Finished}
-use Rattle.roff_layout.specs.Puts.{Put, appended, puts}
-use Rattle.roff_layout.specs.Stops.{is_diverted}
-use Rattle.roff_layout.specs.Turning.{behind_put, in_innermost, next_behind, no_space_behind, page_begun, turned_if_full, turned_unless}
-use Rattle.roff_layout.specs.Words.{is_empty}
-use Rattle.roff_layout.specs.declared.layout_event.LayoutEvent.TheVariants.{Space, Need, Close, Divert, EndDivert}
+use Rattle.page_model.specs.DeviceText.{device_lines, device_text}
+use Rattle.page_model.specs.DivertedText.{diverted_lines, diverted_text}
+use Rattle.page_model.specs.DueTexts.{TextDue, bytes_due, text_due}
+use Rattle.page_model.specs.Happenings.{Happening, Does, Places, Titles, is_eject}
+use Rattle.page_model.specs.Layout.{Box, Diversion, Layout, page_place}
+use Rattle.page_model.specs.Lines.{Finished}
+use Rattle.page_model.specs.Puts.{Put, appended, puts}
+use Rattle.page_model.specs.Stops.{is_diverted}
+use Rattle.page_model.specs.Turning.{behind_put, in_innermost, next_behind, no_space_behind, page_begun, turned_if_full, turned_unless}
+use Rattle.page_model.specs.Words.{is_empty}
+use Rattle.page_model.specs.declared.layout_event.LayoutEvent.TheVariants.{Space, Need, Close, Divert, EndDivert}
 use Rattle.roff_num.specs.declared.limit.Limit.{Limit}
 use Rattle.roff_num.specs.declared.limits.Limits.{Limits}
 use Rattle.roff_num.specs.declared.short_name.ShortName.{ShortName}
-use Rattle.roff_run.specs.Following.{following, text_behind}
-use Rattle.roff_run.specs.Layouts.{happens, laid_out, layout_of}
-use Rattle.roff_run.specs.Output.{text_laid, written}
-use Rattle.roff_run.specs.PageEvents.{PageEvent, PastEvent}
-use Rattle.roff_run.specs.Run.{Following, State, done_if, performed, performing, step_behind, step_with, unless_refused, with_left}
-use Rattle.roff_run.specs.Run.Counts.{refusal}
-use Rattle.roff_run.specs.Springs.{next}
-use Rattle.roff_run.specs.declared.event.PageEvent.TheVariants.{Text}
-use Rattle.roff_run.specs.Titles.{told}
-use Rattle.roff_laws.specs.SpringLaws.{first_of, happening, left_behind}
-use Rattle.roff_laws.proofs.Ended.{step-going}
+use Rattle.run_model.specs.Following.{following, text_behind}
+use Rattle.run_model.specs.Layouts.{happens, laid_out, layout_of}
+use Rattle.run_model.specs.Output.{text_laid, written}
+use Rattle.run_model.specs.PageEvents.{PageEvent, PastEvent}
+use Rattle.run_model.specs.Run.{Following, State, done_if, performed, performing, step_behind, step_with, unless_refused, with_left}
+use Rattle.run_model.specs.Run.Counts.{refusal}
+use Rattle.run_model.specs.Springs.{next}
+use Rattle.run_model.specs.declared.event.PageEvent.TheVariants.{Text}
+use Rattle.run_model.specs.Titles.{told}
+use Rattle.law_runs.specs.SpringLaws.{first_of, happening, left_behind}
+use Rattle.law_runs.proofs.Ended.{step-going}
 use Rattle.law_diversions.specs.DiversionLaws.{HasHappened, LinesGoWhereTheyAreFinished, OpenDiversionsTakeAll, PerformedEventsHappen, ThePageTakesTheRest}
 use Rattle.law_diversions.proofs.OpenDiversions.{diversions-turned}
 

@@ -1,35 +1,35 @@
 -- In each state of a run the texts in the making are those of its open diversions, and one that is being made; and what is entered of them.
 use Rattle.std.proofs.Common.{◌≡◌, inl, inr, ℕ, zero, suc, false, Bool, List, [], ◌∷◌, ◌++◌, length, Option, Some, None, arith, refl, sym, ◌∙◌, ap, subst}
-use Rattle.roff_input.specs.Input.Names.{body_named, entering_open, texts_of}
-use Rattle.roff_layout.specs.DivertedText.{diverted_lines}
-use Rattle.roff_layout.specs.DueTexts.{TextDue, Ends}
-use Rattle.roff_layout.specs.Layout.{Diversion}
+use Rattle.input_model.specs.Input.Names.{body_named, entering_open, texts_of}
+use Rattle.page_model.specs.DivertedText.{diverted_lines}
+use Rattle.page_model.specs.DueTexts.{TextDue, Ends}
+use Rattle.page_model.specs.Layout.{Diversion}
 use Rattle.roff_num.specs.ShortNames.{name_bytes}
 use Rattle.roff_num.specs.declared.limits.Limits.{Limits}
 use Rattle.roff_num.specs.declared.num.Num.{Num}
 use Rattle.roff_num.specs.declared.short_name.ShortName.{ShortName}
-use Rattle.roff_source.specs.Tape.{Tape}
-use Rattle.roff_run.specs.Environments.{PageHistory}
-use Rattle.roff_run.specs.Layouts.{layout_of}
-use Rattle.roff_run.specs.PageEvents.{PageEvent}
-use Rattle.roff_run.specs.Reading.Items.{PageInput}
-use Rattle.roff_run.specs.Requests.Effects.{page_numbered}
-use Rattle.roff_run.specs.Requests.Numbering.{number_of_page}
-use Rattle.roff_run.specs.Run.{State, grown, initial, paged_state, step, step_behind, step_with, text_done, told_after, told_step, with_registers}
-use Rattle.roff_run.specs.Run.Counts.{first_passed, names_counted}
-use Rattle.roff_run.specs.Springs.{next}
-use Rattle.roff_run.specs.Starts.{history_given, with_given}
-use Rattle.roff_run.specs.declared.start.Start.{Start}
+use Rattle.input_source.specs.Tape.{Tape}
+use Rattle.run_model.specs.Environments.{PageHistory}
+use Rattle.run_model.specs.Layouts.{layout_of}
+use Rattle.run_model.specs.PageEvents.{PageEvent}
+use Rattle.run_model.specs.Reading.Items.{PageInput}
+use Rattle.run_model.specs.Requests.Effects.{page_numbered}
+use Rattle.run_model.specs.Requests.Numbering.{number_of_page}
+use Rattle.run_model.specs.Run.{State, grown, initial, paged_state, step, step_behind, step_with, text_done, told_after, told_step, with_registers}
+use Rattle.run_model.specs.Run.Counts.{first_passed, names_counted}
+use Rattle.run_model.specs.Springs.{next}
+use Rattle.run_model.specs.Starts.{history_given, with_given}
+use Rattle.run_model.specs.declared.start.Start.{Start}
 use Rattle.roff_store.specs.TextCalls.{Append, Remove, Rename, Set, open_text, text_before}
 use Rattle.roff_store.specs.Named.{Named, entry_of, with_entry}
 use Rattle.roff_store.specs.Texts.{Body, Entry, body_if_any}
 use Rattle.roff_store.proofs.Entries.{bytes_eq_tells, entry_of-with_entry}
-use Rattle.roff_run.proofs.GivenPages.{keeps-given}
-use Rattle.roff_run.proofs.Readings.{ReadsOn-with_sprung}
-use Rattle.roff_laws.proofs.ComesBefore.{comes_before}
-use Rattle.roff_laws.proofs.Ended.{ended_or_not, not-ended, step-ended, step-going}
-use Rattle.roff_laws.proofs.PerformedOrStopped.{performed_or_stopped}
-use Rattle.roff_laws.proofs.Told.{told_step-holds}
+use Rattle.run_model.proofs.GivenPages.{keeps-given}
+use Rattle.run_model.proofs.Readings.{ReadsOn-with_sprung}
+use Rattle.law_runs.proofs.ComesBefore.{comes_before}
+use Rattle.law_runs.proofs.Ended.{ended_or_not, not-ended, step-ended, step-going}
+use Rattle.law_runs.proofs.PerformedOrStopped.{performed_or_stopped}
+use Rattle.law_runs.proofs.Told.{told_step-holds}
 use Rattle.law_diversions.specs.DivertedTexts.{IsAbove, NoneAbove, diverted_texts, is_making}
 use Rattle.law_diversions.specs.DiversionLaws.{EndedDiversionsAreEntered, EndsDiversion, NamesLeaveTexts, TextsAreDivertedLines, TextsBecomeDivertedLines}
 use Rattle.law_diversions.proofs.RunsDivert.{AllMild, AreTexts, Diverts, DivertsOn, Diverts-closes, Diverts-mild, Diverts-opens, Diverts-read, Diverts-text_done, Diverts-unless_refused, IsDue, IsToDo, OneOpens, RunCloses, above-changed, none-made}

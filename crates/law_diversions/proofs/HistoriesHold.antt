@@ -3,26 +3,26 @@ use Rattle.std.proofs.Common.{◌≡◌, ℕ, zero, suc, List, [], ◌∷◌, �
 use Rattle.roff_num.specs.declared.limit.Limit.{Limit}
 use Rattle.roff_num.specs.declared.limits.Limits.{Limits}
 use Rattle.roff_num.specs.declared.num.Num.{Num}
-use Rattle.roff_layout.specs.DueTexts.{TextDue}
-use Rattle.roff_layout.specs.declared.layout_event.LayoutEvent.TheVariants.{ListPages, Next, Number}
-use Rattle.roff_source.specs.Tape.{Tape}
-use Rattle.roff_run.specs.PageEvents.{PageEvent, PageHistory}
-use Rattle.roff_run.specs.Registers.{AllRegisters}
-use Rattle.roff_run.specs.Requests.Effects.{page_numbered}
-use Rattle.roff_run.specs.Requests.Numbering.{number_of_page}
-use Rattle.roff_run.specs.Run.{State, initial, paged_state, step, step_behind, step_with, told_after, told_step, unless_refused, with_registers}
-use Rattle.roff_run.specs.Run.Counts.{first_passed, names_counted, refusal}
-use Rattle.roff_run.specs.Springs.{next}
-use Rattle.roff_run.specs.Starts.{history_given, with_given}
-use Rattle.roff_run.specs.Titles.{told}
-use Rattle.roff_run.specs.declared.event.PageEvent.TheVariants.{Page}
-use Rattle.roff_run.specs.declared.start.Start.{Start}
-use Rattle.roff_run.specs.declared.status.Status.{Status}
-use Rattle.roff_run.proofs.GivenPages.{keeps-given}
-use Rattle.roff_run.proofs.Readings.{ReadsOn-text, ReadsOn-with_sprung}
-use Rattle.roff_laws.proofs.PerformedOrStopped.{PerformedOrStopped, Performed, Sprang, EndsOver, StoppedAt, first_of, left_behind, performed_or_stopped}
-use Rattle.roff_laws.proofs.Stages.{history-read}
-use Rattle.roff_laws.proofs.Told.{told_step-holds}
+use Rattle.page_model.specs.DueTexts.{TextDue}
+use Rattle.page_model.specs.declared.layout_event.LayoutEvent.TheVariants.{ListPages, Next, Number}
+use Rattle.input_source.specs.Tape.{Tape}
+use Rattle.run_model.specs.PageEvents.{PageEvent, PageHistory}
+use Rattle.run_model.specs.Registers.{AllRegisters}
+use Rattle.run_model.specs.Requests.Effects.{page_numbered}
+use Rattle.run_model.specs.Requests.Numbering.{number_of_page}
+use Rattle.run_model.specs.Run.{State, initial, paged_state, step, step_behind, step_with, told_after, told_step, unless_refused, with_registers}
+use Rattle.run_model.specs.Run.Counts.{first_passed, names_counted, refusal}
+use Rattle.run_model.specs.Springs.{next}
+use Rattle.run_model.specs.Starts.{history_given, with_given}
+use Rattle.run_model.specs.Titles.{told}
+use Rattle.run_model.specs.declared.event.PageEvent.TheVariants.{Page}
+use Rattle.run_model.specs.declared.start.Start.{Start}
+use Rattle.run_model.specs.declared.status.Status.{Status}
+use Rattle.run_model.proofs.GivenPages.{keeps-given}
+use Rattle.run_model.proofs.Readings.{ReadsOn-text, ReadsOn-with_sprung}
+use Rattle.law_runs.proofs.PerformedOrStopped.{PerformedOrStopped, Performed, Sprang, EndsOver, StoppedAt, first_of, left_behind, performed_or_stopped}
+use Rattle.law_runs.proofs.Stages.{history-read}
+use Rattle.law_runs.proofs.Told.{told_step-holds}
 
 -- what is to hold of histories, whatever is given to a run, and behind its events
 pub record HoldsBehind (P : PageHistory → Type 0) (l : Limits) : Type 0 where

@@ -1,25 +1,25 @@
 -- Events that neither open a diversion nor close the run: where they are put back, and what becomes of texts behind them.
 use Rattle.std.proofs.Common.{◌≡◌, Bool, true, false, List, [], ◌∷◌, ◌++◌, map, ℕ, Option, Some, None, refl}
 use Rattle.std.specs.Prelude.{option_map}
-use Rattle.roff_input.specs.Input.{Ahead, ByteAhead, FreeAhead, EndAhead, ReturnAhead, DoAhead}
-use Rattle.roff_layout.specs.DivertedText.{diverted_text}
-use Rattle.roff_layout.specs.DueTexts.{TextDue, bytes_due, due_by, end_due}
-use Rattle.roff_layout.specs.Happenings.{Does, Places, Titles}
-use Rattle.roff_layout.specs.Layout.{Diversion, Layout}
-use Rattle.roff_layout.specs.Behind.{finished}
-use Rattle.roff_layout.specs.Lines.{Finished}
-use Rattle.roff_layout.specs.Springs.{goes_on}
-use Rattle.roff_layout.specs.declared.layout_event.LayoutEvent.{LayoutEvent}
-use Rattle.roff_layout.specs.declared.layout_event.LayoutEvent.TheVariants.{Close, Divert, EndDivert, Need, Space}
-use Rattle.roff_run.specs.Environments.{PageHistory, text_of}
-use Rattle.roff_run.specs.Following.{following, text_behind}
-use Rattle.roff_run.specs.Layouts.{layout_of, placed}
-use Rattle.roff_run.specs.PageEvents.{PageEvent}
-use Rattle.roff_run.specs.Registers.{AllRegisters}
-use Rattle.roff_run.specs.Springs.{left_if, left_of}
-use Rattle.roff_run.specs.Titles.{put_back, title_told, told}
-use Rattle.roff_run.specs.declared.event.PageEvent.TheVariants.{Text, Page, Interrupt, Environment, Back, InputTrap as SetsTrap, Title}
-use Rattle.roff_run.proofs.GrowingAhead.{Grows, Stays, WithByte, WithEnd, WithFree, WithReturn}
+use Rattle.input_model.specs.Input.{Ahead, ByteAhead, FreeAhead, EndAhead, ReturnAhead, DoAhead}
+use Rattle.page_model.specs.DivertedText.{diverted_text}
+use Rattle.page_model.specs.DueTexts.{TextDue, bytes_due, due_by, end_due}
+use Rattle.page_model.specs.Happenings.{Does, Places, Titles}
+use Rattle.page_model.specs.Layout.{Diversion, Layout}
+use Rattle.page_model.specs.Behind.{finished}
+use Rattle.page_model.specs.Lines.{Finished}
+use Rattle.page_model.specs.Springs.{goes_on}
+use Rattle.page_model.specs.declared.layout_event.LayoutEvent.{LayoutEvent}
+use Rattle.page_model.specs.declared.layout_event.LayoutEvent.TheVariants.{Close, Divert, EndDivert, Need, Space}
+use Rattle.run_model.specs.Environments.{PageHistory, text_of}
+use Rattle.run_model.specs.Following.{following, text_behind}
+use Rattle.run_model.specs.Layouts.{layout_of, placed}
+use Rattle.run_model.specs.PageEvents.{PageEvent}
+use Rattle.run_model.specs.Registers.{AllRegisters}
+use Rattle.run_model.specs.Springs.{left_if, left_of}
+use Rattle.run_model.specs.Titles.{put_back, title_told, told}
+use Rattle.run_model.specs.declared.event.PageEvent.TheVariants.{Text, Page, Interrupt, Environment, Back, InputTrap as SetsTrap, Title}
+use Rattle.run_model.proofs.GrowingAhead.{Grows, Stays, WithByte, WithEnd, WithFree, WithReturn}
 use Rattle.law_diversions.proofs.TextsBehind.{needs_none}
 use Rattle.law_diversions.proofs.TextsLeft.{AreMild, IsMild}
 

@@ -3,45 +3,45 @@
 --
 -- Each request has its lemma here, with a line for each of its cases.
 use Rattle.roff_num.specs.declared.num.Scale.TheVariants.{Units}
-use Rattle.roff_run.specs.Numbers.{value_beside, value_in}
+use Rattle.run_model.specs.Numbers.{value_beside, value_in}
 use Rattle.std.proofs.Common.{◌≡◌, ◌⊎◌, inl, inr, ℕ, zero, suc, ℤ, Bool, true, false, List, [], ◌∷◌, map, Option, Some, None, pos, refl}
 use Rattle.std.specs.Prelude.{negsuc, pos, take, ◌&&◌, Result, Ok, Err, if◌then◌else◌, ◌==◌, length}
-use Rattle.roff_layout.specs.declared.settings.AdjustMode.{AdjustMode}
-use Rattle.roff_layout.specs.declared.settings.Param.{Param}
-use Rattle.roff_layout.specs.declared.stop.StopKind.{StopKind}
+use Rattle.page_model.specs.declared.settings.AdjustMode.{AdjustMode}
+use Rattle.page_model.specs.declared.settings.Param.{Param}
+use Rattle.page_model.specs.declared.stop.StopKind.{StopKind}
 use Rattle.roff_num.specs.declared.format.Format.{Format}
 use Rattle.roff_num.specs.declared.num.Num.{Num}
 use Rattle.roff_num.specs.declared.num.NumFault.{NumFault}
 use Rattle.roff_num.specs.declared.short_name.ShortName.{ShortName}
-use Rattle.roff_run.specs.Environments.{environment_numbered}
-use Rattle.roff_run.specs.Registers.{Known, value_in_force}
-use Rattle.roff_run.specs.Requests.{request_effect, row_of}
-use Rattle.roff_run.specs.PageEvents.{PageEvent}
-use Rattle.roff_run.specs.declared.event.PageEvent.TheVariants.{Page}
-use Rattle.roff_run.specs.Requests.Adjustment.{adjusting_in, centre, centring, mode_wanted}
-use Rattle.roff_run.specs.Requests.Effects.{Response, Around, Ignored, Obeyed, behind_break, happens, meant_by, nothing, page_numbered}
-use Rattle.roff_run.specs.Requests.Lengths.{length_set, length_wanted, line_length, indent, setting_length, temporary_indent, title_length}
-use Rattle.roff_run.specs.Requests.Naming.{rename}
-use Rattle.roff_run.specs.Requests.Numbering.{assign_format, format_as, if_named, increment_given, name_given, number, number_of_page, set_register, set_to}
-use Rattle.roff_run.specs.Requests.Paging.{begin_page, ejected, ejected_by, ejected_to, lines_on_page, lines_set, next_numbered, offset_to, page_asked, page_ejected, page_length, page_number, page_of}
-use Rattle.roff_run.specs.Requests.Spacing.{line_spacing, need, needed, space_down, spaced, spacing}
-use Rattle.roff_run.specs.Requests.Springing.{input_trap, trap_set}
-use Rattle.roff_run.specs.Requests.Switching.{switch, switching_by, switching_to}
-use Rattle.roff_run.specs.Requests.Diverting.{diverted, diversion_trap, diversion_trapped}
-use Rattle.roff_run.specs.Requests.Traps.{change_trap, moved, moved_if_named, place_given, plant_trap, planted}
-use Rattle.roff_run.specs.Requests.Tabs.{most_stops, setting_stops, stop_places, stop_set}
-use Rattle.roff_layout.specs.declared.layout_event.LayoutEvent.TheVariants.{Eject, EjectTo, Length, Next}
-use Rattle.roff_layout.specs.Layout.{Layout}
-use Rattle.roff_layout.specs.Queries.{is_diverting}
+use Rattle.run_model.specs.Environments.{environment_numbered}
+use Rattle.run_model.specs.Registers.{Known, value_in_force}
+use Rattle.run_model.specs.Requests.{request_effect, row_of}
+use Rattle.run_model.specs.PageEvents.{PageEvent}
+use Rattle.run_model.specs.declared.event.PageEvent.TheVariants.{Page}
+use Rattle.run_model.specs.Requests.Adjustment.{adjusting_in, centre, centring, mode_wanted}
+use Rattle.run_model.specs.Requests.Effects.{Response, Around, Ignored, Obeyed, behind_break, happens, meant_by, nothing, page_numbered}
+use Rattle.run_model.specs.Requests.Lengths.{length_set, length_wanted, line_length, indent, setting_length, temporary_indent, title_length}
+use Rattle.run_model.specs.Requests.Naming.{rename}
+use Rattle.run_model.specs.Requests.Numbering.{assign_format, format_as, if_named, increment_given, name_given, number, number_of_page, set_register, set_to}
+use Rattle.run_model.specs.Requests.Paging.{begin_page, ejected, ejected_by, ejected_to, lines_on_page, lines_set, next_numbered, offset_to, page_asked, page_ejected, page_length, page_number, page_of}
+use Rattle.run_model.specs.Requests.Spacing.{line_spacing, need, needed, space_down, spaced, spacing}
+use Rattle.run_model.specs.Requests.Springing.{input_trap, trap_set}
+use Rattle.run_model.specs.Requests.Switching.{switch, switching_by, switching_to}
+use Rattle.run_model.specs.Requests.Diverting.{diverted, diversion_trap, diversion_trapped}
+use Rattle.run_model.specs.Requests.Traps.{change_trap, moved, moved_if_named, place_given, plant_trap, planted}
+use Rattle.run_model.specs.Requests.Tabs.{most_stops, setting_stops, stop_places, stop_set}
+use Rattle.page_model.specs.declared.layout_event.LayoutEvent.TheVariants.{Eject, EjectTo, Length, Next}
+use Rattle.page_model.specs.Layout.{Layout}
+use Rattle.page_model.specs.Queries.{is_diverting}
 use Rattle.roff_num.specs.ShortNames.{name_at, name_or_none}
-use Rattle.roff_run.specs.declared.message.Message.TheVariants.{PageTooShort}
-use Rattle.roff_run.specs.declared.environment_number.EnvironmentNumber.{EnvironmentNumber}
-use Rattle.roff_run.specs.declared.request.Request.{Request}
-use Rattle.roff_run.specs.declared.request.Request.TheVariants.{Abort, Adjust, AppendDiversion, AppendMacro, AppendString, AssignFormat, BeginPage, Break as BreakRequest, Centre, ChangeTrap, DefineMacro, DefineString, DiversionTrap, Divert, Else, EndMacro, Environment, Exit, Fill, If, IfElse, Ignore, Indent, InputTrap, LineLength, LineSpacing, Need, NoAdjust, NoFill, NoSpace, NumberRegister, PageLength, PageNumber, PageOffset, PlantTrap, RemoveNames, RemoveRegisters, Rename, RestoreSpacing, Space as SpaceDown, TabStops, TemporaryIndent, TellMessage, WithoutEffect, LeftOut, PageCharacter, Title as TitleRequest, TitleLength}
-use Rattle.roff_layout.specs.declared.layout_event.LayoutEvent.TheVariants.{Divert as DivertEvent}
-use Rattle.roff_run.specs.Requests.Effects.{Effect}
-use Rattle.roff_run.specs.Requests.Naming.{removals}
-use Rattle.roff_run.specs.Requests.Numbering.{names_given}
+use Rattle.run_model.specs.declared.message.Message.TheVariants.{PageTooShort}
+use Rattle.run_model.specs.declared.environment_number.EnvironmentNumber.{EnvironmentNumber}
+use Rattle.run_model.specs.declared.request.Request.{Request}
+use Rattle.run_model.specs.declared.request.Request.TheVariants.{Abort, Adjust, AppendDiversion, AppendMacro, AppendString, AssignFormat, BeginPage, Break as BreakRequest, Centre, ChangeTrap, DefineMacro, DefineString, DiversionTrap, Divert, Else, EndMacro, Environment, Exit, Fill, If, IfElse, Ignore, Indent, InputTrap, LineLength, LineSpacing, Need, NoAdjust, NoFill, NoSpace, NumberRegister, PageLength, PageNumber, PageOffset, PlantTrap, RemoveNames, RemoveRegisters, Rename, RestoreSpacing, Space as SpaceDown, TabStops, TemporaryIndent, TellMessage, WithoutEffect, LeftOut, PageCharacter, Title as TitleRequest, TitleLength}
+use Rattle.page_model.specs.declared.layout_event.LayoutEvent.TheVariants.{Divert as DivertEvent}
+use Rattle.run_model.specs.Requests.Effects.{Effect}
+use Rattle.run_model.specs.Requests.Naming.{removals}
+use Rattle.run_model.specs.Requests.Numbering.{names_given}
 use Rattle.roff_store.specs.TextCalls.{Call, Append, Remove, Rename as RenameCall, Set}
 use Rattle.law_diversions.proofs.TextsLeft.{AreMild}
 

@@ -1,26 +1,26 @@
 -- How many diversions are open.
 use Rattle.std.proofs.Common.{◌≡◌, ◌≤◌, ◌+◌, ℕ, Bool, true, false, List, [], ◌∷◌, length, Option, Some, None, arith, refl, sym, subst}
 use Rattle.std.specs.Prelude.{nat_le, option_map, if◌then◌else◌}
-use Rattle.roff_layout.specs.Happenings.{Happening, Does, Places, Titles}
-use Rattle.roff_layout.specs.Layout.{Box, Diversion, Layout, page_place}
-use Rattle.roff_layout.specs.Behind.{finished}
-use Rattle.roff_layout.specs.Lines.{Finished}
-use Rattle.roff_layout.specs.Puts.{Put, appended, puts}
-use Rattle.roff_layout.specs.Stops.{is_diverted}
-use Rattle.roff_layout.specs.Turning.{behind_put, in_innermost, next_behind, page_begun, unput, with_boxes, with_diversion_trap, with_mode, without_innermost}
-use Rattle.roff_layout.specs.declared.layout_event.LayoutEvent.{LayoutEvent}
-use Rattle.roff_layout.specs.declared.layout_event.LayoutEvent.TheVariants.{Close, NoSpace, DiversionTrap, NoDiversionTrap, Divert, EndDivert}
-use Rattle.roff_layout.specs.declared.trap.Trap.{Trap}
+use Rattle.page_model.specs.Happenings.{Happening, Does, Places, Titles}
+use Rattle.page_model.specs.Layout.{Box, Diversion, Layout, page_place}
+use Rattle.page_model.specs.Behind.{finished}
+use Rattle.page_model.specs.Lines.{Finished}
+use Rattle.page_model.specs.Puts.{Put, appended, puts}
+use Rattle.page_model.specs.Stops.{is_diverted}
+use Rattle.page_model.specs.Turning.{behind_put, in_innermost, next_behind, page_begun, unput, with_boxes, with_diversion_trap, with_mode, without_innermost}
+use Rattle.page_model.specs.declared.layout_event.LayoutEvent.{LayoutEvent}
+use Rattle.page_model.specs.declared.layout_event.LayoutEvent.TheVariants.{Close, NoSpace, DiversionTrap, NoDiversionTrap, Divert, EndDivert}
+use Rattle.page_model.specs.declared.trap.Trap.{Trap}
 use Rattle.roff_num.specs.declared.limits.Limits.{Limits}
-use Rattle.roff_run.specs.Environments.{PageHistory, text_of}
-use Rattle.roff_run.specs.Layouts.{laid_out, layout_of, placed}
-use Rattle.roff_run.specs.PageEvents.{PageEvent}
-use Rattle.roff_run.specs.Registers.{AllRegisters}
-use Rattle.roff_run.specs.Run.Counts.{counts, refusal}
-use Rattle.roff_run.specs.Titles.{title_told, told}
-use Rattle.roff_run.specs.declared.event.PageEvent.TheVariants.{Text, Page, Interrupt, Environment, Back, InputTrap as SetsTrap, Title}
-use Rattle.roff_laws.proofs.CountsWithin.{counts_within}
-use Rattle.roff_laws.proofs.PutHolds.{put-holds}
+use Rattle.run_model.specs.Environments.{PageHistory, text_of}
+use Rattle.run_model.specs.Layouts.{laid_out, layout_of, placed}
+use Rattle.run_model.specs.PageEvents.{PageEvent}
+use Rattle.run_model.specs.Registers.{AllRegisters}
+use Rattle.run_model.specs.Run.Counts.{counts, refusal}
+use Rattle.run_model.specs.Titles.{title_told, told}
+use Rattle.run_model.specs.declared.event.PageEvent.TheVariants.{Text, Page, Interrupt, Environment, Back, InputTrap as SetsTrap, Title}
+use Rattle.law_runs.proofs.CountsWithin.{counts_within}
+use Rattle.law_runs.proofs.PutHolds.{put-holds}
 use Rattle.law_diversions.specs.DiversionLaws.{NoMoreDiversionsAreOpen}
 use Rattle.law_diversions.proofs.HistoriesHold.{history-holds}
 

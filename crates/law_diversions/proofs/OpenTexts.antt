@@ -3,8 +3,8 @@ use Rattle.std.proofs.Common.{◌≡◌, ◌++◌, ◌+◌, ℕ, true, false, Bo
 use Rattle.std.specs.Prelude.{nat_lt, if◌then◌else◌}
 use Rattle.std.specs.List.{remove}
 use Rattle.std.proofs.lemmas.Bool.{lt-ltb}
-use Rattle.roff_input.specs.Input.Names.{adding, calling, calling_on, dropping, entering, open_numbered, texts_of}
-use Rattle.roff_run.specs.Reading.Items.{PageInput}
+use Rattle.input_model.specs.Input.Names.{adding, calling, calling_on, dropping, entering, open_numbered, texts_of}
+use Rattle.run_model.specs.Reading.Items.{PageInput}
 use Rattle.roff_store.specs.TextCalls.{Call, DropOpen, Enter, PushOpen, open_text}
 use Rattle.roff_store.specs.Texts.{newest}
 use Rattle.law_diversions.specs.DivertedTexts.{IsAbove, NoneAbove, OneAbove}

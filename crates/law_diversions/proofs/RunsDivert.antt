@@ -3,49 +3,49 @@
 -- Each function f of the run has its lemma Diverts-f here, with a line for each of its cases.
 use Rattle.std.proofs.Common.{◌≡◌, ◌⊎◌, inl, inr, ℕ, ◌-◌, Bool, true, false, not, List, [], ◌∷◌, ◌++◌, append-nil, Option, Some, None, refl, sym, ◌∙◌, ap, subst}
 use Rattle.std.specs.Prelude.{IsSome, ◌&&◌, if◌then◌else◌, ◌==◌}
-use Rattle.roff_input.specs.Input.{Ahead, ByteAhead, FreeAhead, EndAhead, ReturnAhead, DoAhead, counting, item_taken, outermost_back}
-use Rattle.roff_input.specs.Input.Calls.{called_text}
-use Rattle.roff_input.specs.Input.Names.{body_named}
-use Rattle.roff_layout.specs.DueTexts.{TextDue}
-use Rattle.roff_layout.specs.declared.event.Event.TheVariants.{Break, FieldEnd, WordEnd}
-use Rattle.roff_layout.specs.Happenings.{Does}
-use Rattle.roff_layout.specs.Queries.{takes_text}
-use Rattle.roff_layout.specs.Springs.{goes_on}
-use Rattle.roff_layout.specs.declared.layout_event.LayoutEvent.TheVariants.{Begin, Close, Divert, EjectLast}
+use Rattle.input_model.specs.Input.{Ahead, ByteAhead, FreeAhead, EndAhead, ReturnAhead, DoAhead, counting, item_taken, outermost_back}
+use Rattle.input_model.specs.Input.Calls.{called_text}
+use Rattle.input_model.specs.Input.Names.{body_named}
+use Rattle.page_model.specs.DueTexts.{TextDue}
+use Rattle.page_model.specs.declared.event.Event.TheVariants.{Break, FieldEnd, WordEnd}
+use Rattle.page_model.specs.Happenings.{Does}
+use Rattle.page_model.specs.Queries.{takes_text}
+use Rattle.page_model.specs.Springs.{goes_on}
+use Rattle.page_model.specs.declared.layout_event.LayoutEvent.TheVariants.{Begin, Close, Divert, EjectLast}
 use Rattle.roff_num.specs.ShortNames.{name_bytes}
 use Rattle.roff_num.specs.declared.limit.Limit.{Limit}
 use Rattle.roff_num.specs.declared.limits.Limits.{Limits}
 use Rattle.roff_num.specs.declared.short_name.ShortName.{ShortName}
-use Rattle.roff_run.specs.Environments.{PageHistory}
-use Rattle.roff_run.specs.Events.Lines.{closing_events}
-use Rattle.roff_run.specs.Following.{following, text_changed}
-use Rattle.roff_run.specs.Layouts.{layout_of}
-use Rattle.roff_run.specs.PageEvents.{PageEvent, PastEvent}
-use Rattle.roff_run.specs.Reading.{escape_ended, taking}
-use Rattle.roff_run.specs.Reading.Calls.{called_last, last_called}
-use Rattle.roff_run.specs.Reading.Ends.{end_taking, is_unfinished}
-use Rattle.roff_run.specs.Reading.Items.{PageInput, Taking}
-use Rattle.roff_run.specs.Reading.Returns.{back_of, behind_return, going_back, gone_back_to, line_of}
-use Rattle.roff_run.specs.Registers.{Known}
-use Rattle.roff_run.specs.Requests.{called_by}
-use Rattle.roff_run.specs.Run.{State, ahead_taken, known, left_in, made, moved, performing, phase_ended, sprung_read, step_with, taken_as, text_done, unless_refused}
-use Rattle.roff_run.specs.Springs.{left_if, page_begin_or}
-use Rattle.roff_run.specs.Titles.{told}
-use Rattle.roff_run.specs.declared.event.PageEvent.TheVariants.{Text, Page}
-use Rattle.roff_run.specs.declared.line_state.LineState.{LineState}
-use Rattle.roff_run.specs.declared.line_state.LineState.TheVariants.{LineStart, Branch, Braced, Text as InText, Control, Name, Deciding, Skipping, Dropped, Told, Exiting, TitleFront, Title as InTitle, Collecting}
-use Rattle.roff_run.specs.declared.phase.Phase.{Phase}
-use Rattle.roff_run.specs.declared.phase.Phase.TheVariants.{Reading, LastMacro, Closing}
-use Rattle.roff_run.specs.declared.request.Called.{Called}
-use Rattle.roff_run.specs.declared.request.Called.TheVariants.{Request as ARequest, Body as ABody, Nothing as Unknown}
-use Rattle.roff_run.proofs.GoingBack.{going_back-by}
-use Rattle.roff_run.proofs.GrowingAhead.{Grows, ahead-called, ahead-interrupted, ahead-same}
-use Rattle.roff_run.proofs.ReadEvents.{Means-end_taking, Means-escape_ended, Means-taking}
-use Rattle.roff_run.proofs.Readings.{ReadsOn, LimitStops, AheadTaken, ByteTaken, NoteTaken, HalfEnds, InputLeft, LineEnds, PhaseEnds, MessageTold, RunAborts, SourceFails, SourceStops, SprungRead, TextChanged}
-use Rattle.roff_laws.proofs.ComesBefore.{ComesBefore, NothingComes, FieldEndComes, PageComes, WordEndComes}
-use Rattle.roff_laws.proofs.MeantAhead.{ahead-last_called}
-use Rattle.roff_laws.proofs.PerformedOrStopped.{PerformedOrStopped, Performed, Sprang, EndsOver, StoppedAt, first_of, left_behind, performed_or_stopped}
-use Rattle.roff_laws.proofs.TextsChanged.{text-holds}
+use Rattle.run_model.specs.Environments.{PageHistory}
+use Rattle.run_model.specs.Events.Lines.{closing_events}
+use Rattle.run_model.specs.Following.{following, text_changed}
+use Rattle.run_model.specs.Layouts.{layout_of}
+use Rattle.run_model.specs.PageEvents.{PageEvent, PastEvent}
+use Rattle.run_model.specs.Reading.{escape_ended, taking}
+use Rattle.run_model.specs.Reading.Calls.{called_last, last_called}
+use Rattle.run_model.specs.Reading.Ends.{end_taking, is_unfinished}
+use Rattle.run_model.specs.Reading.Items.{PageInput, Taking}
+use Rattle.run_model.specs.Reading.Returns.{back_of, behind_return, going_back, gone_back_to, line_of}
+use Rattle.run_model.specs.Registers.{Known}
+use Rattle.run_model.specs.Requests.{called_by}
+use Rattle.run_model.specs.Run.{State, ahead_taken, known, left_in, made, moved, performing, phase_ended, sprung_read, step_with, taken_as, text_done, unless_refused}
+use Rattle.run_model.specs.Springs.{left_if, page_begin_or}
+use Rattle.run_model.specs.Titles.{told}
+use Rattle.run_model.specs.declared.event.PageEvent.TheVariants.{Text, Page}
+use Rattle.run_model.specs.declared.line_state.LineState.{LineState}
+use Rattle.run_model.specs.declared.line_state.LineState.TheVariants.{LineStart, Branch, Braced, Text as InText, Control, Name, Deciding, Skipping, Dropped, Told, Exiting, TitleFront, Title as InTitle, Collecting}
+use Rattle.run_model.specs.declared.phase.Phase.{Phase}
+use Rattle.run_model.specs.declared.phase.Phase.TheVariants.{Reading, LastMacro, Closing}
+use Rattle.run_model.specs.declared.request.Called.{Called}
+use Rattle.run_model.specs.declared.request.Called.TheVariants.{Request as ARequest, Body as ABody, Nothing as Unknown}
+use Rattle.run_model.proofs.GoingBack.{going_back-by}
+use Rattle.run_model.proofs.GrowingAhead.{Grows, ahead-called, ahead-interrupted, ahead-same}
+use Rattle.run_model.proofs.ReadEvents.{Means-end_taking, Means-escape_ended, Means-taking}
+use Rattle.run_model.proofs.Readings.{ReadsOn, LimitStops, AheadTaken, ByteTaken, NoteTaken, HalfEnds, InputLeft, LineEnds, PhaseEnds, MessageTold, RunAborts, SourceFails, SourceStops, SprungRead, TextChanged}
+use Rattle.law_runs.proofs.ComesBefore.{ComesBefore, NothingComes, FieldEndComes, PageComes, WordEndComes}
+use Rattle.law_runs.proofs.MeantAhead.{ahead-last_called}
+use Rattle.law_runs.proofs.PerformedOrStopped.{PerformedOrStopped, Performed, Sprang, EndsOver, StoppedAt, first_of, left_behind, performed_or_stopped}
+use Rattle.law_runs.proofs.TextsChanged.{text-holds}
 use Rattle.law_diversions.specs.DivertedTexts.{IsAbove, NoneAbove, OneAbove, diverted_texts, is_making}
 use Rattle.law_diversions.proofs.MildEvents.{AreMildAhead, mild-append, mild-back, mild-due, mild-grown, mild-left, needs_of}
 use Rattle.law_diversions.proofs.MildRequests.{OpensOne}

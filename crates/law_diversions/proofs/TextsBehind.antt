@@ -2,27 +2,27 @@
 use Rattle.std.proofs.Common.{◌≡◌, ◌-◌, ℕ, Bool, true, false, not, List, [], ◌∷◌, ◌++◌, length, length-append, append_assoc, append-nil, get_or, set, Option, Some, None, arith, refl, sym, ◌∙◌, ap, subst}
 use Rattle.std.specs.Prelude.{nat_le, if◌then◌else◌}
 use Rattle.std.specs.List.{remove}
-use Rattle.roff_input.specs.Input.Names.{calling, calling_on, entering_open, open_numbered, texts_of}
-use Rattle.roff_layout.specs.DivertedText.{diverted_line, diverted_lines}
-use Rattle.roff_layout.specs.DueTexts.{TextDue, Begins, Ends, Gets, AllDropped, bytes_due, drop_due, due_by, end_due}
-use Rattle.roff_layout.specs.Happenings.{Happening, Does, Places, Titles}
-use Rattle.roff_layout.specs.Layout.{Box, Diversion, Layout, page_place}
-use Rattle.roff_layout.specs.Puts.{Put, appended, boxes_put, puts}
-use Rattle.roff_layout.specs.Stops.{is_diverted, target}
-use Rattle.roff_layout.specs.Turning.{behind_put, in_diversion, in_innermost, next_behind, turned_if_full, unput, with_boxes, with_diversion_trap, with_event, with_mode, without_innermost}
-use Rattle.roff_layout.specs.Words.{is_empty}
-use Rattle.roff_layout.specs.declared.layout_event.LayoutEvent.{LayoutEvent}
-use Rattle.roff_layout.specs.declared.layout_event.LayoutEvent.TheVariants.{Close, Space, Need, Eject, EjectTo, EjectOn, EjectLast, NoSpace, DiversionTrap, NoDiversionTrap, Divert, EndDivert}
-use Rattle.roff_layout.specs.declared.trap.Trap.{Trap}
+use Rattle.input_model.specs.Input.Names.{calling, calling_on, entering_open, open_numbered, texts_of}
+use Rattle.page_model.specs.DivertedText.{diverted_line, diverted_lines}
+use Rattle.page_model.specs.DueTexts.{TextDue, Begins, Ends, Gets, AllDropped, bytes_due, drop_due, due_by, end_due}
+use Rattle.page_model.specs.Happenings.{Happening, Does, Places, Titles}
+use Rattle.page_model.specs.Layout.{Box, Diversion, Layout, page_place}
+use Rattle.page_model.specs.Puts.{Put, appended, boxes_put, puts}
+use Rattle.page_model.specs.Stops.{is_diverted, target}
+use Rattle.page_model.specs.Turning.{behind_put, in_diversion, in_innermost, next_behind, turned_if_full, unput, with_boxes, with_diversion_trap, with_event, with_mode, without_innermost}
+use Rattle.page_model.specs.Words.{is_empty}
+use Rattle.page_model.specs.declared.layout_event.LayoutEvent.{LayoutEvent}
+use Rattle.page_model.specs.declared.layout_event.LayoutEvent.TheVariants.{Close, Space, Need, Eject, EjectTo, EjectOn, EjectLast, NoSpace, DiversionTrap, NoDiversionTrap, Divert, EndDivert}
+use Rattle.page_model.specs.declared.trap.Trap.{Trap}
 use Rattle.roff_num.specs.ShortNames.{name_bytes}
 use Rattle.roff_num.specs.declared.short_name.ShortName.{ShortName}
-use Rattle.roff_run.specs.Environments.{PageHistory}
-use Rattle.roff_run.specs.Following.{following, text_behind, text_changed}
-use Rattle.roff_run.specs.Layouts.{happens, laid_out, layout_of}
-use Rattle.roff_run.specs.PageEvents.{PastEvent}
-use Rattle.roff_run.specs.Reading.Items.{PageInput}
+use Rattle.run_model.specs.Environments.{PageHistory}
+use Rattle.run_model.specs.Following.{following, text_behind, text_changed}
+use Rattle.run_model.specs.Layouts.{happens, laid_out, layout_of}
+use Rattle.run_model.specs.PageEvents.{PastEvent}
+use Rattle.run_model.specs.Reading.Items.{PageInput}
 use Rattle.roff_store.specs.TextCalls.{Call, Enter, PushOpen, open_text}
-use Rattle.roff_laws.proofs.PutHolds.{put-holds}
+use Rattle.law_runs.proofs.PutHolds.{put-holds}
 use Rattle.law_diversions.specs.DivertedTexts.{diverted_texts}
 use Rattle.law_diversions.proofs.OpenDiversions.{diversions-turned}
 use Rattle.law_diversions.proofs.OpenTexts.{get_or-at, is-there, remove-at, set-at}

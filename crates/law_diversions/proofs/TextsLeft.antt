@@ -4,35 +4,35 @@
 -- Leaves-f.
 use Rattle.std.proofs.Common.{◌≡◌, ℕ, Bool, true, false, List, [], ◌∷◌, ◌++◌, map, Option, Some, None, refl, ◌∙◌}
 use Rattle.std.specs.Prelude.{◌||◌, if◌then◌else◌, ◌==◌}
-use Rattle.roff_layout.specs.declared.event.Event.TheVariants.{Print, WordEnd, LineEnd, Count, Break, Tab}
-use Rattle.roff_layout.specs.declared.glyph.Glyph.{Glyph}
-use Rattle.roff_layout.specs.declared.glyph.Glyph.TheVariants.{Blanks, Printed}
-use Rattle.roff_source.specs.Bytes.{tab, newline, blank, apostrophe, dot, is_silent}
-use Rattle.roff_escape.specs.Characters.{character}
-use Rattle.roff_escape.specs.Escapes.{escape_of}
-use Rattle.roff_escape.specs.declared.escapes.Escape.{Escape as Kind}
-use Rattle.roff_escape.specs.declared.escapes.Escape.TheVariants.{Prints, Blank, NoWidth, Nothing as GivesNothing, Brace, LeftOut as IsLeftOut, Comment as BeginsComment, Size as BeginsSize, Name as BeginsName, Text as BeginsText, Width as BeginsWidth, Tab as GivesTab, Interrupts}
-use Rattle.roff_escape.specs.declared.escapes.NameUse.{NameUse}
-use Rattle.roff_escape.specs.declared.escapes.NameUse.TheVariants.{Register, Text as OfText, Argument, Character, Font, LeftOut as NameLeftOut}
-use Rattle.roff_escape.specs.declared.escapes.TextUse.TheVariants.{Motion as OfMotion, LeftOut as LeftOutText}
-use Rattle.roff_escape.specs.declared.open_escape.CopyUnit.TheVariants.{Byte, Kept}
-use Rattle.roff_escape.specs.declared.open_escape.Found.{Found}
-use Rattle.roff_escape.specs.declared.open_escape.Found.TheVariants.{GoesOn, Unit as GivesUnit, Holds, Escape, Asks, Motion, Measures, Tells as Says, Decides}
-use Rattle.roff_run.specs.Reading.Beginnings.{beginning_found, beginning_text, escape_begun, first_escape, first_name, first_taking, going_on_told, line_begun, line_begun_as}
-use Rattle.roff_run.specs.Reading.Escapes.{asking}
-use Rattle.roff_run.specs.Reading.Items.{PageInput, Taking}
-use Rattle.roff_run.specs.Reading.TextLines.{blank_line, blank_taking, character_printed, character_taking, escape_meant, escape_taking, glyph_taking, leading_blank_events, leading_glyph, name_taking, text_found, text_line_end, text_taking, other_taking, left_out_taking, motion_taking, tab_taking}
-use Rattle.roff_run.specs.Reading.Units.{no_unit_found}
-use Rattle.roff_run.specs.Registers.{Known, page_stepped}
-use Rattle.roff_run.specs.PageEvents.{PageEvent}
-use Rattle.roff_run.specs.declared.event.PageEvent.TheVariants.{Text, Page}
-use Rattle.roff_run.specs.declared.line_state.LineState.{LineState}
-use Rattle.roff_run.specs.declared.line_state.LineState.TheVariants.{LineStart, Branch, Braced, Text as InText}
-use Rattle.roff_run.specs.declared.line_state.TextLine.{TextLine}
-use Rattle.roff_escape.specs.declared.open_escape.Remark.{Remark}
-use Rattle.roff_layout.specs.declared.layout_event.LayoutEvent.TheVariants.{Divert, Close}
+use Rattle.page_model.specs.declared.event.Event.TheVariants.{Print, WordEnd, LineEnd, Count, Break, Tab}
+use Rattle.page_model.specs.declared.glyph.Glyph.{Glyph}
+use Rattle.page_model.specs.declared.glyph.Glyph.TheVariants.{Blanks, Printed}
+use Rattle.input_source.specs.Bytes.{tab, newline, blank, apostrophe, dot, is_silent}
+use Rattle.input_escapes.specs.Characters.{character}
+use Rattle.input_escapes.specs.Escapes.{escape_of}
+use Rattle.input_escapes.specs.declared.escapes.Escape.{Escape as Kind}
+use Rattle.input_escapes.specs.declared.escapes.Escape.TheVariants.{Prints, Blank, NoWidth, Nothing as GivesNothing, Brace, LeftOut as IsLeftOut, Comment as BeginsComment, Size as BeginsSize, Name as BeginsName, Text as BeginsText, Width as BeginsWidth, Tab as GivesTab, Interrupts}
+use Rattle.input_escapes.specs.declared.escapes.NameUse.{NameUse}
+use Rattle.input_escapes.specs.declared.escapes.NameUse.TheVariants.{Register, Text as OfText, Argument, Character, Font, LeftOut as NameLeftOut}
+use Rattle.input_escapes.specs.declared.escapes.TextUse.TheVariants.{Motion as OfMotion, LeftOut as LeftOutText}
+use Rattle.input_escapes.specs.declared.open_escape.CopyUnit.TheVariants.{Byte, Kept}
+use Rattle.input_escapes.specs.declared.open_escape.Found.{Found}
+use Rattle.input_escapes.specs.declared.open_escape.Found.TheVariants.{GoesOn, Unit as GivesUnit, Holds, Escape, Asks, Motion, Measures, Tells as Says, Decides}
+use Rattle.run_model.specs.Reading.Beginnings.{beginning_found, beginning_text, escape_begun, first_escape, first_name, first_taking, going_on_told, line_begun, line_begun_as}
+use Rattle.run_model.specs.Reading.Escapes.{asking}
+use Rattle.run_model.specs.Reading.Items.{PageInput, Taking}
+use Rattle.run_model.specs.Reading.TextLines.{blank_line, blank_taking, character_printed, character_taking, escape_meant, escape_taking, glyph_taking, leading_blank_events, leading_glyph, name_taking, text_found, text_line_end, text_taking, other_taking, left_out_taking, motion_taking, tab_taking}
+use Rattle.run_model.specs.Reading.Units.{no_unit_found}
+use Rattle.run_model.specs.Registers.{Known, page_stepped}
+use Rattle.run_model.specs.PageEvents.{PageEvent}
+use Rattle.run_model.specs.declared.event.PageEvent.TheVariants.{Text, Page}
+use Rattle.run_model.specs.declared.line_state.LineState.{LineState}
+use Rattle.run_model.specs.declared.line_state.LineState.TheVariants.{LineStart, Branch, Braced, Text as InText}
+use Rattle.run_model.specs.declared.line_state.TextLine.{TextLine}
+use Rattle.input_escapes.specs.declared.open_escape.Remark.{Remark}
+use Rattle.page_model.specs.declared.layout_event.LayoutEvent.TheVariants.{Divert, Close}
 use Rattle.roff_num.specs.declared.num.Num.{Num}
-use Rattle.roff_run.specs.Requests.Effects.{page_numbered}
+use Rattle.run_model.specs.Requests.Effects.{page_numbered}
 use Rattle.law_diversions.specs.DivertedTexts.{is_making}
 
 -- an event neither opens a diversion nor closes the run

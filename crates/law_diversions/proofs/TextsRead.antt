@@ -6,41 +6,41 @@ use Rattle.std.proofs.Common.{◌≡◌, inl, ℕ, Bool, true, false, List, ◌+
 use Rattle.std.specs.Prelude.{◌||◌, ◌&&◌, ◌==◌}
 use Rattle.roff_num.specs.declared.short_name.ShortName.{ShortName}
 use Rattle.roff_num.specs.ShortNames.{name_at, name_bytes}
-use Rattle.roff_input.specs.Arguments.{no_arguments}
-use Rattle.roff_source.specs.Bytes.{tab, newline, blank, is_dropped}
-use Rattle.roff_escape.specs.OpenEscapes.{byte_read, reading_ended}
-use Rattle.roff_escape.specs.declared.open_escape.CopyUnit.{CopyUnit}
-use Rattle.roff_escape.specs.declared.open_escape.Found.{Found}
-use Rattle.roff_escape.specs.declared.open_escape.Surroundings.TheVariants.{Arguments as AboveArguments, Copy as AboveCopy}
-use Rattle.roff_input.specs.Input.{beginning_line}
-use Rattle.roff_input.specs.Input.Calls.{arguments_given, last_result, without_last}
-use Rattle.roff_escape.specs.OpenEscape.{unit_bytes}
-use Rattle.roff_run.specs.Definitions.{end_mark, front_of, line_from}
-use Rattle.roff_run.specs.Reading.{undropped_taking, taking, escape_ended, title_read}
-use Rattle.roff_run.specs.Reading.Branches.{reads_else}
-use Rattle.roff_run.specs.Reading.ControlLines.{called_taking, ends_name, line_taking, name_ended_taking, behind_called, behind_name}
-use Rattle.roff_run.specs.Reading.DefinedLines.{behind_definition, definition_found, definition_line, definition_unit}
-use Rattle.roff_run.specs.Reading.Ends.{end_taking, interrupted_end}
-use Rattle.roff_run.specs.Reading.Found.{found_in, place_in}
-use Rattle.roff_run.specs.Reading.Items.{PageInput}
-use Rattle.roff_run.specs.Reading.Strings.{string_line_ended, string_entered}
-use Rattle.roff_run.specs.Reading.Units.{no_unit_found, unit_in}
-use Rattle.roff_run.specs.Registers.{Known}
-use Rattle.roff_run.specs.Requests.{called_by, row_of}
-use Rattle.roff_run.specs.declared.definition.DefinitionLine.{DefinitionLine}
-use Rattle.roff_run.specs.declared.definition.DefinitionLine.TheVariants.{MayBeLast, IsLast, IsText}
-use Rattle.roff_run.specs.declared.line_state.LineState.{LineState}
-use Rattle.roff_run.specs.declared.line_state.LineState.TheVariants.{LineStart, Branch, Braced, Text as InText, Control, Name, Deciding, Skipping, Dropped, Told, Exiting, TitleFront, Title as InTitle, Collecting}
-use Rattle.roff_run.specs.declared.purpose.Purpose.TheVariants.{Arguments as InArguments, StringName, StringText, Telling, Calling, Defining}
-use Rattle.roff_run.specs.declared.line_state.TextLine.{TextLine}
-use Rattle.roff_run.specs.declared.request.Called.{Called}
-use Rattle.roff_run.specs.declared.request.Called.TheVariants.{Request as ARequest, Body as ABody, Nothing as Unknown}
-use Rattle.roff_run.specs.declared.request.LineReading.{LineReading}
-use Rattle.roff_run.specs.declared.request.LineReading.TheVariants.{ByArguments, ByCondition, ByElse, ByLastLine, ByMessage, ByString, ByLines, ByTitle}
-use Rattle.roff_run.specs.declared.request.Request.{Request}
-use Rattle.roff_layout.specs.Words.{is_empty}
-use Rattle.roff_run.proofs.Collected.{of-unit_or}
-use Rattle.roff_run.specs.Reading.Definitions.{definition_dropped}
+use Rattle.input_model.specs.Arguments.{no_arguments}
+use Rattle.input_source.specs.Bytes.{tab, newline, blank, is_dropped}
+use Rattle.input_escapes.specs.OpenEscapes.{byte_read, reading_ended}
+use Rattle.input_escapes.specs.declared.open_escape.CopyUnit.{CopyUnit}
+use Rattle.input_escapes.specs.declared.open_escape.Found.{Found}
+use Rattle.input_escapes.specs.declared.open_escape.Surroundings.TheVariants.{Arguments as AboveArguments, Copy as AboveCopy}
+use Rattle.input_model.specs.Input.{beginning_line}
+use Rattle.input_model.specs.Input.Calls.{arguments_given, last_result, without_last}
+use Rattle.input_escapes.specs.OpenEscape.{unit_bytes}
+use Rattle.run_model.specs.Definitions.{end_mark, front_of, line_from}
+use Rattle.run_model.specs.Reading.{undropped_taking, taking, escape_ended, title_read}
+use Rattle.run_model.specs.Reading.Branches.{reads_else}
+use Rattle.run_model.specs.Reading.ControlLines.{called_taking, ends_name, line_taking, name_ended_taking, behind_called, behind_name}
+use Rattle.run_model.specs.Reading.DefinedLines.{behind_definition, definition_found, definition_line, definition_unit}
+use Rattle.run_model.specs.Reading.Ends.{end_taking, interrupted_end}
+use Rattle.run_model.specs.Reading.Found.{found_in, place_in}
+use Rattle.run_model.specs.Reading.Items.{PageInput}
+use Rattle.run_model.specs.Reading.Strings.{string_line_ended, string_entered}
+use Rattle.run_model.specs.Reading.Units.{no_unit_found, unit_in}
+use Rattle.run_model.specs.Registers.{Known}
+use Rattle.run_model.specs.Requests.{called_by, row_of}
+use Rattle.run_model.specs.declared.definition.DefinitionLine.{DefinitionLine}
+use Rattle.run_model.specs.declared.definition.DefinitionLine.TheVariants.{MayBeLast, IsLast, IsText}
+use Rattle.run_model.specs.declared.line_state.LineState.{LineState}
+use Rattle.run_model.specs.declared.line_state.LineState.TheVariants.{LineStart, Branch, Braced, Text as InText, Control, Name, Deciding, Skipping, Dropped, Told, Exiting, TitleFront, Title as InTitle, Collecting}
+use Rattle.run_model.specs.declared.purpose.Purpose.TheVariants.{Arguments as InArguments, StringName, StringText, Telling, Calling, Defining}
+use Rattle.run_model.specs.declared.line_state.TextLine.{TextLine}
+use Rattle.run_model.specs.declared.request.Called.{Called}
+use Rattle.run_model.specs.declared.request.Called.TheVariants.{Request as ARequest, Body as ABody, Nothing as Unknown}
+use Rattle.run_model.specs.declared.request.LineReading.{LineReading}
+use Rattle.run_model.specs.declared.request.LineReading.TheVariants.{ByArguments, ByCondition, ByElse, ByLastLine, ByMessage, ByString, ByLines, ByTitle}
+use Rattle.run_model.specs.declared.request.Request.{Request}
+use Rattle.page_model.specs.Words.{is_empty}
+use Rattle.run_model.proofs.Collected.{of-unit_or}
+use Rattle.run_model.specs.Reading.Definitions.{definition_dropped}
 use Rattle.law_diversions.specs.DivertedTexts.{IsAbove, NoneAbove, is_making}
 use Rattle.law_diversions.proofs.OpenTexts.{above-adding, above-dropping, above-entering, above-one, above-same}
 use Rattle.law_diversions.proofs.TextsLeft.{AreMild, AtBrace, AtBranch, AtStart, Leaves-no_unit_found, Texts-beginning_found, Texts-text_found, mild-line_end}

@@ -1,24 +1,24 @@
 -- Titles leave the texts in the making, as `TextsLeft` says it of text lines.
 use Rattle.std.proofs.Common.{ℕ, List, Option, Some, None, refl}
 use Rattle.std.specs.Prelude.{◌==◌}
-use Rattle.roff_source.specs.Bytes.{newline, blank}
-use Rattle.roff_escape.specs.Characters.{character}
-use Rattle.roff_escape.specs.Escapes.{escape_of}
-use Rattle.roff_escape.specs.declared.escapes.Escape.{Escape as Kind}
-use Rattle.roff_escape.specs.declared.escapes.Escape.TheVariants.{Prints, Blank, NoWidth, Nothing as GivesNothing, Tab as GivesTab, Interrupts, Brace, LeftOut as IsLeftOut, Comment as BeginsComment, Size as BeginsSize, Name as BeginsName, Text as BeginsText, Width as BeginsWidth}
-use Rattle.roff_escape.specs.declared.escapes.NameUse.{NameUse}
-use Rattle.roff_escape.specs.declared.escapes.NameUse.TheVariants.{Register, Text as OfText, Argument, Character, Font, LeftOut as NameLeftOut}
-use Rattle.roff_escape.specs.declared.escapes.TextUse.TheVariants.{Motion as OfMotion, LeftOut as LeftOutText}
-use Rattle.roff_escape.specs.declared.open_escape.CopyUnit.{CopyUnit}
-use Rattle.roff_escape.specs.declared.open_escape.CopyUnit.TheVariants.{Byte, Kept}
-use Rattle.roff_escape.specs.declared.open_escape.Found.{Found}
-use Rattle.roff_escape.specs.declared.open_escape.Found.TheVariants.{GoesOn, Unit as GivesUnit, Holds, Escape, Asks, Motion, Measures, Tells as Says, Decides}
-use Rattle.roff_run.specs.declared.line_state.LineState.TheVariants.{Title as InTitle}
-use Rattle.roff_run.specs.Reading.Items.{PageInput}
-use Rattle.roff_run.specs.Reading.Titles.{behind_part, character_put, escape_in_title, title_character, title_ended, title_found, title_front_unit, title_name}
-use Rattle.roff_run.specs.Registers.{Known}
-use Rattle.roff_run.specs.declared.title.TitlePart.{TitlePart}
-use Rattle.roff_run.specs.declared.title.TitlePart.TheVariants.{Left, Centre, Right}
+use Rattle.input_source.specs.Bytes.{newline, blank}
+use Rattle.input_escapes.specs.Characters.{character}
+use Rattle.input_escapes.specs.Escapes.{escape_of}
+use Rattle.input_escapes.specs.declared.escapes.Escape.{Escape as Kind}
+use Rattle.input_escapes.specs.declared.escapes.Escape.TheVariants.{Prints, Blank, NoWidth, Nothing as GivesNothing, Tab as GivesTab, Interrupts, Brace, LeftOut as IsLeftOut, Comment as BeginsComment, Size as BeginsSize, Name as BeginsName, Text as BeginsText, Width as BeginsWidth}
+use Rattle.input_escapes.specs.declared.escapes.NameUse.{NameUse}
+use Rattle.input_escapes.specs.declared.escapes.NameUse.TheVariants.{Register, Text as OfText, Argument, Character, Font, LeftOut as NameLeftOut}
+use Rattle.input_escapes.specs.declared.escapes.TextUse.TheVariants.{Motion as OfMotion, LeftOut as LeftOutText}
+use Rattle.input_escapes.specs.declared.open_escape.CopyUnit.{CopyUnit}
+use Rattle.input_escapes.specs.declared.open_escape.CopyUnit.TheVariants.{Byte, Kept}
+use Rattle.input_escapes.specs.declared.open_escape.Found.{Found}
+use Rattle.input_escapes.specs.declared.open_escape.Found.TheVariants.{GoesOn, Unit as GivesUnit, Holds, Escape, Asks, Motion, Measures, Tells as Says, Decides}
+use Rattle.run_model.specs.declared.line_state.LineState.TheVariants.{Title as InTitle}
+use Rattle.run_model.specs.Reading.Items.{PageInput}
+use Rattle.run_model.specs.Reading.Titles.{behind_part, character_put, escape_in_title, title_character, title_ended, title_found, title_front_unit, title_name}
+use Rattle.run_model.specs.Registers.{Known}
+use Rattle.run_model.specs.declared.title.TitlePart.{TitlePart}
+use Rattle.run_model.specs.declared.title.TitlePart.TheVariants.{Left, Centre, Right}
 use Rattle.law_diversions.proofs.TextsLeft.{Leaves-asking, Leaves-no_unit_found, Texts, Texts-if}
 
 -- the end of its line: the title is placed

@@ -6,46 +6,46 @@ use Rattle.std.proofs.Common.{◌≡◌, ◌⊎◌, inl, inr, ℕ, Bool, true, f
 use Rattle.std.specs.Prelude.{◌&&◌, nat_le, if◌then◌else◌, ◌==◌}
 use Rattle.roff_num.specs.declared.short_name.ShortName.{ShortName}
 use Rattle.roff_num.specs.ShortNames.{name_at, name_bytes, name_or_none}
-use Rattle.roff_input.specs.Arguments.{no_arguments}
-use Rattle.roff_source.specs.Bytes.{newline, blank, backslash, quote}
-use Rattle.roff_escape.specs.OpenEscapes.{byte_read}
-use Rattle.roff_escape.specs.declared.open_escape.CopyUnit.{CopyUnit}
-use Rattle.roff_escape.specs.declared.open_escape.CopyUnit.TheVariants.{Byte, Kept}
-use Rattle.roff_escape.specs.declared.open_escape.Decision.TheVariants.{Is}
-use Rattle.roff_escape.specs.declared.open_escape.Found.{Found}
-use Rattle.roff_escape.specs.declared.open_escape.Found.TheVariants.{GoesOn, Unit as GivesUnit, Holds, Escape, Asks, Motion, Measures, Tells as Says, Decides}
-use Rattle.roff_escape.specs.declared.open_escape.Surroundings.TheVariants.{Arguments as AboveArguments}
-use Rattle.roff_input.specs.Input.{choosing}
-use Rattle.roff_input.specs.Input.Calls.{arguments_given}
-use Rattle.roff_escape.specs.OpenEscape.{unit_bytes}
-use Rattle.roff_run.specs.Reading.Arguments.{arguments_ended, line_ended, unit_found, reading_behind}
-use Rattle.roff_run.specs.Reading.Beginnings.{at_start}
-use Rattle.roff_run.specs.Reading.Branches.{branch_of, branch_taking, condition_begun, condition_found, decided, is_so, skipping_taking, with_result_if}
-use Rattle.roff_run.specs.Reading.Collecting.{collected, unit_taking}
-use Rattle.roff_run.specs.Reading.Calls.{call_unit}
-use Rattle.roff_run.specs.Reading.ControlLines.{dropped_taking}
-use Rattle.roff_run.specs.Reading.Definitions.{definition_named, lines_begun}
-use Rattle.roff_run.specs.Reading.Items.{PageInput, Taking, going_on}
-use Rattle.roff_run.specs.Reading.Messages.{message_unit}
-use Rattle.roff_run.specs.Reading.Strings.{name_read, string_line_ended, string_name_behind, string_name_or_text, string_name_unit, string_unit, string_begun}
-use Rattle.roff_run.specs.Reading.Units.{holding, interrupted, settling}
-use Rattle.roff_run.specs.Registers.{Known}
-use Rattle.roff_run.specs.Requests.{request_effect, row_of, PageEvent}
-use Rattle.roff_run.specs.Requests.Effects.{Effect}
-use Rattle.roff_run.specs.declared.line_state.LineState.{LineState}
-use Rattle.roff_run.specs.declared.line_state.LineState.TheVariants.{LineStart, Branch, Deciding, Dropped, Collecting}
-use Rattle.roff_run.specs.declared.purpose.Purpose.TheVariants.{StringText, Defining}
-use Rattle.roff_run.specs.declared.request.LineReading.{LineReading}
-use Rattle.roff_run.specs.declared.request.LineReading.TheVariants.{ByArguments, ByCondition, ByElse, ByLastLine, ByMessage, ByString, ByLines, ByTitle}
-use Rattle.roff_run.specs.declared.request.LinesFor.{LinesFor}
-use Rattle.roff_run.specs.declared.request.LinesFor.TheVariants.{Macro, Nobody}
-use Rattle.roff_run.specs.declared.request.Request.{Request}
-use Rattle.roff_run.proofs.Collected.{of-collected}
-use Rattle.roff_run.specs.Reading.Arguments.{calling_all}
-use Rattle.roff_run.specs.Reading.Calls.{holding_call}
-use Rattle.roff_run.specs.Reading.Strings.{string_emptied}
+use Rattle.input_model.specs.Arguments.{no_arguments}
+use Rattle.input_source.specs.Bytes.{newline, blank, backslash, quote}
+use Rattle.input_escapes.specs.OpenEscapes.{byte_read}
+use Rattle.input_escapes.specs.declared.open_escape.CopyUnit.{CopyUnit}
+use Rattle.input_escapes.specs.declared.open_escape.CopyUnit.TheVariants.{Byte, Kept}
+use Rattle.input_escapes.specs.declared.open_escape.Decision.TheVariants.{Is}
+use Rattle.input_escapes.specs.declared.open_escape.Found.{Found}
+use Rattle.input_escapes.specs.declared.open_escape.Found.TheVariants.{GoesOn, Unit as GivesUnit, Holds, Escape, Asks, Motion, Measures, Tells as Says, Decides}
+use Rattle.input_escapes.specs.declared.open_escape.Surroundings.TheVariants.{Arguments as AboveArguments}
+use Rattle.input_model.specs.Input.{choosing}
+use Rattle.input_model.specs.Input.Calls.{arguments_given}
+use Rattle.input_escapes.specs.OpenEscape.{unit_bytes}
+use Rattle.run_model.specs.Reading.Arguments.{arguments_ended, line_ended, unit_found, reading_behind}
+use Rattle.run_model.specs.Reading.Beginnings.{at_start}
+use Rattle.run_model.specs.Reading.Branches.{branch_of, branch_taking, condition_begun, condition_found, decided, is_so, skipping_taking, with_result_if}
+use Rattle.run_model.specs.Reading.Collecting.{collected, unit_taking}
+use Rattle.run_model.specs.Reading.Calls.{call_unit}
+use Rattle.run_model.specs.Reading.ControlLines.{dropped_taking}
+use Rattle.run_model.specs.Reading.Definitions.{definition_named, lines_begun}
+use Rattle.run_model.specs.Reading.Items.{PageInput, Taking, going_on}
+use Rattle.run_model.specs.Reading.Messages.{message_unit}
+use Rattle.run_model.specs.Reading.Strings.{name_read, string_line_ended, string_name_behind, string_name_or_text, string_name_unit, string_unit, string_begun}
+use Rattle.run_model.specs.Reading.Units.{holding, interrupted, settling}
+use Rattle.run_model.specs.Registers.{Known}
+use Rattle.run_model.specs.Requests.{request_effect, row_of, PageEvent}
+use Rattle.run_model.specs.Requests.Effects.{Effect}
+use Rattle.run_model.specs.declared.line_state.LineState.{LineState}
+use Rattle.run_model.specs.declared.line_state.LineState.TheVariants.{LineStart, Branch, Deciding, Dropped, Collecting}
+use Rattle.run_model.specs.declared.purpose.Purpose.TheVariants.{StringText, Defining}
+use Rattle.run_model.specs.declared.request.LineReading.{LineReading}
+use Rattle.run_model.specs.declared.request.LineReading.TheVariants.{ByArguments, ByCondition, ByElse, ByLastLine, ByMessage, ByString, ByLines, ByTitle}
+use Rattle.run_model.specs.declared.request.LinesFor.{LinesFor}
+use Rattle.run_model.specs.declared.request.LinesFor.TheVariants.{Macro, Nobody}
+use Rattle.run_model.specs.declared.request.Request.{Request}
+use Rattle.run_model.proofs.Collected.{of-collected}
+use Rattle.run_model.specs.Reading.Arguments.{calling_all}
+use Rattle.run_model.specs.Reading.Calls.{holding_call}
+use Rattle.run_model.specs.Reading.Strings.{string_emptied}
 use Rattle.roff_store.specs.TextCalls.{Call, Append, DropOpen, Enter, Lease, Open, PushOpen, Release, Remove, Rename, Set, Take}
-use Rattle.roff_input.specs.Input.Names.{calling}
+use Rattle.input_model.specs.Input.Names.{calling}
 use Rattle.law_diversions.specs.DivertedTexts.{IsAbove, NoneAbove, OneAbove, is_making}
 use Rattle.law_diversions.proofs.MildRequests.{LeaveTexts, OpensOne, means-request_effect}
 use Rattle.law_diversions.proofs.OpenTexts.{above-adding, above-entering, above-one, above-same}

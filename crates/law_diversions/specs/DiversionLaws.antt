@@ -1,34 +1,34 @@
 -- Laws over diversions (manual, sections 7.3 and 7.4).
 use Rattle.std.specs.Prelude.{◌≡◌, ℕ, ◌≤◌, Bool, true, false, List, [], ◌∷◌, ◌++◌, length, replicate, Some, None, is_some}
-use Rattle.roff_input.specs.Input.Names.{body_named, calling, texts_of}
-use Rattle.roff_layout.specs.Columns.{printed}
-use Rattle.roff_layout.specs.DeviceText.{device_lines}
-use Rattle.roff_layout.specs.DivertedText.{diverted_lines}
-use Rattle.roff_layout.specs.DueTexts.{TextDue, Ends, bytes_due}
-use Rattle.roff_layout.specs.Happenings.{Happening, Places, is_eject}
-use Rattle.roff_layout.specs.Layout.{Box, Lined, Empty, Diversion}
-use Rattle.roff_layout.specs.Behind.{finished}
-use Rattle.roff_layout.specs.Lines.{Finished}
-use Rattle.roff_layout.specs.Puts.{appended, puts}
-use Rattle.roff_layout.specs.Stops.{is_diverted}
-use Rattle.roff_layout.specs.Turning.{in_diversion}
-use Rattle.roff_layout.specs.declared.event.Event.{Event}
+use Rattle.input_model.specs.Input.Names.{body_named, calling, texts_of}
+use Rattle.page_model.specs.Columns.{printed}
+use Rattle.page_model.specs.DeviceText.{device_lines}
+use Rattle.page_model.specs.DivertedText.{diverted_lines}
+use Rattle.page_model.specs.DueTexts.{TextDue, Ends, bytes_due}
+use Rattle.page_model.specs.Happenings.{Happening, Places, is_eject}
+use Rattle.page_model.specs.Layout.{Box, Lined, Empty, Diversion}
+use Rattle.page_model.specs.Behind.{finished}
+use Rattle.page_model.specs.Lines.{Finished}
+use Rattle.page_model.specs.Puts.{appended, puts}
+use Rattle.page_model.specs.Stops.{is_diverted}
+use Rattle.page_model.specs.Turning.{in_diversion}
+use Rattle.page_model.specs.declared.event.Event.{Event}
 use Rattle.roff_num.specs.ShortNames.{name_bytes}
 use Rattle.roff_num.specs.declared.limits.Limits.{Limits}
 use Rattle.roff_num.specs.declared.short_name.ShortName.{ShortName}
-use Rattle.roff_run.specs.Environments.{text_of}
-use Rattle.roff_run.specs.Following.{following, text_changed}
-use Rattle.roff_run.specs.Layouts.{happens, layout_of}
-use Rattle.roff_run.specs.Output.{written}
-use Rattle.roff_run.specs.PageEvents.{PageEvent, PageHistory, PastEvent}
-use Rattle.roff_run.specs.Reading.Items.{PageInput}
-use Rattle.roff_run.specs.Run.{State, initial, step, text_done, told_after}
-use Rattle.roff_run.specs.Run.Counts.{refusal}
-use Rattle.roff_run.specs.declared.event.PageEvent.TheVariants.{Text}
-use Rattle.roff_run.specs.declared.start.Start.{Start}
-use Rattle.roff_source.specs.Tape.{Tape}
+use Rattle.run_model.specs.Environments.{text_of}
+use Rattle.run_model.specs.Following.{following, text_changed}
+use Rattle.run_model.specs.Layouts.{happens, layout_of}
+use Rattle.run_model.specs.Output.{written}
+use Rattle.run_model.specs.PageEvents.{PageEvent, PageHistory, PastEvent}
+use Rattle.run_model.specs.Reading.Items.{PageInput}
+use Rattle.run_model.specs.Run.{State, initial, step, text_done, told_after}
+use Rattle.run_model.specs.Run.Counts.{refusal}
+use Rattle.run_model.specs.declared.event.PageEvent.TheVariants.{Text}
+use Rattle.run_model.specs.declared.start.Start.{Start}
+use Rattle.input_source.specs.Tape.{Tape}
 use Rattle.roff_store.specs.TextCalls.{Call, Append, Remove, Rename, Set, text_before}
-use Rattle.roff_laws.specs.SpringLaws.{happening}
+use Rattle.law_runs.specs.SpringLaws.{happening}
 use Rattle.law_diversions.specs.DivertedTexts.{IsAbove, diverted_texts, is_making}
 
 -- no more diversions are open than the limit says

@@ -1,10 +1,10 @@
 -- The texts in the making of a run: those of open diversions, and that of a string or macro (manual, sections 7.1 and 7.3).
 use Rattle.std.specs.Prelude.{ℕ, Bool, true, false, List, [], ◌∷◌, ◌++◌, Some}
-use Rattle.roff_layout.specs.DivertedText.{diverted_lines}
-use Rattle.roff_layout.specs.Layout.{Diversion}
-use Rattle.roff_run.specs.declared.line_state.LineState.{LineState}
-use Rattle.roff_run.specs.declared.line_state.LineState.TheVariants.{Collecting}
-use Rattle.roff_run.specs.declared.purpose.Purpose.TheVariants.{StringText, Defining}
+use Rattle.page_model.specs.DivertedText.{diverted_lines}
+use Rattle.page_model.specs.Layout.{Diversion}
+use Rattle.run_model.specs.declared.line_state.LineState.{LineState}
+use Rattle.run_model.specs.declared.line_state.LineState.TheVariants.{Collecting}
+use Rattle.run_model.specs.declared.purpose.Purpose.TheVariants.{StringText, Defining}
 
 -- the texts of open diversions, the outermost first: of each its boxes, as lines of input
 abbrev pub diverted_texts : List Diversion → List (List ℕ)

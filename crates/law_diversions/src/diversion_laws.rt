@@ -1,8 +1,8 @@
 //! Facts about diversions of whole runs, as contracts of functions that do nothing.
 
 ghost use Rattle.std.specs.Prelude.{◌≡◌, codes};
-ghost use Rattle.roff_laws.specs.Rows.{formatted, gives};
-ghost use Rattle.roff_run.specs.declared.status.Status.TheVariants.{Done};
+ghost use Rattle.law_runs.specs.Rows.{formatted, gives};
+ghost use Rattle.run_model.specs.declared.status.Status.TheVariants.{Done};
 ghost use Rattle.law_diversions.specs.DiversionLaws.{EndedDiversionsAreEntered, NamesLeaveTexts};
 ghost use Rattle.law_diversions.specs.DiversionLaws.{LinesGoWhereTheyAreFinished};
 ghost use Rattle.law_diversions.specs.DiversionLaws.{NoMoreDiversionsAreOpen};

@@ -3,15 +3,15 @@ use Rattle.std.proofs.Common.{◌≡◌, ℕ, List, [], ◌∷◌, ◌++◌, Opt
 use Rattle.std.specs.Prelude.{All, nat_le, nat_lt}
 use Rattle.std.proofs.lemmas.Bool.{cond_both}
 use Rattle.std.proofs.lemmas.List.Elements.{All-head, All-tail}
-use Rattle.roff_layout.specs.declared.settings.Param.{Param}
-use Rattle.roff_layout.specs.declared.settings.Param.TheVariants.{NoStops, Stop, RightStop, CentredStop}
-use Rattle.roff_layout.specs.declared.stop.TabStop.{TabStop}
-use Rattle.roff_layout.specs.declared.stop.StopKind.TheVariants.{Left as AtLeft}
-use Rattle.roff_layout.specs.declared.event.Event.TheVariants.{Tab, FieldEnd, Set}
-use Rattle.roff_layout.specs.Events.{History, stops_after}
-use Rattle.roff_layout.specs.TabStops.{TabStops, Way, with_stop_set, stops_with, way_beyond, shorter_way, way_to_nearest, way_to_next}
-use Rattle.roff_layout.specs.Places.{input_place}
-use Rattle.roff_layout.specs.Fields.{plain, so_far, told, unfielded}
+use Rattle.page_model.specs.declared.settings.Param.{Param}
+use Rattle.page_model.specs.declared.settings.Param.TheVariants.{NoStops, Stop, RightStop, CentredStop}
+use Rattle.page_model.specs.declared.stop.TabStop.{TabStop}
+use Rattle.page_model.specs.declared.stop.StopKind.TheVariants.{Left as AtLeft}
+use Rattle.page_model.specs.declared.event.Event.TheVariants.{Tab, FieldEnd, Set}
+use Rattle.page_model.specs.Events.{History, stops_after}
+use Rattle.page_model.specs.TabStops.{TabStops, Way, with_stop_set, stops_with, way_beyond, shorter_way, way_to_nearest, way_to_next}
+use Rattle.page_model.specs.Places.{input_place}
+use Rattle.page_model.specs.Fields.{plain, so_far, told, unfielded}
 use Rattle.law_lines.specs.FieldLaws.{SetsNoField, without_field_ends}
 use Rattle.roff_lines.proofs.Unfielded.{told-event_as, told-tab_as, told-field_end_as}
 

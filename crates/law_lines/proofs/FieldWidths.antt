@@ -4,21 +4,21 @@ use Rattle.std.specs.Prelude.{if◌then◌else◌, ◌==◌, max, IfSome, is_som
 use Rattle.std.proofs.lemmas.Bool.{cond_both}
 use Rattle.std.proofs.lemmas.List.{reverse-append}
 use Rattle.std.proofs.lemmas.List.Sums.{sum_by-cons, sum_by-append}
-use Rattle.roff_layout.specs.declared.glyph.Glyph.{Glyph}
-use Rattle.roff_layout.specs.declared.glyph.Glyph.TheVariants.{Blanks}
-use Rattle.roff_layout.specs.declared.stop.StopKind.{StopKind}
-use Rattle.roff_layout.specs.declared.stop.StopKind.TheVariants.{Left as AtLeft, Right as AtRight, Centred as InMiddle}
-use Rattle.roff_layout.specs.declared.event.Event.{Event}
-use Rattle.roff_layout.specs.declared.event.Event.TheVariants.{Print, Tab, FieldEnd, WordEnd, Gap, LineEnd, Break}
-use Rattle.roff_layout.specs.Glyphs.{glyph_width, text_width}
-use Rattle.roff_layout.specs.Events.{History, stops_after}
-use Rattle.roff_layout.specs.TabStops.{columns_of_way, way_to_next}
-use Rattle.roff_layout.specs.Places.{moved, input_place as place_in}
-use Rattle.roff_layout.specs.Lines.{finished as finished_in}
-use Rattle.roff_layout.specs.LastLine.{EndsAtWidth}
-use Rattle.roff_layout.specs.Telling.{glyphs_told}
-use Rattle.roff_layout.specs.Fields.{Field, Told, field_text, field_told, motion, opened, plain, so_far, tab_told, told, told_behind, without_gap}
-use Rattle.roff_layout.specs.Behind.{finished, input_place}
+use Rattle.page_model.specs.declared.glyph.Glyph.{Glyph}
+use Rattle.page_model.specs.declared.glyph.Glyph.TheVariants.{Blanks}
+use Rattle.page_model.specs.declared.stop.StopKind.{StopKind}
+use Rattle.page_model.specs.declared.stop.StopKind.TheVariants.{Left as AtLeft, Right as AtRight, Centred as InMiddle}
+use Rattle.page_model.specs.declared.event.Event.{Event}
+use Rattle.page_model.specs.declared.event.Event.TheVariants.{Print, Tab, FieldEnd, WordEnd, Gap, LineEnd, Break}
+use Rattle.page_model.specs.Glyphs.{glyph_width, text_width}
+use Rattle.page_model.specs.Events.{History, stops_after}
+use Rattle.page_model.specs.TabStops.{columns_of_way, way_to_next}
+use Rattle.page_model.specs.Places.{moved, input_place as place_in}
+use Rattle.page_model.specs.Lines.{finished as finished_in}
+use Rattle.page_model.specs.LastLine.{EndsAtWidth}
+use Rattle.page_model.specs.Telling.{glyphs_told}
+use Rattle.page_model.specs.Fields.{Field, Told, field_text, field_told, motion, opened, plain, so_far, tab_told, told, told_behind, without_gap}
+use Rattle.page_model.specs.Behind.{finished, input_place}
 use Rattle.law_lines.specs.FieldLaws.{StandsAtStop, MovesField, TabLeads, glyphs_width}
 use Rattle.roff_lines.proofs.Fields.{text_width-glyphs, input_place-field, input_place-motion}
 use Rattle.roff_lines.proofs.LastLine.{EndsAtWidth-finished}

@@ -5,12 +5,12 @@ use Rattle.std.proofs.lemmas.Bool.Decides.{nat_tests}
 use Rattle.std.proofs.lemmas.List.{append-nil, append_assoc, map-append, reverse-append}
 use Rattle.std.proofs.lemmas.List.Elements.{All-head, All-tail}
 use Rattle.std.proofs.lemmas.List.Sums.{sum_by-append}
-use Rattle.roff_layout.specs.declared.settings.Settings.{Settings}
+use Rattle.page_model.specs.declared.settings.Settings.{Settings}
 use Rattle.roff_num.specs.Widths.{byte_width}
-use Rattle.roff_layout.specs.Glyphs.{text_width}
-use Rattle.roff_layout.specs.Settings.{fills}
-use Rattle.roff_layout.specs.Fitting.{Word, word_text, gap_text, line_text, line_indent, fits}
-use Rattle.roff_layout.specs.Words.{is_empty}
+use Rattle.page_model.specs.Glyphs.{text_width}
+use Rattle.page_model.specs.Settings.{fills}
+use Rattle.page_model.specs.Fitting.{Word, word_text, gap_text, line_text, line_indent, fits}
+use Rattle.page_model.specs.Words.{is_empty}
 use Rattle.law_lines.specs.Filling.{with_word, lines_of}
 use Rattle.roff_lines.specs.declared.fill.Word.{Word as MeasuredWord}
 use Rattle.roff_lines.specs.FirstLine.{count_joining, first_line_count}

@@ -2,18 +2,18 @@
 use Rattle.std.proofs.Common.{◌≡◌, Bool, true, false, not, ◌&&◌, Option, Some, None, List, [], ◌∷◌, refl, ap, ◌∙◌}
 use Rattle.std.specs.Prelude.{if◌then◌else◌}
 use Rattle.std.specs.List.{cons_option}
-use Rattle.roff_layout.specs.declared.settings.Settings.{Settings}
-use Rattle.roff_layout.specs.Glyphs.{glyph_width}
-use Rattle.roff_layout.specs.Settings.{settings_with, counted, fills}
-use Rattle.roff_layout.specs.declared.event.Event.{Event}
-use Rattle.roff_layout.specs.declared.event.Event.TheVariants.{Print, Tab, FieldEnd, WordEnd, Gap, LineEnd, Count, Break, Interrupt, Resume, Set}
-use Rattle.roff_layout.specs.Events.{History, settings_after, stops_after}
-use Rattle.roff_layout.specs.TabStops.{stops_with}
-use Rattle.roff_layout.specs.Places.{has_line_glyph, moved, input_place}
-use Rattle.roff_layout.specs.Fitting.{Word, fits, last_line}
-use Rattle.roff_layout.specs.Words.{is_empty, has_open_word, open_glyphs, last_word_glyphs, blanks, paragraph, words, temporary_indent, open_word}
-use Rattle.roff_layout.specs.Lines.{Finished, empty_line, line_laid_out, finished}
-use Rattle.roff_layout.specs.Paragraphs.{finished_lines}
+use Rattle.page_model.specs.declared.settings.Settings.{Settings}
+use Rattle.page_model.specs.Glyphs.{glyph_width}
+use Rattle.page_model.specs.Settings.{settings_with, counted, fills}
+use Rattle.page_model.specs.declared.event.Event.{Event}
+use Rattle.page_model.specs.declared.event.Event.TheVariants.{Print, Tab, FieldEnd, WordEnd, Gap, LineEnd, Count, Break, Interrupt, Resume, Set}
+use Rattle.page_model.specs.Events.{History, settings_after, stops_after}
+use Rattle.page_model.specs.TabStops.{stops_with}
+use Rattle.page_model.specs.Places.{has_line_glyph, moved, input_place}
+use Rattle.page_model.specs.Fitting.{Word, fits, last_line}
+use Rattle.page_model.specs.Words.{is_empty, has_open_word, open_glyphs, last_word_glyphs, blanks, paragraph, words, temporary_indent, open_word}
+use Rattle.page_model.specs.Lines.{Finished, empty_line, line_laid_out, finished}
+use Rattle.page_model.specs.Paragraphs.{finished_lines}
 use Rattle.law_lines.specs.Interruptions.{uninterrupted}
 
 -- the line that the end of a word finishes, told whether it is open, the words before it, itself, and what is in force

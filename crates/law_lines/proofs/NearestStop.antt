@@ -3,9 +3,9 @@ use Rattle.std.proofs.Common.{◌≡◌, ℕ, ◌+◌, ◌-◌, ◌%◌, ◌<◌
 use Rattle.std.specs.Prelude.{if◌then◌else◌, ◌==◌, nat_le, nat_lt}
 use Rattle.std.proofs.lemmas.Bool.{cases_Bool, eqb-true}
 use Rattle.std.proofs.lemmas.Bool.Decides.{nat_tests}
-use Rattle.roff_layout.specs.declared.stop.TabStop.{TabStop}
-use Rattle.roff_layout.specs.declared.stop.StopKind.{StopKind}
-use Rattle.roff_layout.specs.TabStops.{TabStops, Way, shorter_way, way_to_nearest, way_to_next}
+use Rattle.page_model.specs.declared.stop.TabStop.{TabStop}
+use Rattle.page_model.specs.declared.stop.StopKind.{StopKind}
+use Rattle.page_model.specs.TabStops.{TabStops, Way, shorter_way, way_to_nearest, way_to_next}
 use Rattle.law_lines.specs.NearestStop.{first_at, stop_at, IsNearest, LeadsToNearest}
 
 -- the first of some stops is the one at its column

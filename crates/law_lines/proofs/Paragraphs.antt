@@ -4,16 +4,16 @@ use Rattle.std.specs.Prelude.{if◌then◌else◌, map, All}
 use Rattle.std.specs.List.{cons_option}
 use Rattle.std.proofs.lemmas.Bool.{cases_Bool}
 use Rattle.std.proofs.lemmas.List.Elements.{All-head, All-tail}
-use Rattle.roff_layout.specs.declared.settings.Settings.{Settings}
-use Rattle.roff_layout.specs.declared.event.Event.TheVariants.{WordEnd, LineEnd, Break}
-use Rattle.roff_layout.specs.Events.{History, settings_after}
-use Rattle.roff_layout.specs.Settings.{fills}
-use Rattle.roff_layout.specs.Fitting.{Word, fits, last_line}
-use Rattle.roff_layout.specs.Words.{is_empty, has_open_word, open_word, words, temporary_indent}
-use Rattle.roff_layout.specs.Lines.{Finished, empty_line, line_laid_out, finished, pending_line}
+use Rattle.page_model.specs.declared.settings.Settings.{Settings}
+use Rattle.page_model.specs.declared.event.Event.TheVariants.{WordEnd, LineEnd, Break}
+use Rattle.page_model.specs.Events.{History, settings_after}
+use Rattle.page_model.specs.Settings.{fills}
+use Rattle.page_model.specs.Fitting.{Word, fits, last_line}
+use Rattle.page_model.specs.Words.{is_empty, has_open_word, open_word, words, temporary_indent}
+use Rattle.page_model.specs.Lines.{Finished, empty_line, line_laid_out, finished, pending_line}
 use Rattle.law_lines.specs.Filling.{with_word, lines_of, last_of, AreLongestFronts}
-use Rattle.roff_layout.specs.Telling.{words_told, IsWordUnder, IsClear}
-use Rattle.roff_layout.specs.Paragraphs.{finished_lines, until_break, begun_under, full_lines, broken_lines, paragraph_lines}
+use Rattle.page_model.specs.Telling.{words_told, IsWordUnder, IsClear}
+use Rattle.page_model.specs.Paragraphs.{finished_lines, until_break, begun_under, full_lines, broken_lines, paragraph_lines}
 use Rattle.roff_lines.proofs.PendingLine.{is_empty-last_line}
 use Rattle.law_lines.proofs.Filling.{fills_lines}
 use Rattle.law_lines.proofs.ToldWords.{settings_after-words, until_break-words, words-words}

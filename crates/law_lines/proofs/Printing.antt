@@ -3,12 +3,12 @@ use Rattle.std.proofs.Common.{◌≡◌, ℕ, ◌<◌, false, List, [], ◌∷�
 use Rattle.std.specs.Prelude.{map, reverse, All, option_map}
 use Rattle.std.specs.List.{flat_map}
 use Rattle.std.proofs.lemmas.List.Elements.{All-head, All-tail}
-use Rattle.roff_layout.specs.declared.glyph.Glyph.TheVariants.{Printed}
-use Rattle.roff_layout.specs.Glyphs.{glyph_text}
-use Rattle.roff_layout.specs.declared.event.Event.TheVariants.{WordEnd, Break}
-use Rattle.roff_layout.specs.Words.{is_empty}
-use Rattle.roff_layout.specs.Columns.{line_bytes, spread, trimmed, written_by_break as written_in}
-use Rattle.roff_layout.specs.Telling.{glyphs_told}
+use Rattle.page_model.specs.declared.glyph.Glyph.TheVariants.{Printed}
+use Rattle.page_model.specs.Glyphs.{glyph_text}
+use Rattle.page_model.specs.declared.event.Event.TheVariants.{WordEnd, Break}
+use Rattle.page_model.specs.Words.{is_empty}
+use Rattle.page_model.specs.Columns.{line_bytes, spread, trimmed, written_by_break as written_in}
+use Rattle.page_model.specs.Telling.{glyphs_told}
 use Rattle.law_lines.specs.Written.{written_by_break}
 use Rattle.roff_lines.proofs.GlyphsInFront.{eqb-above, spread-glyph, text_byte-above}
 use Rattle.roff_lines.proofs.Unfielded.{finished_as, told-event_as, told-glyphs_told_as}

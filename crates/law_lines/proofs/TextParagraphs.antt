@@ -3,22 +3,22 @@ use Rattle.std.proofs.Common.{◌≡◌, ℕ, true, false, List, [], ◌∷◌, 
 use Rattle.std.specs.Prelude.{◌==◌, All}
 use Rattle.std.proofs.lemmas.Bool.{cases_Bool, cond_both}
 use Rattle.std.proofs.lemmas.List.Elements.{All-nil, All-head, All-tail}
-use Rattle.roff_layout.specs.declared.glyph.Glyph.{Glyph}
-use Rattle.roff_layout.specs.declared.settings.Settings.{Settings}
-use Rattle.roff_layout.specs.declared.stop.StopKind.{StopKind}
-use Rattle.roff_layout.specs.declared.stop.StopKind.TheVariants.{Left as AtLeft, Right as AtRight, Centred as InMiddle}
-use Rattle.roff_layout.specs.declared.event.Event.{Event}
-use Rattle.roff_layout.specs.declared.event.Event.TheVariants.{Print, Tab, FieldEnd, WordEnd, Gap, LineEnd, Count, Break, Interrupt, Resume, Set}
-use Rattle.roff_layout.specs.Events.{History, settings_after, stops_after}
-use Rattle.roff_layout.specs.Settings.{fills}
-use Rattle.roff_layout.specs.TabStops.{Way, way_to_next}
-use Rattle.roff_layout.specs.Places.{input_place}
-use Rattle.roff_layout.specs.Fitting.{Word}
-use Rattle.roff_layout.specs.Words.{is_empty, words, temporary_indent}
-use Rattle.roff_layout.specs.Telling.{words_told, IsOfText, IsWordUnder, IsClear}
-use Rattle.roff_layout.specs.Paragraphs.{until_break, full_lines, broken_lines, paragraph_lines, finished_lines as lines_in}
-use Rattle.roff_layout.specs.Fields.{Field, field_told, gap_ended, motion, plain, so_far, tab_told, told, told_behind, unfielded, without_gap}
-use Rattle.roff_layout.specs.Behind.{finished_lines}
+use Rattle.page_model.specs.declared.glyph.Glyph.{Glyph}
+use Rattle.page_model.specs.declared.settings.Settings.{Settings}
+use Rattle.page_model.specs.declared.stop.StopKind.{StopKind}
+use Rattle.page_model.specs.declared.stop.StopKind.TheVariants.{Left as AtLeft, Right as AtRight, Centred as InMiddle}
+use Rattle.page_model.specs.declared.event.Event.{Event}
+use Rattle.page_model.specs.declared.event.Event.TheVariants.{Print, Tab, FieldEnd, WordEnd, Gap, LineEnd, Count, Break, Interrupt, Resume, Set}
+use Rattle.page_model.specs.Events.{History, settings_after, stops_after}
+use Rattle.page_model.specs.Settings.{fills}
+use Rattle.page_model.specs.TabStops.{Way, way_to_next}
+use Rattle.page_model.specs.Places.{input_place}
+use Rattle.page_model.specs.Fitting.{Word}
+use Rattle.page_model.specs.Words.{is_empty, words, temporary_indent}
+use Rattle.page_model.specs.Telling.{words_told, IsOfText, IsWordUnder, IsClear}
+use Rattle.page_model.specs.Paragraphs.{until_break, full_lines, broken_lines, paragraph_lines, finished_lines as lines_in}
+use Rattle.page_model.specs.Fields.{Field, field_told, gap_ended, motion, plain, so_far, tab_told, told, told_behind, unfielded, without_gap}
+use Rattle.page_model.specs.Behind.{finished_lines}
 use Rattle.law_lines.specs.Filling.{lines_of}
 use Rattle.roff_lines.proofs.Fields.{settings_after-field, until_break-field, words-field}
 use Rattle.roff_lines.proofs.Told.{told_as, settings_after-told, settings_after-plain, finished_lines-plain}

@@ -3,17 +3,17 @@ use Rattle.std.proofs.Common.{◌≡◌, ℕ, ◌+◌, ◌-◌, ◌&&◌, not, B
 use Rattle.std.specs.Prelude.{All, ◌==◌, if◌then◌else◌}
 use Rattle.std.proofs.lemmas.Bool.{cases_Bool, cond_both, eqb-true, not-false}
 use Rattle.std.proofs.lemmas.List.Elements.{All-cons, All-head, All-tail}
-use Rattle.roff_layout.specs.declared.settings.Settings.{Settings}
-use Rattle.roff_layout.specs.declared.event.Event.{Event}
-use Rattle.roff_layout.specs.declared.event.Event.TheVariants.{WordEnd, Gap, LineEnd, Break, Set}
-use Rattle.roff_layout.specs.Events.{History, settings_after}
-use Rattle.roff_layout.specs.Settings.{fills, counted}
-use Rattle.roff_layout.specs.Fitting.{Word, begins_line}
-use Rattle.roff_layout.specs.Words.{is_empty, open_glyphs, has_open_word, last_word_glyphs, begun_gap, blanks, open_word, words, temporary_indent, indent_by}
-use Rattle.roff_layout.specs.Places.{has_line_glyph}
-use Rattle.roff_layout.specs.Lines.{pending_line}
-use Rattle.roff_layout.specs.Telling.{glyphs_told, words_told, IsOfText, IsWordUnder, IsClear}
-use Rattle.roff_layout.specs.Paragraphs.{until_break}
+use Rattle.page_model.specs.declared.settings.Settings.{Settings}
+use Rattle.page_model.specs.declared.event.Event.{Event}
+use Rattle.page_model.specs.declared.event.Event.TheVariants.{WordEnd, Gap, LineEnd, Break, Set}
+use Rattle.page_model.specs.Events.{History, settings_after}
+use Rattle.page_model.specs.Settings.{fills, counted}
+use Rattle.page_model.specs.Fitting.{Word, begins_line}
+use Rattle.page_model.specs.Words.{is_empty, open_glyphs, has_open_word, last_word_glyphs, begun_gap, blanks, open_word, words, temporary_indent, indent_by}
+use Rattle.page_model.specs.Places.{has_line_glyph}
+use Rattle.page_model.specs.Lines.{pending_line}
+use Rattle.page_model.specs.Telling.{glyphs_told, words_told, IsOfText, IsWordUnder, IsClear}
+use Rattle.page_model.specs.Paragraphs.{until_break}
 use Rattle.roff_lines.proofs.Fields.{until_break-glyphs}
 use Rattle.roff_lines.proofs.Gaps.{begun_gap-same}
 use Rattle.roff_lines.proofs.PendingLine.{is_empty-true}

@@ -1,16 +1,16 @@
 -- Where the text of a field stands once the field has ended, and histories without fields.
 use Rattle.std.specs.Prelude.{◌≡◌, ℕ, ◌+◌, ◌/◌, true, false, List, [], ◌∷◌, max, Some, sum_by}
-use Rattle.roff_layout.specs.declared.glyph.Glyph.{Glyph}
-use Rattle.roff_layout.specs.declared.settings.Param.TheVariants.{RightStop, CentredStop}
-use Rattle.roff_layout.specs.declared.stop.StopKind.{StopKind}
-use Rattle.roff_layout.specs.declared.event.Event.{Event}
-use Rattle.roff_layout.specs.declared.event.Event.TheVariants.{FieldEnd, Set}
-use Rattle.roff_layout.specs.Glyphs.{glyph_width, text_width}
-use Rattle.roff_layout.specs.Events.{History, stops_after}
-use Rattle.roff_layout.specs.TabStops.{way_to_next}
-use Rattle.roff_layout.specs.Places.{moved}
-use Rattle.roff_layout.specs.Fields.{Field, field_text, field_told, is_in_field, motion, plain, told}
-use Rattle.roff_layout.specs.Behind.{input_place}
+use Rattle.page_model.specs.declared.glyph.Glyph.{Glyph}
+use Rattle.page_model.specs.declared.settings.Param.TheVariants.{RightStop, CentredStop}
+use Rattle.page_model.specs.declared.stop.StopKind.{StopKind}
+use Rattle.page_model.specs.declared.event.Event.{Event}
+use Rattle.page_model.specs.declared.event.Event.TheVariants.{FieldEnd, Set}
+use Rattle.page_model.specs.Glyphs.{glyph_width, text_width}
+use Rattle.page_model.specs.Events.{History, stops_after}
+use Rattle.page_model.specs.TabStops.{way_to_next}
+use Rattle.page_model.specs.Places.{moved}
+use Rattle.page_model.specs.Fields.{Field, field_text, field_told, is_in_field, motion, plain, told}
+use Rattle.page_model.specs.Behind.{input_place}
 
 -- The text of a field ends at a right stop, and has its middle at a centred one: half of its columns, rounded down, stand in front
 -- of that. Where what is to stand in front of the stop is longer than the way there, the text begins at the tab.

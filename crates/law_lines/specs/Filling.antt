@@ -4,7 +4,7 @@
 -- Words and lines are the newest first, as everywhere: the first line here is the pending one.
 use Rattle.std.specs.Prelude.{◌≡◌, true, false, List, [], ◌∷◌, if◌then◌else◌}
 use Rattle.std.specs.List.{flat_map}
-use Rattle.roff_layout.specs.Fitting.{Word, fits, last_line}
+use Rattle.page_model.specs.Fitting.{Word, fits, last_line}
 
 -- the lines with a word more: it joins the last one if it fits there, and else begins the next
 abbrev pub with_word : Word → List (List Word) → List (List Word)

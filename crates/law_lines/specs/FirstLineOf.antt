@@ -1,9 +1,9 @@
 -- The first line of a paragraph's words, beside that of words that are known by their gaps and widths alone.
 use Rattle.std.specs.Prelude.{◌≡◌, ℕ, ◌-◌, ◌≤◌, true, List, [], ◌∷◌, length, map, reverse, All}
-use Rattle.roff_layout.specs.declared.settings.Settings.{Settings}
-use Rattle.roff_layout.specs.Glyphs.{text_width}
-use Rattle.roff_layout.specs.Settings.{fills}
-use Rattle.roff_layout.specs.Fitting.{Word, word_text}
+use Rattle.page_model.specs.declared.settings.Settings.{Settings}
+use Rattle.page_model.specs.Glyphs.{text_width}
+use Rattle.page_model.specs.Settings.{fills}
+use Rattle.page_model.specs.Fitting.{Word, word_text}
 use Rattle.roff_lines.specs.declared.fill.Word.{Word as MeasuredWord}
 use Rattle.roff_lines.specs.FirstLine.{first_line_count}
 use Rattle.law_lines.specs.Filling.{lines_of}

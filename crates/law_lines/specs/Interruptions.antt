@@ -1,10 +1,10 @@
 -- Interrupted lines of the input (manual, section 4.2).
 use Rattle.std.specs.Prelude.{◌≡◌, [], ◌∷◌}
-use Rattle.roff_layout.specs.declared.event.Event.TheVariants.{Interrupt, Resume}
-use Rattle.roff_layout.specs.Events.{History, stops_after}
-use Rattle.roff_layout.specs.Words.{last_word_glyphs, paragraph, open_word}
-use Rattle.roff_layout.specs.Fields.{plain, told}
-use Rattle.roff_layout.specs.Behind.{finished_lines, input_place}
+use Rattle.page_model.specs.declared.event.Event.TheVariants.{Interrupt, Resume}
+use Rattle.page_model.specs.Events.{History, stops_after}
+use Rattle.page_model.specs.Words.{last_word_glyphs, paragraph, open_word}
+use Rattle.page_model.specs.Fields.{plain, told}
+use Rattle.page_model.specs.Behind.{finished_lines, input_place}
 
 -- a history without its interruptions
 abbrev pub uninterrupted : History → History

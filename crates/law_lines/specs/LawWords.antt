@@ -1,29 +1,29 @@
 -- The words of this crate's laws. What an environment is behind any history has its own name; where a law is of words and lines
 -- alone, it speaks of what is told without fields.
-pub use Rattle.roff_layout.specs.declared.settings.Settings.{Settings}
-pub use Rattle.roff_layout.specs.declared.settings.AdjustMode.TheVariants.{Right, Centre}
-pub use Rattle.roff_layout.specs.declared.settings.Param.TheVariants.{Filling, Adjusting, Mode, LineLength, Indent, TemporaryIndent, Centring, Spacing, NoStops, Stop, RightStop, CentredStop}
-pub use Rattle.roff_layout.specs.declared.glyph.Glyph.{Glyph}
-pub use Rattle.roff_layout.specs.declared.glyph.Glyph.TheVariants.{Blanks, Printed}
-pub use Rattle.roff_layout.specs.declared.stop.TabStop.{TabStop}
-pub use Rattle.roff_layout.specs.declared.stop.StopKind.TheVariants.{Left as AtLeft, Right as AtRight, Centred as InMiddle}
-pub use Rattle.roff_layout.specs.declared.event.Event.{Event}
-pub use Rattle.roff_layout.specs.declared.event.Event.TheVariants.{Print, Tab, FieldEnd, WordEnd, LineEnd, Count, Break, Interrupt, Resume, Set}
-pub use Rattle.roff_layout.specs.Settings.{fills}
-pub use Rattle.roff_layout.specs.TabStops.{TabStops, columns_of_way, way_to_next}
-pub use Rattle.roff_layout.specs.Events.{History, settings_after, stops_after, is_interrupted}
-pub use Rattle.roff_layout.specs.Places.{moved, tab_width, input_place as place_in}
-pub use Rattle.roff_layout.specs.Fitting.{Word}
-pub use Rattle.roff_layout.specs.Words.{is_empty, words, temporary_indent, has_open_word as has_word_in}
-pub use Rattle.roff_layout.specs.Lines.{Finished}
-pub use Rattle.roff_layout.specs.Columns.{line_bytes, printed, device_line, StandsInColumns}
-pub use Rattle.roff_layout.specs.Paragraphs.{until_break, full_lines, broken_lines, paragraph_lines, finished_lines as lines_in}
-pub use Rattle.roff_layout.specs.LastLine.{EndsAtWidth}
-pub use Rattle.roff_layout.specs.Telling.{glyphs_told, words_told, bytes_told, text_line, IsOfText, IsWordUnder, IsClear}
-pub use Rattle.roff_layout.specs.Diverted.{diverted}
-pub use Rattle.roff_layout.specs.TitleColumns.{title_columns}
-pub use Rattle.roff_layout.specs.Fields.{Field, plain, told}
-pub use Rattle.roff_layout.specs.Behind.{input_place, pending_length, length_reached, finished, finished_lines, last_width}
+pub use Rattle.page_model.specs.declared.settings.Settings.{Settings}
+pub use Rattle.page_model.specs.declared.settings.AdjustMode.TheVariants.{Right, Centre}
+pub use Rattle.page_model.specs.declared.settings.Param.TheVariants.{Filling, Adjusting, Mode, LineLength, Indent, TemporaryIndent, Centring, Spacing, NoStops, Stop, RightStop, CentredStop}
+pub use Rattle.page_model.specs.declared.glyph.Glyph.{Glyph}
+pub use Rattle.page_model.specs.declared.glyph.Glyph.TheVariants.{Blanks, Printed}
+pub use Rattle.page_model.specs.declared.stop.TabStop.{TabStop}
+pub use Rattle.page_model.specs.declared.stop.StopKind.TheVariants.{Left as AtLeft, Right as AtRight, Centred as InMiddle}
+pub use Rattle.page_model.specs.declared.event.Event.{Event}
+pub use Rattle.page_model.specs.declared.event.Event.TheVariants.{Print, Tab, FieldEnd, WordEnd, LineEnd, Count, Break, Interrupt, Resume, Set}
+pub use Rattle.page_model.specs.Settings.{fills}
+pub use Rattle.page_model.specs.TabStops.{TabStops, columns_of_way, way_to_next}
+pub use Rattle.page_model.specs.Events.{History, settings_after, stops_after, is_interrupted}
+pub use Rattle.page_model.specs.Places.{moved, tab_width, input_place as place_in}
+pub use Rattle.page_model.specs.Fitting.{Word}
+pub use Rattle.page_model.specs.Words.{is_empty, words, temporary_indent, has_open_word as has_word_in}
+pub use Rattle.page_model.specs.Lines.{Finished}
+pub use Rattle.page_model.specs.Columns.{line_bytes, printed, device_line, StandsInColumns}
+pub use Rattle.page_model.specs.Paragraphs.{until_break, full_lines, broken_lines, paragraph_lines, finished_lines as lines_in}
+pub use Rattle.page_model.specs.LastLine.{EndsAtWidth}
+pub use Rattle.page_model.specs.Telling.{glyphs_told, words_told, bytes_told, text_line, IsOfText, IsWordUnder, IsClear}
+pub use Rattle.page_model.specs.Diverted.{diverted}
+pub use Rattle.page_model.specs.TitleColumns.{title_columns}
+pub use Rattle.page_model.specs.Fields.{Field, plain, told}
+pub use Rattle.page_model.specs.Behind.{input_place, pending_length, length_reached, finished, finished_lines, last_width}
 pub use Rattle.law_lines.specs.Written.{written_by_break, lines_written}
 pub use Rattle.law_lines.specs.FieldLaws.{StandsAtStop, MovesField, TabLeads, glyphs_width, SetsNoField, without_field_ends}
 pub use Rattle.law_lines.specs.NearestStop.{stop_at, LeadsToNearest}

@@ -1,9 +1,9 @@
 -- What leads to the nearest tab stop (manual, section 9.1), in columns.
 use Rattle.std.specs.Prelude.{◌≡◌, ℕ, ◌+◌, ◌%◌, ◌<◌, List, [], ◌∷◌, Option, Some, None, if◌then◌else◌, ◌==◌}
-use Rattle.roff_layout.specs.declared.stop.TabStop.{TabStop}
-use Rattle.roff_layout.specs.declared.stop.StopKind.{StopKind}
-use Rattle.roff_layout.specs.declared.stop.StopKind.TheVariants.{Left as AtLeft}
-use Rattle.roff_layout.specs.TabStops.{TabStops, Way}
+use Rattle.page_model.specs.declared.stop.TabStop.{TabStop}
+use Rattle.page_model.specs.declared.stop.StopKind.{StopKind}
+use Rattle.page_model.specs.declared.stop.StopKind.TheVariants.{Left as AtLeft}
+use Rattle.page_model.specs.TabStops.{TabStops, Way}
 
 -- the kind of the stop that was set first, of some at a place; none where none of them stands there
 abbrev pub first_at : List TabStop → ℕ → Option StopKind

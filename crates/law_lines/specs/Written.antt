@@ -1,10 +1,10 @@
 -- What lines write, behind any history.
 use Rattle.std.specs.Prelude.{ℕ, not, List, map, Option, option_map, ◌==◌}
 use Rattle.std.specs.List.{take_while}
-use Rattle.roff_layout.specs.declared.event.Event.TheVariants.{Break}
-use Rattle.roff_layout.specs.Events.{History}
-use Rattle.roff_layout.specs.Columns.{line_bytes}
-use Rattle.roff_layout.specs.Behind.{finished, finished_lines}
+use Rattle.page_model.specs.declared.event.Event.TheVariants.{Break}
+use Rattle.page_model.specs.Events.{History}
+use Rattle.page_model.specs.Columns.{line_bytes}
+use Rattle.page_model.specs.Behind.{finished, finished_lines}
 
 -- what a break writes, if it finishes a line
 abbrev pub written_by_break : History → Option (List ℕ)

@@ -4,18 +4,18 @@ use Rattle.std.specs.Io.KnownBytes.{Appends}
 use Rattle.roff_num.specs.Faults.{Rises}
 use Rattle.roff_num.specs.Lists.{IsBeginning}
 use Rattle.roff_num.specs.declared.limits.Limits.{Limits}
-use Rattle.roff_interpreter.specs.Outcome.{Seen, AppendsBetween, Completes, IsRest, OutputFails, MessagesFail, StartFails}
+use Rattle.run_items.specs.Outcome.{Seen, AppendsBetween, Completes, IsRest, OutputFails, MessagesFail, StartFails}
 use Rattle.roff_engine.specs.Outcomes.{Gives, EachOutcomeGives}
-use Rattle.roff_run.specs.Results.{last_state, output_of, messages_of}
-use Rattle.roff_run.specs.Run.{State, initial, told_step, output, reported}
-use Rattle.roff_sinks.specs.Sinks.{AppendsFront, CountsFault}
-use Rattle.roff_run.specs.declared.status.Status.{Status}
-use Rattle.roff_run.specs.declared.start.Start.{Start}
-use Rattle.roff_source.specs.Tape.{Tape}
-use Rattle.roff_laws.proofs.Beginnings.{IsBeginning-same}
-use Rattle.roff_laws.proofs.Endings.{no_other_state_is_last}
-use Rattle.roff_run.proofs.Leads.{ToldLeads-refl, ToldLeads-to}
-use Rattle.roff_laws.proofs.RunsAppend.{each_state_is_a_beginning}
+use Rattle.run_model.specs.Results.{last_state, output_of, messages_of}
+use Rattle.run_model.specs.Run.{State, initial, told_step, output, reported}
+use Rattle.page_bytes.specs.Sinks.{AppendsFront, CountsFault}
+use Rattle.run_model.specs.declared.status.Status.{Status}
+use Rattle.run_model.specs.declared.start.Start.{Start}
+use Rattle.input_source.specs.Tape.{Tape}
+use Rattle.law_runs.proofs.Beginnings.{IsBeginning-same}
+use Rattle.law_runs.proofs.Endings.{no_other_state_is_last}
+use Rattle.run_model.proofs.Leads.{ToldLeads-refl, ToldLeads-to}
+use Rattle.law_runs.proofs.RunsAppend.{each_state_is_a_beginning}
 
 -- a beginning of a text was written
 AppendsFront-beginning : (old new : Option (List ℕ)) (piece all : List ℕ) → Appends old new piece → IsBeginning piece all → AppendsFront old new all

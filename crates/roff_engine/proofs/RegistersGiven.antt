@@ -5,35 +5,35 @@ use Rattle.roff_num.specs.declared.limit.Limit.{Limit}
 use Rattle.roff_num.specs.declared.limit.Limit.TheVariants.{Names}
 use Rattle.roff_num.specs.declared.limits.Limits.{Limits}
 use Rattle.roff_num.specs.declared.num.Num.{Num}
-use Rattle.roff_interpreter.specs.Outcome.{Outcome, Seen}
-use Rattle.roff_interpreter.specs.Performing.{going}
-use Rattle.roff_interpreter.specs.Giving.{Gives}
-use Rattle.roff_interpreter.specs.Room.{FewFor}
+use Rattle.run_items.specs.Outcome.{Outcome, Seen}
+use Rattle.run_items.specs.Performing.{going}
+use Rattle.run_items.specs.Giving.{Gives}
+use Rattle.run_items.specs.Room.{FewFor}
 use Rattle.roff_engine.specs.Starting.{Begins, HasRoom, IsRefused, SetsSome}
-use Rattle.roff_interpreter.specs.Halting.{StartStops}
-use Rattle.roff_running.specs.Running.Turning.{state_at}
-use Rattle.roff_interpreter.specs.declared.interpreter.Interpreter.{Interpreter}
-use Rattle.roff_running.specs.declared.running.Running.{Running as Coded}
-use Rattle.roff_interpreter.proofs.NumberedPages.{written-given}
-use Rattle.roff_reader.proofs.TakesAs.{few_names, short_title}
-use Rattle.roff_reader.specs.Reader.State.{ReaderState}
-use Rattle.roff_reader.specs.Reader.Taken.{IsReady}
-use Rattle.roff_composer.specs.Composer.Standing.{StandFor}
-use Rattle.roff_run.proofs.InputCounts.{first_passed-few_names}
-use Rattle.roff_run.specs.Output.{PageHistory, written}
-use Rattle.roff_run.specs.Reading.Items.{PageInput}
-use Rattle.roff_run.specs.Registers.{AllRegisters, Change, changed_by}
-use Rattle.roff_run.specs.Registers.Capped.{Capped, is_past_cap, with_change}
-use Rattle.roff_laws.proofs.RunsStayWithin.{title-given}
-use Rattle.roff_run.specs.TitleTexts.{TitleText, title_length}
-use Rattle.roff_run.specs.Run.{State, initial, stopped_by, unless_refused, with_registers}
-use Rattle.roff_run.specs.Starts.{given_change, history_given, pages_given}
-use Rattle.roff_run.specs.declared.start.Start.{Start}
-use Rattle.roff_run.specs.declared.status.Status.{Status}
-use Rattle.roff_input.specs.Looking.{is_closed, looked_then}
-use Rattle.roff_input.specs.declared.looked.Looked.{Looked}
-use Rattle.roff_input.specs.declared.looked.Looked.TheVariants.{Nothing}
-use Rattle.roff_source.specs.Tape.{Tape}
+use Rattle.run_items.specs.Halting.{StartStops}
+use Rattle.run_turns.specs.Running.Turning.{state_at}
+use Rattle.run_items.specs.declared.interpreter.Interpreter.{Interpreter}
+use Rattle.run_turns.specs.declared.running.Running.{Running as Coded}
+use Rattle.run_items.proofs.NumberedPages.{written-given}
+use Rattle.read_lines.proofs.TakesAs.{few_names, short_title}
+use Rattle.read_lines.specs.Reader.State.{ReaderState}
+use Rattle.read_lines.specs.Reader.Taken.{IsReady}
+use Rattle.run_state.specs.Composer.Standing.{StandFor}
+use Rattle.run_model.proofs.InputCounts.{first_passed-few_names}
+use Rattle.run_model.specs.Output.{PageHistory, written}
+use Rattle.run_model.specs.Reading.Items.{PageInput}
+use Rattle.run_model.specs.Registers.{AllRegisters, Change, changed_by}
+use Rattle.run_model.specs.Registers.Capped.{Capped, is_past_cap, with_change}
+use Rattle.law_runs.proofs.RunsStayWithin.{title-given}
+use Rattle.run_model.specs.TitleTexts.{TitleText, title_length}
+use Rattle.run_model.specs.Run.{State, initial, stopped_by, unless_refused, with_registers}
+use Rattle.run_model.specs.Starts.{given_change, history_given, pages_given}
+use Rattle.run_model.specs.declared.start.Start.{Start}
+use Rattle.run_model.specs.declared.status.Status.{Status}
+use Rattle.input_model.specs.Looking.{is_closed, looked_then}
+use Rattle.input_model.specs.declared.looked.Looked.{Looked}
+use Rattle.input_model.specs.declared.looked.Looked.TheVariants.{Nothing}
+use Rattle.input_source.specs.Tape.{Tape}
 
 -- what asking for a change answers, by whether more names than may would have a register behind it
 abbrev answer_of : Bool → Result (Unit {0}) Limit

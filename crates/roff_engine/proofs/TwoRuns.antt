@@ -3,15 +3,15 @@ use Rattle.std.proofs.Common.{◌≡◌, ◌≢◌, List, ℕ, Some, refl, sym, 
 use Rattle.roff_num.specs.Lists.{IsBeginning}
 use Rattle.roff_num.specs.declared.limits.Limits.{Limits}
 use Rattle.roff_engine.specs.Outcomes.{Gives, GivesAll}
-use Rattle.roff_laws.specs.ResultLaws.{GivesABeginning, GiveTheSame}
-use Rattle.roff_run.specs.Results.{output_of, messages_of, status_of}
+use Rattle.law_runs.specs.ResultLaws.{GivesABeginning, GiveTheSame}
+use Rattle.run_model.specs.Results.{output_of, messages_of, status_of}
 use Rattle.roff_engine.specs.TwoRuns.{CodeRun, SinksHadNoFault, WroteABeginning, DidTheSame, Wrote, Reported, SmallerLimitsWriteABeginning, SameUnlessALimitStops, FailingSourcesWriteABeginning, SameUnlessTheSourceFails, RunsCanBeRepeated}
-use Rattle.roff_run.specs.declared.status.Status.{Status}
-use Rattle.roff_run.specs.declared.start.Start.{Start}
-use Rattle.roff_source.specs.Tape.{Tape}
-use Rattle.roff_laws.proofs.Beginnings.{IsBeginning-trans}
+use Rattle.run_model.specs.declared.status.Status.{Status}
+use Rattle.run_model.specs.declared.start.Start.{Start}
+use Rattle.input_source.specs.Tape.{Tape}
+use Rattle.law_runs.proofs.Beginnings.{IsBeginning-trans}
 use Rattle.roff_engine.proofs.Outcomes.{each_outcome_gives}
-use Rattle.roff_laws.proofs.ResultsOnlyCut.{limits_cut_results, same_result_without_a_limit, failing_cuts_results, same_result_before_the_fault}
+use Rattle.law_runs.proofs.ResultsOnlyCut.{limits_cut_results, same_result_without_a_limit, failing_cuts_results, same_result_before_the_fault}
 
 -- what a run gives of the definition's result
 gives_of : (l : Limits) (start : Start) (t : Tape) (run : CodeRun l start t) → Gives l start t run.left run.status run.before run.now

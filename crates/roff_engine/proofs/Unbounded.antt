@@ -1,11 +1,11 @@
 -- What a run tells of a sink behind a bound holds of the sink.
 use Rattle.std.proofs.Common.{ℕ, inl, inr}
 use Rattle.roff_num.specs.declared.limits.Limits.{Limits}
-use Rattle.roff_interpreter.specs.Outcome.{Outcome, Runs, seen}
-use Rattle.roff_run.specs.declared.start.Start.{Start}
-use Rattle.roff_run.specs.declared.status.Status.{Status}
-use Rattle.roff_sinks.specs.Sinks.{Sunk, with_room}
-use Rattle.roff_source.specs.Tape.{Tape}
+use Rattle.run_items.specs.Outcome.{Outcome, Runs, seen}
+use Rattle.run_model.specs.declared.start.Start.{Start}
+use Rattle.run_model.specs.declared.status.Status.{Status}
+use Rattle.page_bytes.specs.Sinks.{Sunk, with_room}
+use Rattle.input_source.specs.Tape.{Tape}
 
 -- each outcome
 outcome_through : (l : Limits) (start : Start) (t left : Tape) (status : Status) (failures failed : ℕ) (out out_new err err_new : Sunk) (room room_new : ℕ)

@@ -4,32 +4,32 @@ use Rattle.std.specs.Prelude.{IsSome, nat_lt}
 use Rattle.std.proofs.lemmas.Bool.{le-ltb}
 use Rattle.roff_num.specs.declared.limits.Limits.{Limits}
 use Rattle.std.specs.Io.KnownBytes.{Appends}
-use Rattle.roff_source.specs.BlockRead.{SomeTape}
-use Rattle.roff_source.specs.Tape.{Tape, items_then}
-use Rattle.roff_input.specs.Looking.{is_closed, looked_then}
-use Rattle.roff_run.specs.declared.status.Status.{Status}
-use Rattle.roff_composer.specs.Composer.Standing.{StandFor}
-use Rattle.roff_run.specs.Output.{PageHistory}
-use Rattle.roff_reader.specs.Reader.State.{ReaderState, fresh_reader}
-use Rattle.roff_reader.specs.Reader.Taken.{IsReady}
-use Rattle.roff_run.specs.Reading.Items.{PageUnread}
-use Rattle.roff_run.specs.Registers.{no_registers}
-use Rattle.roff_run.specs.Run.{State, Leads, first_input, first_unread, initial, paged_state, with_registers}
-use Rattle.roff_run.specs.Starts.{pages_given}
-use Rattle.roff_run.specs.declared.phase.Phase.{Phase}
-use Rattle.roff_run.specs.declared.phase.Phase.TheVariants.{Reading}
-use Rattle.roff_run.specs.declared.start.Start.{Start}
-use Rattle.roff_sinks.specs.Sinks.{Sunk}
-use Rattle.roff_run.specs.Run.Counts.{counts_in, first_passed}
-use Rattle.roff_running.specs.declared.running.Running.{Running as Coded}
-use Rattle.roff_interpreter.specs.Outcome.{Seen, Outcome, Runs, seen}
-use Rattle.roff_interpreter.specs.Performing.{going}
-use Rattle.roff_running.specs.Running.Turning.{HasCome, IsFresh, state_at, AreLeft, ComesFurther, IsAt, falls_told, turns_with}
+use Rattle.input_source.specs.BlockRead.{SomeTape}
+use Rattle.input_source.specs.Tape.{Tape, items_then}
+use Rattle.input_model.specs.Looking.{is_closed, looked_then}
+use Rattle.run_model.specs.declared.status.Status.{Status}
+use Rattle.run_state.specs.Composer.Standing.{StandFor}
+use Rattle.run_model.specs.Output.{PageHistory}
+use Rattle.read_lines.specs.Reader.State.{ReaderState, fresh_reader}
+use Rattle.read_lines.specs.Reader.Taken.{IsReady}
+use Rattle.run_model.specs.Reading.Items.{PageUnread}
+use Rattle.run_model.specs.Registers.{no_registers}
+use Rattle.run_model.specs.Run.{State, Leads, first_input, first_unread, initial, paged_state, with_registers}
+use Rattle.run_model.specs.Starts.{pages_given}
+use Rattle.run_model.specs.declared.phase.Phase.{Phase}
+use Rattle.run_model.specs.declared.phase.Phase.TheVariants.{Reading}
+use Rattle.run_model.specs.declared.start.Start.{Start}
+use Rattle.page_bytes.specs.Sinks.{Sunk}
+use Rattle.run_model.specs.Run.Counts.{counts_in, first_passed}
+use Rattle.run_turns.specs.declared.running.Running.{Running as Coded}
+use Rattle.run_items.specs.Outcome.{Seen, Outcome, Runs, seen}
+use Rattle.run_items.specs.Performing.{going}
+use Rattle.run_turns.specs.Running.Turning.{HasCome, IsFresh, state_at, AreLeft, ComesFurther, IsAt, falls_told, turns_with}
 use Rattle.roff_engine.specs.Starting.{Begins, HasRoom}
-use Rattle.roff_interpreter.proofs.Fronts.{few-nothing}
-use Rattle.roff_sinks.proofs.Appending.{Appends-nothing}
-use Rattle.roff_run.proofs.Leads.{Leads-refl}
-use Rattle.roff_interpreter.proofs.Sighted.{items_then-append}
+use Rattle.run_items.proofs.Fronts.{few-nothing}
+use Rattle.page_bytes.proofs.Appending.{Appends-nothing}
+use Rattle.run_model.proofs.Leads.{Leads-refl}
+use Rattle.run_items.proofs.Sighted.{items_then-append}
 
 -- before the first item no count is above its limit
 none_passed-fresh : (l : Limits) → first_passed l (counts_in no_registers first_input) ≡ None

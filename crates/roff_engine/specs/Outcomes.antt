@@ -2,13 +2,13 @@
 use Rattle.std.specs.Prelude.{◌≡◌, Some}
 use Rattle.std.specs.Io.KnownBytes.{Appends}
 use Rattle.roff_num.specs.declared.limits.Limits.{Limits}
-use Rattle.roff_interpreter.specs.Outcome.{IsRest, Outcome, Seen}
-use Rattle.roff_run.specs.Results.{last_state, output_of, messages_of, status_of}
-use Rattle.roff_sinks.specs.Sinks.{Sunk, AppendsFront}
-use Rattle.roff_run.specs.declared.status.Status.{Status}
-use Rattle.roff_run.specs.declared.status.Status.TheVariants.{Device}
-use Rattle.roff_run.specs.declared.start.Start.{Start}
-use Rattle.roff_source.specs.Tape.{Tape}
+use Rattle.run_items.specs.Outcome.{IsRest, Outcome, Seen}
+use Rattle.run_model.specs.Results.{last_state, output_of, messages_of, status_of}
+use Rattle.page_bytes.specs.Sinks.{Sunk, AppendsFront}
+use Rattle.run_model.specs.declared.status.Status.{Status}
+use Rattle.run_model.specs.declared.status.Status.TheVariants.{Device}
+use Rattle.run_model.specs.declared.start.Start.{Start}
+use Rattle.input_source.specs.Tape.{Tape}
 use Rattle.roff_num.specs.Faults.{Rises}
 
 -- a sink had no fault: its count didn't rise

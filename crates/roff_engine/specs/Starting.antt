@@ -3,14 +3,14 @@ use Rattle.std.specs.Prelude.{◌≡◌, ℕ, List, [], Result, Ok, Err}
 use Rattle.roff_num.specs.declared.limit.Limit.{Limit}
 use Rattle.roff_num.specs.declared.limits.Limits.{Limits}
 use Rattle.roff_num.specs.declared.num.Num.{Num}
-use Rattle.roff_running.specs.declared.running.Running.{Running as Coded}
-use Rattle.roff_interpreter.specs.Room.{FewFor}
-use Rattle.roff_running.specs.Running.Turning.{state_at}
-use Rattle.roff_reader.specs.Reader.Taken.{IsReady}
-use Rattle.roff_composer.specs.Composer.Standing.{StandFor}
-use Rattle.roff_run.specs.Output.{PageHistory, written}
-use Rattle.roff_run.specs.Run.{stopped_by, with_registers}
-use Rattle.roff_source.specs.Tape.{Tape}
+use Rattle.run_turns.specs.declared.running.Running.{Running as Coded}
+use Rattle.run_items.specs.Room.{FewFor}
+use Rattle.run_turns.specs.Running.Turning.{state_at}
+use Rattle.read_lines.specs.Reader.Taken.{IsReady}
+use Rattle.run_state.specs.Composer.Standing.{StandFor}
+use Rattle.run_model.specs.Output.{PageHistory, written}
+use Rattle.run_model.specs.Run.{stopped_by, with_registers}
+use Rattle.input_source.specs.Tape.{Tape}
 
 -- no count of what is read is above its limit, the unread input has the run's limits, and few events stand in front
 pub record HasRoom (run : Coded) : Type 0 where

@@ -4,14 +4,14 @@ use Rattle.std.specs.Io.KnownBytes.{Appends}
 use Rattle.roff_num.specs.Lists.{IsBeginning}
 use Rattle.roff_num.specs.declared.limit.Limit.{Limit}
 use Rattle.roff_num.specs.declared.limits.Limits.{Limits}
-use Rattle.roff_interpreter.specs.Outcome.{Outcome, Seen}
-use Rattle.roff_laws.specs.Laws.{failing_behind, going_on_behind}
-use Rattle.roff_laws.specs.Limits.{AreWithin}
+use Rattle.run_items.specs.Outcome.{Outcome, Seen}
+use Rattle.law_runs.specs.Laws.{failing_behind, going_on_behind}
+use Rattle.law_runs.specs.Limits.{AreWithin}
 use Rattle.roff_engine.specs.Outcomes.{HadNoFault}
-use Rattle.roff_run.specs.declared.status.Status.{Status}
-use Rattle.roff_run.specs.declared.status.Status.TheVariants.{Device, Limit as Limited}
-use Rattle.roff_run.specs.declared.start.Start.{Start}
-use Rattle.roff_source.specs.Tape.{Tape, Item, Ending}
+use Rattle.run_model.specs.declared.status.Status.{Status}
+use Rattle.run_model.specs.declared.status.Status.TheVariants.{Device, Limit as Limited}
+use Rattle.run_model.specs.declared.start.Start.{Start}
+use Rattle.input_source.specs.Tape.{Tape, Item, Ending}
 
 -- a run of the code with limits over a tape: what it left, its status, and what its devices had seen before
 -- it and have seen behind it

@@ -2,17 +2,17 @@
 
 ghost use Rattle.std.specs.Prelude.{◌≡◌, IfOk, IsSome};
 ghost use Rattle.roff_engine.specs.Clauses.{StandFor, Limits, Runs, Tape, seen, IsFresh};
-ghost use Rattle.roff_run.specs.Run.{initial};
-ghost use Rattle.roff_sinks.specs.Told.{told_by};
+ghost use Rattle.run_model.specs.Run.{initial};
+ghost use Rattle.page_bytes.specs.Told.{told_by};
 
 use crate::starting::begin;
-use roff_interpreter::Interpreter;
-use roff_names::first_unread;
+use page_bytes::{ByteSink, MessageSink};
+use read_names::first_unread;
 use roff_num::Limits;
-use roff_run::{Phase, Start, Status};
-use roff_running::Running;
 use roff_scan::ByteSource;
-use roff_sinks::{ByteSink, MessageSink};
+use run_items::Interpreter;
+use run_model::{Phase, Start, Status};
+use run_turns::Running;
 use std::alloc::{AllocError, Global};
 use std::marker::Model;
 
@@ -27,7 +27,7 @@ impl Model for Engine {
     ghost use Rattle.roff_engine.specs.Clauses.{IsFresh, StandFor, pages_given};
     ghost use Rattle.roff_engine.specs.Engine.Setup.{Setup};
     ghost use Rattle.std.specs.Prelude.{◌≡◌};
-    ghost use Rattle.roff_run.specs.declared.phase.Phase.TheVariants.{Reading};
+    ghost use Rattle.run_model.specs.declared.phase.Phase.TheVariants.{Reading};
 
     ghost Value = { Setup };
 

@@ -6,4 +6,4 @@ pub mod laws;
 mod starting;
 
 pub use engine::Engine;
-pub use roff_run::{Start, Status, TooManyRegisters};
+pub use run_model::{Start, Status, TooManyRegisters};

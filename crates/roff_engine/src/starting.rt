@@ -2,19 +2,19 @@
 
 ghost use Rattle.std.specs.Prelude.{◌≡◌, ℕ, [], IfErr, OnOk};
 ghost use Rattle.roff_engine.specs.Clauses.{Outcome, Sunk, Tape, pages_given, seen};
-ghost use Rattle.roff_run.specs.Output.{PageHistory, written};
-ghost use Rattle.roff_run.specs.Run.{initial, stopped_by, with_registers};
-ghost use Rattle.roff_run.specs.declared.start.Start.{Start as StartOf};
-ghost use Rattle.roff_input.specs.declared.looked.Looked.TheVariants.{Nothing};
-ghost use Rattle.roff_sinks.specs.Told.{told_by};
-ghost use Rattle.roff_running.specs.Running.Turning.{state_at};
+ghost use Rattle.run_model.specs.Output.{PageHistory, written};
+ghost use Rattle.run_model.specs.Run.{initial, stopped_by, with_registers};
+ghost use Rattle.run_model.specs.declared.start.Start.{Start as StartOf};
+ghost use Rattle.input_model.specs.declared.looked.Looked.TheVariants.{Nothing};
+ghost use Rattle.page_bytes.specs.Told.{told_by};
+ghost use Rattle.run_turns.specs.Running.Turning.{state_at};
 ghost use Rattle.roff_engine.specs.Starting.{Begins, HasRoom, SetsGiven};
 
-use roff_formatter::Halt;
+use page_bytes::MessageSink;
 use roff_num::{Limit, Num};
-use roff_run::{Start, Status};
-use roff_running::Running;
-use roff_sinks::MessageSink;
+use run_events::Halt;
+use run_model::{Start, Status};
+use run_turns::Running;
 
 /// Sets the registers that are given. An `Err` is the status of a run that ended: the limit on
 /// names refused one.

@@ -7,9 +7,9 @@ use Rattle.std.proofs.lemmas.List.Sums.{sum_by-cons, sum_by-append}
 use Rattle.std.proofs.lemmas.Nat.{le-div}
 use Rattle.std.proofs.Math.Nat.{div-le_self, div-mul-le_self}
 use Rattle.roff_num.specs.Widths.{byte_width}
-use Rattle.roff_layout.specs.Glyphs.{gap_blank, further_blank, glyph_blank, text_width, gaps_in}
-use Rattle.roff_layout.specs.Lines.{Finished}
-use Rattle.roff_layout.specs.Columns.{added_columns, spaces, spread, StandsInColumns}
+use Rattle.page_model.specs.Glyphs.{gap_blank, further_blank, glyph_blank, text_width, gaps_in}
+use Rattle.page_model.specs.Lines.{Finished}
+use Rattle.page_model.specs.Columns.{added_columns, spaces, spread, StandsInColumns}
 use Rattle.roff_lines.proofs.Widths.{gaps_in-cons}
 
 -- blanks are as wide as they are many

@@ -8,17 +8,17 @@ use Rattle.std.proofs.lemmas.Grind.{flat_map-append}
 use Rattle.std.proofs.lemmas.List.{append-nil, length-append, length-replicate, reverse-append}
 use Rattle.std.proofs.lemmas.List.Sums.{sum_by-cons, sum_by-append}
 use Rattle.std.proofs.lemmas.List.Folds.{sum_by-replicate}
-use Rattle.roff_layout.specs.declared.glyph.Glyph.{Glyph}
-use Rattle.roff_layout.specs.declared.glyph.Glyph.TheVariants.{Printed, Blanks}
-use Rattle.roff_layout.specs.Glyphs.{byte_width, glyph_blank, glyph_text, glyph_width, text_width}
-use Rattle.roff_layout.specs.declared.event.Event.TheVariants.{Print}
-use Rattle.roff_layout.specs.Events.{History, settings_after, stops_after, is_interrupted}
-use Rattle.roff_layout.specs.Places.{has_line_glyph, moved, input_place}
-use Rattle.roff_layout.specs.Fitting.{Word, word_text, line_text, last_line}
-use Rattle.roff_layout.specs.Words.{is_empty, open_glyphs, has_open_word, last_word_glyphs, is_closer, is_sentence_mark, ends_sentence, begun_gap, blanks, paragraph, words, temporary_indent, open_word}
-use Rattle.roff_layout.specs.Lines.{pending_line, pending_length}
-use Rattle.roff_layout.specs.Paragraphs.{finished_lines, until_break}
-use Rattle.roff_layout.specs.Fields.{Field, field_text, field_told, with_gap, with_glyph}
+use Rattle.page_model.specs.declared.glyph.Glyph.{Glyph}
+use Rattle.page_model.specs.declared.glyph.Glyph.TheVariants.{Printed, Blanks}
+use Rattle.page_model.specs.Glyphs.{byte_width, glyph_blank, glyph_text, glyph_width, text_width}
+use Rattle.page_model.specs.declared.event.Event.TheVariants.{Print}
+use Rattle.page_model.specs.Events.{History, settings_after, stops_after, is_interrupted}
+use Rattle.page_model.specs.Places.{has_line_glyph, moved, input_place}
+use Rattle.page_model.specs.Fitting.{Word, word_text, line_text, last_line}
+use Rattle.page_model.specs.Words.{is_empty, open_glyphs, has_open_word, last_word_glyphs, is_closer, is_sentence_mark, ends_sentence, begun_gap, blanks, paragraph, words, temporary_indent, open_word}
+use Rattle.page_model.specs.Lines.{pending_line, pending_length}
+use Rattle.page_model.specs.Paragraphs.{finished_lines, until_break}
+use Rattle.page_model.specs.Fields.{Field, field_text, field_told, with_gap, with_glyph}
 use Rattle.roff_lines.proofs.Telling.{open_glyphs-told, settings_after-told}
 
 module _ (h : History) where

@@ -3,11 +3,11 @@ use Rattle.std.proofs.Common.{◌≡◌, ℕ, zero, suc, ◌<◌, ◌≤◌, ◌
 use Rattle.std.specs.Prelude.{if◌then◌else◌, ◌==◌}
 use Rattle.std.proofs.lemmas.Bool.{cond_both, true≢false}
 use Rattle.std.proofs.lemmas.Bool.Decides.{nat_tests}
-use Rattle.roff_layout.specs.declared.glyph.Glyph.{Glyph}
-use Rattle.roff_layout.specs.declared.event.Event.TheVariants.{Print, Tab, FieldEnd, WordEnd, Gap, LineEnd, Count, Break, Interrupt, Resume, Set}
-use Rattle.roff_layout.specs.Events.{History}
-use Rattle.roff_layout.specs.Places.{has_line_glyph}
-use Rattle.roff_layout.specs.Words.{has_open_word, last_word_glyphs, begun_gap, blanks}
+use Rattle.page_model.specs.declared.glyph.Glyph.{Glyph}
+use Rattle.page_model.specs.declared.event.Event.TheVariants.{Print, Tab, FieldEnd, WordEnd, Gap, LineEnd, Count, Break, Interrupt, Resume, Set}
+use Rattle.page_model.specs.Events.{History}
+use Rattle.page_model.specs.Places.{has_line_glyph}
+use Rattle.page_model.specs.Words.{has_open_word, last_word_glyphs, begun_gap, blanks}
 use Rattle.roff_lines.specs.Env.Kept.{Kept, begun_blanks}
 use Rattle.roff_lines.specs.Env.Stands.{StandsPlain, StandsPlainBehind}
 use Rattle.roff_lines.proofs.LastLine.{last_text-none, last_width-none}

@@ -2,10 +2,10 @@
 use Rattle.std.proofs.Common.{◌≡◌, ℕ, ◌≤◌, ◌^◌, min, true, false, not, ◌∷◌, inl, inr, ne_eqb, refl, sym, ap, subst, ◌∙◌, arith}
 use Rattle.std.specs.Prelude.{◌==◌}
 use Rattle.std.proofs.lemmas.Bool.{cases_Bool, cond_both, eqb-true, eqb-false}
-use Rattle.roff_layout.specs.declared.event.Event.TheVariants.{Gap}
-use Rattle.roff_layout.specs.Events.{History}
-use Rattle.roff_layout.specs.Places.{has_line_glyph, moved}
-use Rattle.roff_layout.specs.Words.{blanks, has_open_word}
+use Rattle.page_model.specs.declared.event.Event.TheVariants.{Gap}
+use Rattle.page_model.specs.Events.{History}
+use Rattle.page_model.specs.Places.{has_line_glyph, moved}
+use Rattle.page_model.specs.Words.{blanks, has_open_word}
 use Rattle.roff_lines.specs.Env.Kept.{Kept, with_gap}
 use Rattle.roff_lines.specs.Env.Stands.{StandsPlain, StandsPlainBehind}
 use Rattle.roff_lines.proofs.Gaps.{StandsBehind-first_gap, blanks-open, closed-none}

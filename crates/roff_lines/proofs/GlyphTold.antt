@@ -2,13 +2,13 @@
 use Rattle.std.proofs.Common.{◌≡◌, ◌↔◌, ℕ, ◌+◌, ◌<◌, ◌≤◌, ◌∷◌, Option, Some, None, Result, Ok, Err, OnOk, IsErr, inl, inr, ap, sym, subst, arith}
 use Rattle.std.specs.Prelude.{length}
 use Rattle.std.proofs.lemmas.Bool.{cases_lt}
-use Rattle.roff_layout.specs.declared.glyph.Glyph.{Glyph}
-use Rattle.roff_layout.specs.declared.event.Event.TheVariants.{Print}
-use Rattle.roff_layout.specs.Glyphs.{glyph_text}
-use Rattle.roff_layout.specs.Events.{History}
-use Rattle.roff_layout.specs.Lines.{pending_length as length_plainly}
-use Rattle.roff_layout.specs.Fields.{Field, so_far, told, told_behind}
-use Rattle.roff_layout.specs.Behind.{pending_length}
+use Rattle.page_model.specs.declared.glyph.Glyph.{Glyph}
+use Rattle.page_model.specs.declared.event.Event.TheVariants.{Print}
+use Rattle.page_model.specs.Glyphs.{glyph_text}
+use Rattle.page_model.specs.Events.{History}
+use Rattle.page_model.specs.Lines.{pending_length as length_plainly}
+use Rattle.page_model.specs.Fields.{Field, so_far, told, told_behind}
+use Rattle.page_model.specs.Behind.{pending_length}
 use Rattle.roff_lines.specs.Env.Kept.{Kept, KeptField, kept_length, length_told, length_with, with_glyph, with_glyph_in, with_glyph_told}
 use Rattle.roff_lines.specs.Env.Stands.{Stands, StandsBehind, StandsFor, StandsTold}
 use Rattle.roff_lines.proofs.InField.{Stands-glyph_in, limit-glyph}

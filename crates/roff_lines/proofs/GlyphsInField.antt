@@ -6,11 +6,11 @@ use Rattle.std.proofs.lemmas.Bool.{cases_lt}
 use Rattle.std.proofs.lemmas.List.{length-append, length-replicate, length-take, take-append-drop}
 use Rattle.std.proofs.lemmas.List.Sums.{sum_by-append}
 use Rattle.roff_num.specs.Widths.{byte_width}
-use Rattle.roff_layout.specs.declared.event.Event.TheVariants.{Print}
-use Rattle.roff_layout.specs.declared.glyph.Glyph.TheVariants.{Printed}
-use Rattle.roff_layout.specs.Behind.{pending_length}
-use Rattle.roff_layout.specs.Glyphs.{glyph_blank, text_width}
-use Rattle.roff_layout.specs.Places.{moved}
+use Rattle.page_model.specs.declared.event.Event.TheVariants.{Print}
+use Rattle.page_model.specs.declared.glyph.Glyph.TheVariants.{Printed}
+use Rattle.page_model.specs.Behind.{pending_length}
+use Rattle.page_model.specs.Glyphs.{glyph_blank, text_width}
+use Rattle.page_model.specs.Places.{moved}
 use Rattle.roff_lines.specs.GlyphsInFront.{glyphs_in_front}
 use Rattle.roff_lines.specs.Env.Kept.{Kept, KeptField, field_room, length_told, with_glyph_in, with_glyph_told, with_glyphs_in, with_glyphs_told}
 use Rattle.roff_lines.specs.Env.Tells.{EndsInField, Tells}

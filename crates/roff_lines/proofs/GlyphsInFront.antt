@@ -8,8 +8,8 @@ use Rattle.std.specs.Prelude.{◌==◌, nat_lt}
 use Rattle.std.proofs.lemmas.Bool.{cases_Bool}
 use Rattle.std.proofs.lemmas.List.{drop-drop, take_more}
 use Rattle.std.proofs.lemmas.List.Sums.{take_while-cons}
-use Rattle.roff_layout.specs.Glyphs.{gap_blank, further_blank, glyph_blank, text_byte}
-use Rattle.roff_layout.specs.Columns.{spread}
+use Rattle.page_model.specs.Glyphs.{gap_blank, further_blank, glyph_blank, text_byte}
+use Rattle.page_model.specs.Columns.{spread}
 use Rattle.roff_lines.specs.GlyphsInFront.{glyphs_in_front}
 
 -- a byte above the blank stands for none

@@ -3,16 +3,16 @@ use Rattle.std.proofs.Common.{◌≡◌, ◌↔◌, ℕ, ◌+◌, ◌<◌, ◌�
 use Rattle.std.specs.Prelude.{◌-◌, ◌/◌, if◌then◌else◌, ◌==◌}
 use Rattle.std.proofs.lemmas.Bool.Decides.{nat_tests}
 use Rattle.std.proofs.lemmas.List.{append_cancel_right}
-use Rattle.roff_layout.specs.declared.glyph.Glyph.{Glyph}
-use Rattle.roff_layout.specs.declared.glyph.Glyph.TheVariants.{Blanks}
-use Rattle.roff_layout.specs.Glyphs.{glyph_blank, glyph_text, text_width}
-use Rattle.roff_layout.specs.Events.{History, settings_after, stops_after, is_interrupted}
-use Rattle.roff_layout.specs.Places.{input_place, moved}
-use Rattle.roff_layout.specs.Fitting.{Word, line_indent, line_text, last_line, word_text}
-use Rattle.roff_layout.specs.Words.{begun_gap, blanks, ends_sentence, has_open_word, is_closer, is_empty, is_sentence_mark, last_word_glyphs, open_word, temporary_indent, words}
-use Rattle.roff_layout.specs.Lines.{pending_length, pending_line}
-use Rattle.roff_layout.specs.LastLine.{last_text, last_width, newest_text, newest_width}
-use Rattle.roff_layout.specs.Fields.{Field, field_text, field_told, motion, with_glyph, without_gap}
+use Rattle.page_model.specs.declared.glyph.Glyph.{Glyph}
+use Rattle.page_model.specs.declared.glyph.Glyph.TheVariants.{Blanks}
+use Rattle.page_model.specs.Glyphs.{glyph_blank, glyph_text, text_width}
+use Rattle.page_model.specs.Events.{History, settings_after, stops_after, is_interrupted}
+use Rattle.page_model.specs.Places.{input_place, moved}
+use Rattle.page_model.specs.Fitting.{Word, line_indent, line_text, last_line, word_text}
+use Rattle.page_model.specs.Words.{begun_gap, blanks, ends_sentence, has_open_word, is_closer, is_empty, is_sentence_mark, last_word_glyphs, open_word, temporary_indent, words}
+use Rattle.page_model.specs.Lines.{pending_length, pending_line}
+use Rattle.page_model.specs.LastLine.{last_text, last_width, newest_text, newest_width}
+use Rattle.page_model.specs.Fields.{Field, field_text, field_told, motion, with_glyph, without_gap}
 use Rattle.roff_lines.specs.Env.Kept.{Kept, KeptField, kept_length, kept_motion, length_ended, length_of_words, length_told, length_with, with_field_ended, with_field_left, with_glyph as with_glyph_open, with_glyph_in, with_glyph_told}
 use Rattle.roff_lines.specs.Env.Stands.{StandsInField, StandsPlain}
 use Rattle.roff_lines.proofs.Fields.{blanks-field, ends_sentence-field, field_text-glyph, finished_lines-field, has_line_glyph-field, has_open_word-field, input_place-field, is_interrupted-field, length-field_glyph, pending_length-field, pending_length-motion, settings_after-field, stops_after-field, temporary_indent-field, text_width-field_glyph, word_text-field, words-field}

@@ -5,18 +5,18 @@ use Rattle.std.specs.List.{cons_option}
 use Rattle.std.proofs.lemmas.Bool.{cond_both}
 use Rattle.std.proofs.Math.Nat.{mul-div_cancel_left}
 use Rattle.std.proofs.Math.Seq.{take-length}
-use Rattle.roff_layout.specs.declared.settings.Settings.{Settings}
-use Rattle.roff_layout.specs.Glyphs.{gaps_in}
-use Rattle.roff_layout.specs.declared.event.Event.{Event}
-use Rattle.roff_layout.specs.declared.event.Event.TheVariants.{WordEnd, LineEnd, Break}
-use Rattle.roff_layout.specs.Events.{History, settings_after}
-use Rattle.roff_layout.specs.Words.{is_empty, has_open_word, open_word, words}
-use Rattle.roff_layout.specs.Lines.{Finished, free_columns, spread_columns, laid_out, line_laid_out, pending_line, finished}
-use Rattle.roff_layout.specs.Fitting.{fits, line_indent, line_text}
-use Rattle.roff_layout.specs.Settings.{fills}
-use Rattle.roff_layout.specs.Columns.{added_columns}
-use Rattle.roff_layout.specs.Paragraphs.{finished_lines}
-use Rattle.roff_layout.specs.LastLine.{line_width, newest_width, last_width, newest_text, last_text, EndsAtWidth}
+use Rattle.page_model.specs.declared.settings.Settings.{Settings}
+use Rattle.page_model.specs.Glyphs.{gaps_in}
+use Rattle.page_model.specs.declared.event.Event.{Event}
+use Rattle.page_model.specs.declared.event.Event.TheVariants.{WordEnd, LineEnd, Break}
+use Rattle.page_model.specs.Events.{History, settings_after}
+use Rattle.page_model.specs.Words.{is_empty, has_open_word, open_word, words}
+use Rattle.page_model.specs.Lines.{Finished, free_columns, spread_columns, laid_out, line_laid_out, pending_line, finished}
+use Rattle.page_model.specs.Fitting.{fits, line_indent, line_text}
+use Rattle.page_model.specs.Settings.{fills}
+use Rattle.page_model.specs.Columns.{added_columns}
+use Rattle.page_model.specs.Paragraphs.{finished_lines}
+use Rattle.page_model.specs.LastLine.{line_width, newest_width, last_width, newest_text, last_text, EndsAtWidth}
 
 module _ (h : History) (e : Event) where
   -- an event that finishes no line leaves it

@@ -2,13 +2,13 @@
 use Rattle.std.proofs.Common.{◌≡◌, ℕ, ◌^◌, true, false, not, ◌&&◌, ◌||◌, List, [], ◌∷◌, refl, sym, ap, ◌∙◌, arith, min, Some, None, inl, inr}
 use Rattle.std.specs.Prelude.{if◌then◌else◌}
 use Rattle.std.proofs.lemmas.Bool.{cond_both, cases_Bool, true≢false}
-use Rattle.roff_layout.specs.declared.event.Event.TheVariants.{LineEnd}
-use Rattle.roff_layout.specs.Events.{History, settings_after}
-use Rattle.roff_layout.specs.Settings.{fills, counted}
-use Rattle.roff_layout.specs.Places.{has_line_glyph}
-use Rattle.roff_layout.specs.Words.{is_empty, blanks, words}
-use Rattle.roff_layout.specs.Lines.{Finished, empty_line, finished, laid_out, line_laid_out, pending_line}
-use Rattle.roff_layout.specs.LastLine.{line_width, last_text, last_width}
+use Rattle.page_model.specs.declared.event.Event.TheVariants.{LineEnd}
+use Rattle.page_model.specs.Events.{History, settings_after}
+use Rattle.page_model.specs.Settings.{fills, counted}
+use Rattle.page_model.specs.Places.{has_line_glyph}
+use Rattle.page_model.specs.Words.{is_empty, blanks, words}
+use Rattle.page_model.specs.Lines.{Finished, empty_line, finished, laid_out, line_laid_out, pending_line}
+use Rattle.page_model.specs.LastLine.{line_width, last_text, last_width}
 use Rattle.roff_lines.specs.Env.Kept.{Kept, pending_width, with_input_line_ended, finished_by_line_end}
 use Rattle.roff_lines.specs.Env.Stands.{StandsPlain}
 use Rattle.roff_lines.proofs.PendingLine.{pending_length-line_end}

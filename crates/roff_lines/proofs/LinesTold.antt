@@ -1,9 +1,9 @@
 -- Ends of words and lines, where an environment stands for its history.
 use Rattle.std.proofs.Common.{◌≡◌, ℕ, false, not, Option, Some, None, refl, sym, subst, ◌∙◌}
 use Rattle.std.proofs.lemmas.Bool.{cond_both, not-false, true≢false}
-use Rattle.roff_layout.specs.declared.event.Event.TheVariants.{WordEnd, LineEnd}
-use Rattle.roff_layout.specs.Events.{History}
-use Rattle.roff_layout.specs.Fields.{Field, plain, told, told_behind}
+use Rattle.page_model.specs.declared.event.Event.TheVariants.{WordEnd, LineEnd}
+use Rattle.page_model.specs.Events.{History}
+use Rattle.page_model.specs.Fields.{Field, plain, told, told_behind}
 use Rattle.roff_lines.specs.Env.Kept.{Kept, finished_by_line_end, finished_by_word, with_field_left, with_input_line_ended, with_word_ended, word_fits}
 use Rattle.roff_lines.specs.Env.Stands.{Finishes, StandsBehind, StandsFor, StandsInField, StandsTold}
 use Rattle.roff_lines.proofs.LineEnd.{Stands-line_end, finished_by_line_end-stands}

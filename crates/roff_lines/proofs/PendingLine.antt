@@ -3,13 +3,13 @@ use Rattle.std.proofs.Common.{◌≡◌, ℕ, ◌+◌, ◌-◌, ◌≤◌, true,
 use Rattle.std.specs.Prelude.{if◌then◌else◌}
 use Rattle.std.proofs.lemmas.Bool.{cond_both, cases_Bool, not-false, eqb-true, eqb-false}
 use Rattle.std.proofs.lemmas.List.{length-append, length-replicate}
-use Rattle.roff_layout.specs.Glyphs.{gap_blank, further_blank}
-use Rattle.roff_layout.specs.declared.event.Event.TheVariants.{WordEnd, LineEnd}
-use Rattle.roff_layout.specs.Events.{History, settings_after}
-use Rattle.roff_layout.specs.Settings.{fills}
-use Rattle.roff_layout.specs.Fitting.{Word, word_text, gap_text, line_text, line_indent, fits, begins_line, placed, last_line}
-use Rattle.roff_layout.specs.Words.{is_empty, open_glyphs, has_open_word, open_word, words}
-use Rattle.roff_layout.specs.Lines.{pending_line, pending_length}
+use Rattle.page_model.specs.Glyphs.{gap_blank, further_blank}
+use Rattle.page_model.specs.declared.event.Event.TheVariants.{WordEnd, LineEnd}
+use Rattle.page_model.specs.Events.{History, settings_after}
+use Rattle.page_model.specs.Settings.{fills}
+use Rattle.page_model.specs.Fitting.{Word, word_text, gap_text, line_text, line_indent, fits, begins_line, placed, last_line}
+use Rattle.page_model.specs.Words.{is_empty, open_glyphs, has_open_word, open_word, words}
+use Rattle.page_model.specs.Lines.{pending_line, pending_length}
 
 -- a list without an element is the empty one
 pub is_empty-true : {A : Type 0} (xs : List A) → is_empty xs ≡ true → xs ≡ []

@@ -1,12 +1,12 @@
 -- Where no field is open: an environment stands for its history as it does for the plain one that tells it without fields.
 use Rattle.std.proofs.Common.{◌≡◌, ◌≤◌, ℕ, List, [], ◌∷◌, Option, Some, None, refl, sym, ap, subst, ◌∙◌}
 use Rattle.std.specs.Prelude.{is_some, if◌then◌else◌, ◌==◌}
-use Rattle.roff_layout.specs.declared.event.Event.TheVariants.{WordEnd}
-use Rattle.roff_layout.specs.Events.{History}
-use Rattle.roff_layout.specs.Fields.{Field, Told, so_far, told, unfielded}
-use Rattle.roff_layout.specs.Behind.{finished}
-use Rattle.roff_layout.specs.Lines.{Finished, finished as finished_plainly, pending_length as length_plainly}
-use Rattle.roff_layout.specs.Telling.{bytes_told, QuietlyTold}
+use Rattle.page_model.specs.declared.event.Event.TheVariants.{WordEnd}
+use Rattle.page_model.specs.Events.{History}
+use Rattle.page_model.specs.Fields.{Field, Told, so_far, told, unfielded}
+use Rattle.page_model.specs.Behind.{finished}
+use Rattle.page_model.specs.Lines.{Finished, finished as finished_plainly, pending_length as length_plainly}
+use Rattle.page_model.specs.Telling.{bytes_told, QuietlyTold}
 use Rattle.roff_lines.specs.Env.Kept.{Kept}
 use Rattle.roff_lines.specs.Env.Stands.{Stands, StandsFor, StandsPlain, StandsTold}
 use Rattle.roff_lines.specs.Env.Tells.{PlainlyTold, Tells, TellsPlain}

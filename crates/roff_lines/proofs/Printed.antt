@@ -4,14 +4,14 @@ use Rattle.std.specs.Prelude.{reverse, if◌then◌else◌, not, ◌&&◌, List}
 use Rattle.std.specs.List.{flat_map}
 use Rattle.std.proofs.lemmas.Grind.{flat_map-append}
 use Rattle.std.proofs.lemmas.List.{append-nil, length-append, reverse-append}
-use Rattle.roff_layout.specs.declared.glyph.Glyph.{Glyph}
-use Rattle.roff_layout.specs.Glyphs.{glyph_text, glyph_width}
-use Rattle.roff_layout.specs.declared.event.Event.TheVariants.{Print}
-use Rattle.roff_layout.specs.Events.{History}
-use Rattle.roff_layout.specs.Places.{moved}
-use Rattle.roff_layout.specs.Fitting.{word_text, line_text}
-use Rattle.roff_layout.specs.Words.{is_empty, is_closer, is_sentence_mark, ends_sentence, blanks, has_open_word, last_word_glyphs, open_glyphs, open_word, words}
-use Rattle.roff_layout.specs.Lines.{pending_line, pending_length}
+use Rattle.page_model.specs.declared.glyph.Glyph.{Glyph}
+use Rattle.page_model.specs.Glyphs.{glyph_text, glyph_width}
+use Rattle.page_model.specs.declared.event.Event.TheVariants.{Print}
+use Rattle.page_model.specs.Events.{History}
+use Rattle.page_model.specs.Places.{moved}
+use Rattle.page_model.specs.Fitting.{word_text, line_text}
+use Rattle.page_model.specs.Words.{is_empty, is_closer, is_sentence_mark, ends_sentence, blanks, has_open_word, last_word_glyphs, open_glyphs, open_word, words}
+use Rattle.page_model.specs.Lines.{pending_line, pending_length}
 use Rattle.roff_lines.specs.Env.Kept.{Kept, begun_blanks, ends_in_word, length_with, with_glyph}
 use Rattle.roff_lines.specs.Env.Stands.{StandsPlain}
 use Rattle.roff_lines.proofs.Gaps.{begun_blanks-stands}

@@ -1,19 +1,19 @@
 -- What isn't text: it leaves the text as it was, and so a field in front of which it is told.
 use Rattle.std.proofs.Common.{◌≡◌, ℕ, Bool, true, false, ◌∷◌, Option, Some, None, refl, sym, ap, ◌∙◌}
-use Rattle.roff_layout.specs.declared.settings.Settings.{Settings}
-use Rattle.roff_layout.specs.declared.settings.Param.{Param}
-use Rattle.roff_layout.specs.declared.settings.Param.TheVariants.{Filling, Adjusting, Mode, LineLength, Indent, TemporaryIndent, Centring, Spacing, TitleLength, NoStops, Stop, RightStop, CentredStop}
-use Rattle.roff_layout.specs.declared.event.Event.{Event}
-use Rattle.roff_layout.specs.declared.event.Event.TheVariants.{Count, Interrupt, Resume, Set}
-use Rattle.roff_layout.specs.Events.{History, settings_after, stops_after, is_interrupted}
-use Rattle.roff_layout.specs.Glyphs.{text_width}
-use Rattle.roff_layout.specs.Settings.{settings_with, temporary_with}
-use Rattle.roff_layout.specs.TabStops.{TabStops, stops_with}
-use Rattle.roff_layout.specs.Places.{has_line_glyph, input_place, moved}
-use Rattle.roff_layout.specs.Words.{open_glyphs, last_word_glyphs, blanks, words, temporary_indent}
-use Rattle.roff_layout.specs.LastLine.{newest_text, newest_width}
-use Rattle.roff_layout.specs.Paragraphs.{finished_lines}
-use Rattle.roff_layout.specs.Fields.{Field, Told, field_text, field_told, told, told_behind}
+use Rattle.page_model.specs.declared.settings.Settings.{Settings}
+use Rattle.page_model.specs.declared.settings.Param.{Param}
+use Rattle.page_model.specs.declared.settings.Param.TheVariants.{Filling, Adjusting, Mode, LineLength, Indent, TemporaryIndent, Centring, Spacing, TitleLength, NoStops, Stop, RightStop, CentredStop}
+use Rattle.page_model.specs.declared.event.Event.{Event}
+use Rattle.page_model.specs.declared.event.Event.TheVariants.{Count, Interrupt, Resume, Set}
+use Rattle.page_model.specs.Events.{History, settings_after, stops_after, is_interrupted}
+use Rattle.page_model.specs.Glyphs.{text_width}
+use Rattle.page_model.specs.Settings.{settings_with, temporary_with}
+use Rattle.page_model.specs.TabStops.{TabStops, stops_with}
+use Rattle.page_model.specs.Places.{has_line_glyph, input_place, moved}
+use Rattle.page_model.specs.Words.{open_glyphs, last_word_glyphs, blanks, words, temporary_indent}
+use Rattle.page_model.specs.LastLine.{newest_text, newest_width}
+use Rattle.page_model.specs.Paragraphs.{finished_lines}
+use Rattle.page_model.specs.Fields.{Field, Told, field_text, field_told, told, told_behind}
 use Rattle.roff_lines.specs.Env.Kept.{Kept}
 use Rattle.roff_lines.specs.Env.Stands.{StandsBehind, StandsPlain, StandsTold}
 use Rattle.roff_lines.proofs.Fields.{blanks-field, finished_lines-field, has_line_glyph-field, input_place-field, is_interrupted-field, last_word_glyphs-field, open_glyphs-field, settings_after-field, stops_after-field, temporary_indent-field, words-field}

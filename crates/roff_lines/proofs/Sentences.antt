@@ -1,8 +1,8 @@
 -- Ends of sentences behind printed bytes.
 use Rattle.std.proofs.Common.{◌≡◌, ℕ, Bool, List, [], ◌∷◌, ◌++◌, refl}
 use Rattle.std.specs.Prelude.{if◌then◌else◌}
-use Rattle.roff_layout.specs.declared.glyph.Glyph.TheVariants.{Printed}
-use Rattle.roff_layout.specs.Words.{is_closer, is_sentence_mark, ends_sentence_behind}
+use Rattle.page_model.specs.declared.glyph.Glyph.TheVariants.{Printed}
+use Rattle.page_model.specs.Words.{is_closer, is_sentence_mark, ends_sentence_behind}
 
 -- a byte more
 pub ends_sentence_behind_push : (bytes : List ℕ) (b : ℕ) (before : Bool) →

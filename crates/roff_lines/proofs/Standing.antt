@@ -1,9 +1,9 @@
 -- What an environment keeps, whether a field is open or not: with the open field's text at its tab it stands for all that happened.
 use Rattle.std.proofs.Common.{◌≡◌, ℕ, ◌^◌, min, true, false, Option, Some, None, refl, sym, ap, subst, ◌∙◌}
 use Rattle.std.specs.Prelude.{◌++◌}
-use Rattle.roff_layout.specs.Events.{History, settings_after, is_interrupted}
-use Rattle.roff_layout.specs.Fields.{Field, field_text, field_told, plain, so_far, told}
-use Rattle.roff_layout.specs.Behind.{last_text, last_width}
+use Rattle.page_model.specs.Events.{History, settings_after, is_interrupted}
+use Rattle.page_model.specs.Fields.{Field, field_text, field_told, plain, so_far, told}
+use Rattle.page_model.specs.Behind.{last_text, last_width}
 use Rattle.roff_lines.specs.Env.Kept.{Kept, KeptField, with_field_left}
 use Rattle.roff_lines.specs.Env.Stands.{Stands, StandsInField, StandsPlain, StandsTold}
 use Rattle.roff_lines.proofs.Told.{settings_after-plain, is_interrupted-plain, last_text-plain, last_width-plain}

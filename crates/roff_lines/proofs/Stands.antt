@@ -1,10 +1,10 @@
 -- What it says that an environment stands for its history.
 use Rattle.std.proofs.Common.{◌≡◌, ℕ, Bool, true, false, [], refl, sym, ap, ◌∙◌, arith}
 use Rattle.std.proofs.lemmas.Bool.{not-true, not-false}
-use Rattle.roff_layout.specs.Events.{History, settings_after}
-use Rattle.roff_layout.specs.Words.{is_empty, blanks, open_word, words}
-use Rattle.roff_layout.specs.Fitting.{line_indent, fits}
-use Rattle.roff_layout.specs.Lines.{laid_out, line_laid_out, pending_line}
+use Rattle.page_model.specs.Events.{History, settings_after}
+use Rattle.page_model.specs.Words.{is_empty, blanks, open_word, words}
+use Rattle.page_model.specs.Fitting.{line_indent, fits}
+use Rattle.page_model.specs.Lines.{laid_out, line_laid_out, pending_line}
 use Rattle.roff_lines.specs.Env.Kept.{Kept, word_fits}
 use Rattle.roff_lines.specs.Env.Stands.{StandsPlain}
 use Rattle.roff_lines.proofs.PendingLine.{is_empty-true, is_empty-last_line}

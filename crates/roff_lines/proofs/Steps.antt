@@ -15,7 +15,7 @@ use Rattle.std.proofs.lemmas.List.{get_or-take, get_or-drop, length-drop, length
 use Rattle.std.proofs.lemmas.List.Sums.{prefix_len-le-length, prefix_len_passes, prefix_len_stops, sum_by-append, sum_by-cons}
 use Rattle.roff_num.specs.Widths.{byte_width}
 use Rattle.roff_num.proofs.Masks.{first_lane, mask_l-lanes}
-use Rattle.roff_layout.specs.Glyphs.{gap_blank, gaps_in, text_width}
+use Rattle.page_model.specs.Glyphs.{gap_blank, gaps_in, text_width}
 use Rattle.roff_lines.specs.Env.Tells.{GoesOn, IsRun}
 use Rattle.roff_lines.proofs.WordRuns.{IsRun-more}
 

@@ -3,19 +3,19 @@ use Rattle.std.proofs.Common.{◌≡◌, ℕ, ◌+◌, ◌≤◌, ◌^◌, min, 
 use Rattle.std.specs.Prelude.{if◌then◌else◌, ◌==◌, reverse}
 use Rattle.std.specs.List.{cons_option}
 use Rattle.std.proofs.lemmas.Bool.{eqb-true}
-use Rattle.roff_layout.specs.declared.event.Event.TheVariants.{Gap, Print, Tab, WordEnd}
-use Rattle.roff_layout.specs.declared.glyph.Glyph.TheVariants.{Blanks}
-use Rattle.roff_layout.specs.Glyphs.{glyph_blank, text_width}
-use Rattle.roff_layout.specs.declared.settings.Settings.{Settings}
-use Rattle.roff_layout.specs.Events.{History, settings_after}
-use Rattle.roff_layout.specs.Places.{has_line_glyph}
-use Rattle.roff_layout.specs.Fitting.{Word, begins_line, fits, last_line, line_indent, line_text, may_be_wide, word_text}
-use Rattle.roff_layout.specs.Words.{Paragraph, blanks, has_open_word, indent_by, is_empty, open_glyphs, open_word, paragraph, words}
-use Rattle.roff_layout.specs.Lines.{Finished, finished, laid_out, line_laid_out, pending_line}
-use Rattle.roff_layout.specs.LastLine.{newest_text, newest_width}
-use Rattle.roff_layout.specs.Paragraphs.{finished_lines}
-use Rattle.roff_layout.specs.Fields.{Field, field_text, field_told, gap_ended, motion, told, without_gap}
-use Rattle.roff_layout.specs.Behind.{finished as finished_behind, finished_by_tab}
+use Rattle.page_model.specs.declared.event.Event.TheVariants.{Gap, Print, Tab, WordEnd}
+use Rattle.page_model.specs.declared.glyph.Glyph.TheVariants.{Blanks}
+use Rattle.page_model.specs.Glyphs.{glyph_blank, text_width}
+use Rattle.page_model.specs.declared.settings.Settings.{Settings}
+use Rattle.page_model.specs.Events.{History, settings_after}
+use Rattle.page_model.specs.Places.{has_line_glyph}
+use Rattle.page_model.specs.Fitting.{Word, begins_line, fits, last_line, line_indent, line_text, may_be_wide, word_text}
+use Rattle.page_model.specs.Words.{Paragraph, blanks, has_open_word, indent_by, is_empty, open_glyphs, open_word, paragraph, words}
+use Rattle.page_model.specs.Lines.{Finished, finished, laid_out, line_laid_out, pending_line}
+use Rattle.page_model.specs.LastLine.{newest_text, newest_width}
+use Rattle.page_model.specs.Paragraphs.{finished_lines}
+use Rattle.page_model.specs.Fields.{Field, field_text, field_told, gap_ended, motion, told, without_gap}
+use Rattle.page_model.specs.Behind.{finished as finished_behind, finished_by_tab}
 use Rattle.roff_lines.specs.Env.Kept.{Kept, KeptField, at_tab, finished_at_tab, finished_by_word, kept_motion, length_ended, with_field_ended, with_word_ended}
 use Rattle.roff_lines.specs.Env.Stands.{Stands, StandsInField, StandsPlain, StandsTold}
 use Rattle.roff_lines.proofs.Fields.{blanks-field, has_line_glyph-field, has_open_word-field, settings_after-field, word_text-field, words-field}

@@ -1,10 +1,10 @@
 -- Tabs, where an environment stands for its history.
 use Rattle.std.proofs.Common.{◌≡◌, ℕ, ◌∷◌, ap, subst, ◌∙◌}
-use Rattle.roff_layout.specs.declared.glyph.Glyph.TheVariants.{Blanks}
-use Rattle.roff_layout.specs.TabStops.{way_to_stop}
-use Rattle.roff_layout.specs.declared.event.Event.TheVariants.{Print, Tab}
-use Rattle.roff_layout.specs.Events.{History}
-use Rattle.roff_layout.specs.Places.{tab_width}
+use Rattle.page_model.specs.declared.glyph.Glyph.TheVariants.{Blanks}
+use Rattle.page_model.specs.TabStops.{way_to_stop}
+use Rattle.page_model.specs.declared.event.Event.TheVariants.{Print, Tab}
+use Rattle.page_model.specs.Events.{History}
+use Rattle.page_model.specs.Places.{tab_width}
 use Rattle.roff_lines.specs.Env.Kept.{Kept}
 use Rattle.roff_lines.specs.Env.Stands.{StandsPlain, StandsPlainBehind}
 

@@ -5,15 +5,15 @@ use Rattle.std.proofs.lemmas.List.{append-nil}
 use Rattle.std.proofs.lemmas.Bool.{cond_both}
 use Rattle.std.proofs.Math.Nat.{lt_of_not-le}
 use Rattle.roff_num.specs.declared.limit.Limit.{Limit}
-use Rattle.roff_layout.specs.declared.glyph.Glyph.TheVariants.{Blanks}
-use Rattle.roff_layout.specs.declared.stop.StopKind.{StopKind}
-use Rattle.roff_layout.specs.declared.event.Event.TheVariants.{FieldEnd, Print, Tab}
-use Rattle.roff_layout.specs.Events.{History, stops_after}
-use Rattle.roff_layout.specs.Fields.{Field, Told, field_ended, opened, so_far, tab_told, told, told_behind, tab_reached}
-use Rattle.roff_layout.specs.Behind.{finished_by_tab, length_reached, pending_length as pending_length_behind}
-use Rattle.roff_layout.specs.TabStops.{Way, way_to_next}
-use Rattle.roff_layout.specs.Places.{input_place}
-use Rattle.roff_layout.specs.Lines.{pending_length}
+use Rattle.page_model.specs.declared.glyph.Glyph.TheVariants.{Blanks}
+use Rattle.page_model.specs.declared.stop.StopKind.{StopKind}
+use Rattle.page_model.specs.declared.event.Event.TheVariants.{FieldEnd, Print, Tab}
+use Rattle.page_model.specs.Events.{History, stops_after}
+use Rattle.page_model.specs.Fields.{Field, Told, field_ended, opened, so_far, tab_told, told, told_behind, tab_reached}
+use Rattle.page_model.specs.Behind.{finished_by_tab, length_reached, pending_length as pending_length_behind}
+use Rattle.page_model.specs.TabStops.{Way, way_to_next}
+use Rattle.page_model.specs.Places.{input_place}
+use Rattle.page_model.specs.Lines.{pending_length}
 use Rattle.roff_lines.specs.Env.Kept.{Kept, KeptField, at_tab, length_ended, length_of_words, length_with, with_field_ended, with_field_opened, with_glyph, with_word_ended, word_fits}
 use Rattle.roff_lines.specs.Env.Stands.{Finishes, Stands, StandsBehind, StandsBehindTab, StandsFor, StandsPlain, StandsTold, length_at_tab}
 use Rattle.roff_lines.proofs.InField.{Stands-field_ended, length-stands, limit-ended}

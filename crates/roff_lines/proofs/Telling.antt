@@ -2,12 +2,12 @@
 use Rattle.std.proofs.Common.{◌≡◌, true, false, not, List, [], ◌∷◌, ◌++◌, map, reverse, refl, sym, ap, ◌∙◌, inl, inr}
 use Rattle.std.proofs.lemmas.Bool.{cases_Bool, true≢false}
 use Rattle.std.proofs.lemmas.List.{append-nil, reverse-reverse}
-use Rattle.roff_layout.specs.declared.glyph.Glyph.{Glyph}
-use Rattle.roff_layout.specs.declared.event.Event.TheVariants.{Print, WordEnd}
-use Rattle.roff_layout.specs.Events.{History, settings_after}
-use Rattle.roff_layout.specs.Fitting.{Word}
-use Rattle.roff_layout.specs.Words.{is_empty, open_glyphs, has_open_word, last_word_glyphs, begun_gap, blanks, open_word, words, temporary_indent, indent_by}
-use Rattle.roff_layout.specs.Telling.{glyphs_told}
+use Rattle.page_model.specs.declared.glyph.Glyph.{Glyph}
+use Rattle.page_model.specs.declared.event.Event.TheVariants.{Print, WordEnd}
+use Rattle.page_model.specs.Events.{History, settings_after}
+use Rattle.page_model.specs.Fitting.{Word}
+use Rattle.page_model.specs.Words.{is_empty, open_glyphs, has_open_word, last_word_glyphs, begun_gap, blanks, open_word, words, temporary_indent, indent_by}
+use Rattle.page_model.specs.Telling.{glyphs_told}
 use Rattle.roff_lines.proofs.PendingLine.{is_empty-true}
 
 -- they are open

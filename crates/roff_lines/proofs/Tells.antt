@@ -1,8 +1,8 @@
 -- Bytes of a text line that are told one after another.
 use Rattle.std.proofs.Common.{◌≡◌, ℕ, List, [], ◌∷◌, ◌++◌, refl, sym, ap, subst, ◌∙◌, append_assoc}
 use Rattle.std.specs.List.{AllByRecursion}
-use Rattle.roff_layout.specs.Events.{History}
-use Rattle.roff_layout.specs.Telling.{bytes_told}
+use Rattle.page_model.specs.Events.{History}
+use Rattle.page_model.specs.Telling.{bytes_told}
 use Rattle.roff_lines.specs.Env.Kept.{Kept}
 use Rattle.roff_lines.specs.Env.Stands.{StandsPlain}
 use Rattle.roff_lines.specs.Env.Tells.{PlainlyTold, TellsPlain, TellsFront}

@@ -5,8 +5,8 @@ use Rattle.std.specs.List.{AllByRecursion}
 use Rattle.std.proofs.Math.Seq.{drop-cons, take-nil}
 use Rattle.std.proofs.lemmas.Bool.{cases_Bool, cases_lt}
 use Rattle.std.proofs.lemmas.List.{drop-drop, drop_all, get_or-take, length-drop, length-take, take-take, take_all}
-use Rattle.roff_layout.specs.Events.{History}
-use Rattle.roff_layout.specs.Telling.{bytes_told}
+use Rattle.page_model.specs.Events.{History}
+use Rattle.page_model.specs.Telling.{bytes_told}
 use Rattle.roff_lines.specs.Env.Tells.{PlainlyTold}
 use Rattle.roff_lines.specs.GlyphsInFront.{glyphs_in_front}
 use Rattle.roff_lines.specs.Env.Kept.{Kept, word_finishes}

@@ -5,11 +5,11 @@ use Rattle.std.specs.List.{AllByRecursion}
 use Rattle.std.proofs.Math.Seq.{take-append_seam, take-append-add}
 use Rattle.std.proofs.lemmas.Bool.{cases_Bool, ltb-true, ltb-false}
 use Rattle.std.proofs.lemmas.List.{length-append, length-take, take-append-drop}
-use Rattle.roff_layout.specs.declared.event.Event.TheVariants.{WordEnd, Gap}
-use Rattle.roff_layout.specs.Events.{History}
-use Rattle.roff_layout.specs.Telling.{bytes_told}
+use Rattle.page_model.specs.declared.event.Event.TheVariants.{WordEnd, Gap}
+use Rattle.page_model.specs.Events.{History}
+use Rattle.page_model.specs.Telling.{bytes_told}
 use Rattle.roff_lines.specs.Env.Tells.{PlainlyTold}
-use Rattle.roff_layout.specs.Lines.{pending_length}
+use Rattle.page_model.specs.Lines.{pending_length}
 use Rattle.roff_lines.specs.GlyphsInFront.{glyphs_in_front}
 use Rattle.roff_lines.specs.Env.Kept.{Kept, glyph_room, with_glyphs, with_word_ended, word_finishes}
 use Rattle.roff_lines.specs.Env.Stands.{StandsPlain, StandsPlainBehind}

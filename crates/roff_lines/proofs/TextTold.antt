@@ -3,11 +3,11 @@ use Rattle.std.proofs.Common.{◌≡◌, ℕ, ◌+◌, ◌<◌, ◌≤◌, false
 use Rattle.std.specs.Prelude.{◌==◌}
 use Rattle.std.proofs.lemmas.Bool.{cases_Bool, eqb-true, eqb-false}
 use Rattle.std.proofs.lemmas.List.{take_more}
-use Rattle.roff_layout.specs.declared.event.Event.TheVariants.{Print}
-use Rattle.roff_layout.specs.declared.glyph.Glyph.TheVariants.{Printed}
-use Rattle.roff_layout.specs.Events.{History}
-use Rattle.roff_layout.specs.Behind.{pending_length}
-use Rattle.roff_layout.specs.Telling.{bytes_told, QuietlyTold}
+use Rattle.page_model.specs.declared.event.Event.TheVariants.{Print}
+use Rattle.page_model.specs.declared.glyph.Glyph.TheVariants.{Printed}
+use Rattle.page_model.specs.Events.{History}
+use Rattle.page_model.specs.Behind.{pending_length}
+use Rattle.page_model.specs.Telling.{bytes_told, QuietlyTold}
 use Rattle.roff_lines.specs.Env.Kept.{Kept}
 use Rattle.roff_lines.specs.Env.Stands.{Stands, StandsPlain}
 use Rattle.roff_lines.specs.Env.Tells.{EndsInField, PlainlyTold, Tells}

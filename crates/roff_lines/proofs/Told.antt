@@ -3,19 +3,19 @@ use Rattle.std.proofs.Common.{◌≡◌, ℕ, Bool, true, false, [], ◌∷◌, 
 use Rattle.std.specs.Prelude.{if◌then◌else◌, ◌==◌, is_some}
 use Rattle.std.specs.List.{cons_option}
 use Rattle.std.proofs.lemmas.Bool.{cond_both}
-use Rattle.roff_layout.specs.declared.event.Event.{Event}
-use Rattle.roff_layout.specs.declared.event.Event.TheVariants.{Print, Tab, FieldEnd, WordEnd, Gap, LineEnd, Count, Break, Interrupt, Resume, Set}
-use Rattle.roff_layout.specs.Events.{History, settings_after, stops_after, is_interrupted}
-use Rattle.roff_layout.specs.Settings.{settings_with, counted}
-use Rattle.roff_layout.specs.declared.stop.StopKind.{StopKind}
-use Rattle.roff_layout.specs.declared.stop.StopKind.TheVariants.{Left as AtLeft, Right as AtRight, Centred as InMiddle}
-use Rattle.roff_layout.specs.TabStops.{Way, stops_with, way_to_next}
-use Rattle.roff_layout.specs.Places.{input_place}
-use Rattle.roff_layout.specs.Lines.{Finished, finished}
-use Rattle.roff_layout.specs.Paragraphs.{finished_lines}
-use Rattle.roff_layout.specs.LastLine.{newest_text, newest_width, last_text, last_width}
-use Rattle.roff_layout.specs.Fields.{Field, Told, field_told, gap_ended, motion, plain, so_far, tab_told, told, told_behind, without_gap}
-use Rattle.roff_layout.specs.Behind as behind
+use Rattle.page_model.specs.declared.event.Event.{Event}
+use Rattle.page_model.specs.declared.event.Event.TheVariants.{Print, Tab, FieldEnd, WordEnd, Gap, LineEnd, Count, Break, Interrupt, Resume, Set}
+use Rattle.page_model.specs.Events.{History, settings_after, stops_after, is_interrupted}
+use Rattle.page_model.specs.Settings.{settings_with, counted}
+use Rattle.page_model.specs.declared.stop.StopKind.{StopKind}
+use Rattle.page_model.specs.declared.stop.StopKind.TheVariants.{Left as AtLeft, Right as AtRight, Centred as InMiddle}
+use Rattle.page_model.specs.TabStops.{Way, stops_with, way_to_next}
+use Rattle.page_model.specs.Places.{input_place}
+use Rattle.page_model.specs.Lines.{Finished, finished}
+use Rattle.page_model.specs.Paragraphs.{finished_lines}
+use Rattle.page_model.specs.LastLine.{newest_text, newest_width, last_text, last_width}
+use Rattle.page_model.specs.Fields.{Field, Told, field_told, gap_ended, motion, plain, so_far, tab_told, told, told_behind, without_gap}
+use Rattle.page_model.specs.Behind as behind
 use Rattle.roff_lines.proofs.Fields.{settings_after-field, stops_after-field, is_interrupted-field, finished_lines-field}
 
 -- behind a tab all is as it was in front of it

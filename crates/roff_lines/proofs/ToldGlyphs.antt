@@ -4,14 +4,14 @@ use Rattle.std.specs.Prelude.{if◌then◌else◌, ◌==◌}
 use Rattle.std.specs.List.{AllByRecursion}
 use Rattle.std.proofs.lemmas.List.{length-append}
 use Rattle.std.proofs.lemmas.List.Sums.{sum_by-cons, sum_by-append}
-use Rattle.roff_layout.specs.declared.glyph.Glyph.TheVariants.{Printed}
+use Rattle.page_model.specs.declared.glyph.Glyph.TheVariants.{Printed}
 use Rattle.roff_num.specs.Widths.{byte_width}
-use Rattle.roff_layout.specs.Glyphs.{text_width}
-use Rattle.roff_layout.specs.declared.event.Event.TheVariants.{Print}
-use Rattle.roff_layout.specs.Events.{History}
-use Rattle.roff_layout.specs.Places.{moved}
-use Rattle.roff_layout.specs.Lines.{pending_length}
-use Rattle.roff_layout.specs.Telling.{bytes_told}
+use Rattle.page_model.specs.Glyphs.{text_width}
+use Rattle.page_model.specs.declared.event.Event.TheVariants.{Print}
+use Rattle.page_model.specs.Events.{History}
+use Rattle.page_model.specs.Places.{moved}
+use Rattle.page_model.specs.Lines.{pending_length}
+use Rattle.page_model.specs.Telling.{bytes_told}
 use Rattle.roff_lines.specs.Env.Kept.{Kept, begun_blanks, glyph_room, with_glyph, with_glyphs}
 use Rattle.roff_lines.specs.Env.Stands.{StandsPlain}
 use Rattle.roff_lines.specs.Env.Tells.{TellsPlain}

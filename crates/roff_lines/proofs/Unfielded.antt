@@ -1,20 +1,20 @@
 -- Histories behind which no field is open: what happens then is told as it is.
 use Rattle.std.proofs.Common.{◌≡◌, ℕ, Bool, true, false, not, ◌&&◌, List, [], ◌∷◌, ◌++◌, map, reverse, Option, Some, None, refl, sym, ap, ◌∙◌}
 use Rattle.std.specs.Prelude.{if◌then◌else◌, ◌==◌, is_some}
-use Rattle.roff_layout.specs.declared.glyph.Glyph.{Glyph}
-use Rattle.roff_layout.specs.declared.glyph.Glyph.TheVariants.{Printed}
-use Rattle.roff_layout.specs.declared.event.Event.{Event}
-use Rattle.roff_layout.specs.declared.event.Event.TheVariants.{Print, Tab, FieldEnd, WordEnd, Gap, LineEnd, Count, Break, Interrupt, Resume, Set}
-use Rattle.roff_layout.specs.Events.{History, stops_after}
-use Rattle.roff_layout.specs.declared.stop.StopKind.TheVariants.{Left as AtLeft}
-use Rattle.roff_layout.specs.TabStops.{Way, way_to_next}
-use Rattle.roff_layout.specs.Places.{input_place}
-use Rattle.roff_layout.specs.Fitting.{Word}
-use Rattle.roff_layout.specs.Lines.{finished}
-use Rattle.roff_layout.specs.Words.{has_open_word}
-use Rattle.roff_layout.specs.Telling.{glyphs_told, words_told, bytes_told, text_line}
-use Rattle.roff_layout.specs.Fields.{Field, Told, is_in_field, plain, so_far, tab_told, told, told_behind, unfielded}
-use Rattle.roff_layout.specs.Behind as behind
+use Rattle.page_model.specs.declared.glyph.Glyph.{Glyph}
+use Rattle.page_model.specs.declared.glyph.Glyph.TheVariants.{Printed}
+use Rattle.page_model.specs.declared.event.Event.{Event}
+use Rattle.page_model.specs.declared.event.Event.TheVariants.{Print, Tab, FieldEnd, WordEnd, Gap, LineEnd, Count, Break, Interrupt, Resume, Set}
+use Rattle.page_model.specs.Events.{History, stops_after}
+use Rattle.page_model.specs.declared.stop.StopKind.TheVariants.{Left as AtLeft}
+use Rattle.page_model.specs.TabStops.{Way, way_to_next}
+use Rattle.page_model.specs.Places.{input_place}
+use Rattle.page_model.specs.Fitting.{Word}
+use Rattle.page_model.specs.Lines.{finished}
+use Rattle.page_model.specs.Words.{has_open_word}
+use Rattle.page_model.specs.Telling.{glyphs_told, words_told, bytes_told, text_line}
+use Rattle.page_model.specs.Fields.{Field, Told, is_in_field, plain, so_far, tab_told, told, told_behind, unfielded}
+use Rattle.page_model.specs.Behind as behind
 use Rattle.roff_lines.proofs.Fields.{has_open_word-field}
 use Rattle.roff_lines.proofs.Told.{finished_told, finished_told-is}
 

@@ -4,13 +4,13 @@ use Rattle.std.specs.Prelude.{nat_le, if◌then◌else◌}
 use Rattle.std.proofs.lemmas.Bool.Decides.{nat_tests}
 use Rattle.std.proofs.lemmas.List.Sums.{sum_by-append, sum_by-cons}
 use Rattle.std.proofs.lemmas.List.{length-append, length-take, take_more}
-use Rattle.roff_layout.specs.declared.event.Event.TheVariants.{LineEnd}
-use Rattle.roff_layout.specs.Glyphs.{text_width}
+use Rattle.page_model.specs.declared.event.Event.TheVariants.{LineEnd}
+use Rattle.page_model.specs.Glyphs.{text_width}
 use Rattle.roff_num.specs.Widths.{byte_width}
-use Rattle.roff_layout.specs.LastLine.{line_width}
-use Rattle.roff_layout.specs.Lines.{laid_out}
-use Rattle.roff_layout.specs.Words.{indent_by}
-use Rattle.roff_layout.specs.Places.{moved}
+use Rattle.page_model.specs.LastLine.{line_width}
+use Rattle.page_model.specs.Lines.{laid_out}
+use Rattle.page_model.specs.Words.{indent_by}
+use Rattle.page_model.specs.Places.{moved}
 use Rattle.roff_lines.specs.Env.Kept.{Kept, begun_blanks, finished_by_line_end, finished_by_word, with_field_left, with_glyphs, with_input_line_ended, with_word_ended, word_finishes, word_fits}
 use Rattle.roff_lines.specs.Env.Stands.{Finishes, StandsBehind}
 use Rattle.roff_lines.specs.Env.Tells.{GoesOn, IsRun, Nothing, Begins, Further, TellsPlain}

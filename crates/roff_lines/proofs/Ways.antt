@@ -2,7 +2,7 @@
 use Rattle.std.proofs.Common.{◌≡◌, ℕ, Bool, true, false, Option, Some, None, refl, sym, ◌∙◌, arith}
 use Rattle.std.specs.Prelude.{nat_le, if◌then◌else◌}
 use Rattle.std.proofs.lemmas.Bool.Decides.{nat_tests}
-use Rattle.roff_layout.specs.TabStops.{Way, shorter_way}
+use Rattle.page_model.specs.TabStops.{Way, shorter_way}
 
 -- of three ways the first is taken where it is as short as both others, whichever two are looked at first
 assoc_by_tests : (first second outer : Bool) (m n o : Option Way)

@@ -6,13 +6,13 @@ use Rattle.std.proofs.Math.Seq.{take-append_seam}
 use Rattle.std.proofs.lemmas.Bool.Decides.{nat_tests}
 use Rattle.std.proofs.lemmas.List.{length-append, length-take, take-append-drop, take_more}
 use Rattle.std.proofs.lemmas.List.Sums.{sum_by-cons, sum_by-append}
-use Rattle.roff_layout.specs.declared.glyph.Glyph.TheVariants.{Printed}
+use Rattle.page_model.specs.declared.glyph.Glyph.TheVariants.{Printed}
 use Rattle.roff_num.specs.Widths.{byte_width}
-use Rattle.roff_layout.specs.Glyphs.{gap_blank, text_width, gaps_in}
-use Rattle.roff_layout.specs.declared.event.Event.TheVariants.{Gap}
-use Rattle.roff_layout.specs.Places.{has_line_glyph, moved}
-use Rattle.roff_layout.specs.Fitting.{gap_text, may_be_wide}
-use Rattle.roff_layout.specs.Words.{has_open_word, is_closer, is_sentence_mark, ends_sentence_behind}
+use Rattle.page_model.specs.Glyphs.{gap_blank, text_width, gaps_in}
+use Rattle.page_model.specs.declared.event.Event.TheVariants.{Gap}
+use Rattle.page_model.specs.Places.{has_line_glyph, moved}
+use Rattle.page_model.specs.Fitting.{gap_text, may_be_wide}
+use Rattle.page_model.specs.Words.{has_open_word, is_closer, is_sentence_mark, ends_sentence_behind}
 use Rattle.roff_lines.specs.Env.Kept.{Kept, begun_blanks, glyph_room, with_glyphs, with_words, with_word_ended, word_fits, word_finishes}
 use Rattle.roff_lines.specs.Env.Stands.{StandsPlainBehind}
 use Rattle.roff_lines.specs.Env.Tells.{HasRoom, IsOneCharacter, NoWord, OneMore, TellsPlain, TellsFront, WholeWords}

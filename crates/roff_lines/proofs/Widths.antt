@@ -6,8 +6,8 @@ use Rattle.std.proofs.lemmas.Bool.{cond_both, eqb-true, eqb-false}
 use Rattle.std.proofs.lemmas.List.Folds.{sum_by-replicate}
 use Rattle.std.proofs.lemmas.List.Sums.{sum_by-cons}
 use Rattle.roff_num.specs.Widths.{byte_width}
-use Rattle.roff_layout.specs.Glyphs.{gap_blank, further_blank, text_width, gaps_in}
-use Rattle.roff_layout.specs.Fitting.{gap_text}
+use Rattle.page_model.specs.Glyphs.{gap_blank, further_blank, text_width, gaps_in}
+use Rattle.page_model.specs.Fitting.{gap_text}
 use Rattle.roff_lines.proofs.GlyphsInFront.{eqb-above}
 
 -- a byte is at most one column wide

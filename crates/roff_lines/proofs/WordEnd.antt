@@ -1,12 +1,12 @@
 -- A word end, where an environment stands for its history.
 use Rattle.std.proofs.Common.{◌≡◌, ℕ, true, false, not, List, [], ◌∷◌, ◌++◌, None, refl, sym, ap, ◌∙◌, arith, inl, inr}
 use Rattle.std.proofs.lemmas.Bool.{cond_both, cases_Bool, not-true, not-false}
-use Rattle.roff_layout.specs.declared.event.Event.TheVariants.{WordEnd}
-use Rattle.roff_layout.specs.Events.{History}
-use Rattle.roff_layout.specs.Words.{has_open_word, open_word, temporary_indent, indent_by}
-use Rattle.roff_layout.specs.Fitting.{gap_text, begins_line}
-use Rattle.roff_layout.specs.Lines.{laid_out, finished, pending_line}
-use Rattle.roff_layout.specs.LastLine.{last_text, last_width}
+use Rattle.page_model.specs.declared.event.Event.TheVariants.{WordEnd}
+use Rattle.page_model.specs.Events.{History}
+use Rattle.page_model.specs.Words.{has_open_word, open_word, temporary_indent, indent_by}
+use Rattle.page_model.specs.Fitting.{gap_text, begins_line}
+use Rattle.page_model.specs.Lines.{laid_out, finished, pending_line}
+use Rattle.page_model.specs.LastLine.{last_text, last_width}
 use Rattle.roff_lines.specs.Env.Kept.{Kept, without_word, word_as_line, word_fits, pending_width, with_word_ended, finished_by_word}
 use Rattle.roff_lines.specs.Env.Stands.{StandsPlain}
 use Rattle.roff_lines.proofs.PendingLine.{placed-full, begins_line-full, line_text-full, line_indent-full, word_text-closed, pending_length-word_end}

@@ -4,7 +4,7 @@ use Rattle.std.specs.Prelude.{◌⊎◌, ◌==◌}
 use Rattle.std.proofs.lemmas.Bool.Decides.{nat_tests}
 use Rattle.std.proofs.lemmas.List.{take_more}
 use Rattle.std.proofs.lemmas.List.Sums.{sum_by-append}
-use Rattle.roff_layout.specs.Glyphs.{gap_blank, gaps_in}
+use Rattle.page_model.specs.Glyphs.{gap_blank, gaps_in}
 use Rattle.roff_lines.specs.Env.Tells.{GoesOn, IsRun, Nothing, Begins, Further, NoWord, WholeWords}
 use Rattle.roff_lines.proofs.Widths.{gaps_in-cons}
 use Rattle.roff_lines.proofs.WholeWords.{Counts, Counts-blank, Counts-character}

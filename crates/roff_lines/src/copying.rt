@@ -4,7 +4,7 @@ ghost use Rattle.std.specs.Prelude.{◌≡◌, ◌+◌, ◌<◌, ◌≤◌, ◌+
 ghost use Rattle.std.specs.Simd.Lanes.{chunk, put_chunk};
 ghost use Rattle.roff_lines.specs.Clauses.{gap_text};
 
-use roff_layout::{FURTHER_BLANK, GAP};
+use page_model::{FURTHER_BLANK, GAP};
 use roff_num::lanes::STEP;
 use std::simd::prelude::*;
 

@@ -13,7 +13,7 @@ mod words;
 
 use crate::stops::StopTable;
 use crate::stretch::Stretch;
-use roff_layout::{Param, Settings};
+use page_model::{Param, Settings};
 use std::alloc::{AllocError, Global};
 use std::marker::Model;
 
@@ -124,7 +124,7 @@ impl Env {
         self.last_width
     }
 
-    /// The text of the line that was finished last, as its [`Line`](roff_layout::Line) has it: none
+    /// The text of the line that was finished last, as its [`Line`](page_model::Line) has it: none
     /// at first, and none of an empty line.
     pub fn finished_text(&self) -> &[u8]
         ensures kept { result.now ≡ self.now.finished }

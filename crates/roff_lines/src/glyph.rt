@@ -4,7 +4,7 @@ ghost use Rattle.std.specs.Prelude.{◌≡◌, ◌<◌, if◌then◌else◌, tru
 ghost use Rattle.roff_lines.specs.Clauses.{text_byte, is_closer};
 ghost use Rattle.roff_lines.specs.Clauses.{is_sentence_mark, ends_sentence_behind};
 
-use roff_layout::{Glyph, UNPADDABLE};
+use page_model::{Glyph, UNPADDABLE};
 
 /// What stands for a printed byte in a line's text.
 pub(crate) fn kept_byte(byte: u8) -> u8

@@ -4,7 +4,7 @@ ghost use Rattle.std.specs.Prelude.{◌≡◌, ◌+◌, ◌-◌, ◌<◌, ◌≤
 ghost use Rattle.std.specs.Prelude.{nat_lt, ◌==◌, slice_index_or};
 ghost use Rattle.std.specs.List.{prefix_len};
 ghost use Rattle.std.specs.Simd.Lanes.{chunk, mask_l};
-ghost use Rattle.roff_layout.specs.Glyphs.{gap_blank, gaps_in, text_width};
+ghost use Rattle.page_model.specs.Glyphs.{gap_blank, gaps_in, text_width};
 ghost use Rattle.roff_lines.specs.Env.Tells.{GoesOn, IsRun};
 
 use roff_num::lanes::{STEP, first_set};

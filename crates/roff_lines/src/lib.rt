@@ -2,7 +2,7 @@
 //!
 //! An environment is told glyphs, gaps, word ends, line ends, breaks and changes of its parameters.
 //! It fills and adjusts lines as the manual's section 4 says, and hands out each line once it is
-//! finished. What a finished line writes is in `roff_sinks`.
+//! finished. What a finished line writes is in `page_bytes`.
 #![tactic(auto)]
 
 mod copying;

@@ -4,7 +4,7 @@ ghost use Rattle.std.specs.Prelude.{◌≡◌, ◌-◌, ◌<◌, ◌^◌, []};
 ghost use Rattle.roff_lines.specs.Clauses.{finished_of, empty_line, laid_out, line_width, shaped};
 
 use crate::stretch::Stretch;
-use roff_layout::{AdjustMode, Line, Settings};
+use page_model::{AdjustMode, Line, Settings};
 
 /// A finished line without its text.
 #[derive(Clone, Copy)]

@@ -3,10 +3,10 @@
 ghost use Rattle.std.specs.Prelude.{◌≡◌, None, IfOk, nat_lt, ◌==◌, ◌&&◌, ◌||◌};
 ghost use Rattle.roff_lines.specs.Clauses.{TabStops, stops_with, way_beyond, way_to_next};
 ghost use Rattle.roff_lines.specs.Clauses.{way_to_nearest, shorter_way};
-ghost use Rattle.roff_layout.specs.TabStops.{with_stop_set};
+ghost use Rattle.page_model.specs.TabStops.{with_stop_set};
 ghost use Rattle.roff_lines.specs.StopTable.Ways.{way_of, way_told};
 
-use roff_layout::{Param, StopKind, TabStop};
+use page_model::{Param, StopKind, TabStop};
 use std::alloc::{AllocError, Global};
 use std::marker::Model;
 
@@ -35,7 +35,7 @@ pub(crate) struct StopTable {
 
 impl Model for StopTable {
     ghost use Rattle.roff_lines.specs.StopTable.Kept.{stops_kept, IsRoomy};
-    ghost use Rattle.roff_layout.specs.TabStops.{TabStops};
+    ghost use Rattle.page_model.specs.TabStops.{TabStops};
 
     ghost Value = { TabStops };
 

@@ -6,7 +6,7 @@ ghost use Rattle.roff_lines.specs.Buffers.{Keeps};
 ghost use Rattle.roff_lines.specs.Clauses.{text_width, gaps_in, gap_text};
 
 use crate::copying::{copy_front, put_gap, put_times};
-use roff_layout::GAP;
+use page_model::GAP;
 use roff_num::lanes::STEP;
 use roff_num::width_of_byte;
 use std::alloc::{AllocError, Global};

@@ -4,23 +4,23 @@ use Rattle.std.specs.Prelude.{if◌then◌else◌, ◌==◌, ◌^◌, nat_lt}
 use Rattle.std.proofs.lemmas.Bool.{cases_lt, eq-eqb, ne_eqb}
 use Rattle.roff_num.specs.declared.num.Num.{Num}
 use Rattle.roff_num.specs.declared.short_name.ShortName.{ShortName}
-use Rattle.roff_layout.specs.Words.{is_empty}
-use Rattle.roff_sinks.specs.declared.page_fault.PageFault.{PageFault}
-use Rattle.roff_sinks.specs.Sinks.{Sunk}
-use Rattle.roff_layout.specs.Layout.{Box, Empty, Layout, Diversion, page_place}
-use Rattle.roff_layout.specs.declared.layout_event.LayoutEvent.TheVariants.{Eject, EjectTo, EjectLast, EjectOn, Need, Space}
-use Rattle.roff_layout.specs.Happenings.{Happening, Does, ejecting, is_eject}
-use Rattle.roff_layout.specs.Stops.{Target, innermost, is_diverted, next_stop, page_target, target}
-use Rattle.roff_layout.specs.Puts.{appended, blank_lines, boxes_put, ejected_if, needed, puts}
-use Rattle.roff_layout.specs.Turning.{behind_put, next_behind, no_space_behind, with_event}
-use Rattle.roff_layout.specs.DeviceText.{device_lines, device_text}
+use Rattle.page_model.specs.Words.{is_empty}
+use Rattle.page_bytes.specs.declared.page_fault.PageFault.{PageFault}
+use Rattle.page_bytes.specs.Sinks.{Sunk}
+use Rattle.page_model.specs.Layout.{Box, Empty, Layout, Diversion, page_place}
+use Rattle.page_model.specs.declared.layout_event.LayoutEvent.TheVariants.{Eject, EjectTo, EjectLast, EjectOn, Need, Space}
+use Rattle.page_model.specs.Happenings.{Happening, Does, ejecting, is_eject}
+use Rattle.page_model.specs.Stops.{Target, innermost, is_diverted, next_stop, page_target, target}
+use Rattle.page_model.specs.Puts.{appended, blank_lines, boxes_put, ejected_if, needed, puts}
+use Rattle.page_model.specs.Turning.{behind_put, next_behind, no_space_behind, with_event}
+use Rattle.page_model.specs.DeviceText.{device_lines, device_text}
 use Rattle.roff_pages.specs.Pages.Kept.{Kept}
 use Rattle.roff_pages.specs.Pages.Stands.{StandsAs, kept_diversion}
 use Rattle.roff_pages.specs.Pages.Advancing.{way_on}
 use Rattle.roff_pages.specs.Pages.Printing.{BoxedTo, DidTo, Printed}
-use Rattle.roff_sinks.proofs.Appending.{Writes-nothing}
+use Rattle.page_bytes.proofs.Appending.{Writes-nothing}
 use Rattle.roff_pages.proofs.NextStop.{next_stop_le}
-use Rattle.roff_layout.proofs.DeviceText.{either_none}
+use Rattle.page_model.proofs.DeviceText.{either_none}
 use Rattle.roff_pages.proofs.PageBoxes.{PutsBoxes, PutsNothing, did_boxes, over_standing, sprung_with}
 
 -- a happening puts so many blank lines on the page: behind it the next page gets this number, and no-space mode is so

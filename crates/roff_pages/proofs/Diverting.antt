@@ -5,22 +5,22 @@ use Rattle.std.proofs.lemmas.Bool.{eq-eqb, ne_eqb}
 use Rattle.std.proofs.lemmas.List.{length-append, take_all}
 use Rattle.roff_num.specs.declared.num.Num.{Num}
 use Rattle.roff_num.specs.declared.short_name.ShortName.{ShortName}
-use Rattle.roff_layout.specs.Glyphs.{gaps_in, text_width}
-use Rattle.roff_layout.specs.Lines.{Finished}
-use Rattle.roff_layout.specs.Columns.{added_columns, printed, spaces, spread}
+use Rattle.page_model.specs.Glyphs.{gaps_in, text_width}
+use Rattle.page_model.specs.Lines.{Finished}
+use Rattle.page_model.specs.Columns.{added_columns, printed, spaces, spread}
 use Rattle.roff_lines.proofs.Columns.{stands_in_columns}
-use Rattle.roff_layout.specs.Words.{is_empty}
+use Rattle.page_model.specs.Words.{is_empty}
 use Rattle.roff_pages.specs.declared.open_diversion.OpenDiversion.{OpenDiversion}
-use Rattle.roff_layout.specs.declared.trap.Trap.{Trap}
-use Rattle.roff_layout.specs.Layout.{Box, Empty, Diversion, Layout}
-use Rattle.roff_layout.specs.declared.layout_event.LayoutEvent.TheVariants.{Space, Need}
-use Rattle.roff_layout.specs.Happenings.{Happening, Does, Places, Titles, is_eject}
-use Rattle.roff_layout.specs.Titles.{Title, title_text}
-use Rattle.roff_layout.specs.Stops.{Target, innermost, is_diverted, page_target, target}
-use Rattle.roff_layout.specs.Puts.{Put, appended, blank_lines, boxes_put, needed, puts, within_stop}
-use Rattle.roff_layout.specs.Turning.{behind_put, greatest_width, in_diversion, in_innermost, next_behind, no_space_behind, turned_unless, with_boxes, with_event, with_put}
-use Rattle.roff_layout.specs.Springs.{diversion_trap_passed, first_met, is_on_top, is_passed, passed_in, springs}
-use Rattle.roff_layout.specs.Queries.{place_now, text_target}
+use Rattle.page_model.specs.declared.trap.Trap.{Trap}
+use Rattle.page_model.specs.Layout.{Box, Empty, Diversion, Layout}
+use Rattle.page_model.specs.declared.layout_event.LayoutEvent.TheVariants.{Space, Need}
+use Rattle.page_model.specs.Happenings.{Happening, Does, Places, Titles, is_eject}
+use Rattle.page_model.specs.Titles.{Title, title_text}
+use Rattle.page_model.specs.Stops.{Target, innermost, is_diverted, page_target, target}
+use Rattle.page_model.specs.Puts.{Put, appended, blank_lines, boxes_put, needed, puts, within_stop}
+use Rattle.page_model.specs.Turning.{behind_put, greatest_width, in_diversion, in_innermost, next_behind, no_space_behind, turned_unless, with_boxes, with_event, with_put}
+use Rattle.page_model.specs.Springs.{diversion_trap_passed, first_met, is_on_top, is_passed, passed_in, springs}
+use Rattle.page_model.specs.Queries.{place_now, text_target}
 use Rattle.roff_pages.specs.Pages.Kept.{Kept}
 use Rattle.roff_pages.specs.Pages.Counted.{counted}
 use Rattle.roff_pages.specs.Pages.Stands.{StandsAs, kept_diversion}

@@ -4,8 +4,8 @@ use Rattle.std.specs.Prelude.{◌||◌, not}
 use Rattle.std.specs.List.{list_any, remove}
 use Rattle.std.proofs.lemmas.Bool.{cases_Bool, false≢true}
 use Rattle.std.proofs.lemmas.List.Folds.{list_any-append}
-use Rattle.roff_layout.specs.declared.trap.Trap.{Trap}
-use Rattle.roff_layout.specs.Turning.{is_given, with_first, with_trap, without_first}
+use Rattle.page_model.specs.declared.trap.Trap.{Trap}
+use Rattle.page_model.specs.Turning.{is_given, with_first, with_trap, without_first}
 use Rattle.roff_pages.specs.Pages.FirstTraps.{NoneBefore, first_index}
 
 -- it is found where one passes

@@ -4,9 +4,9 @@ use Rattle.std.specs.Prelude.{if◌then◌else◌, nat_lt, nat_le, ◌&&◌}
 use Rattle.std.specs.List.{AllByRecursion}
 use Rattle.std.proofs.lemmas.Bool.{cases_Bool, cases_lt, ltb-true, leb-true, eqb-true, eqb-false, eq-eqb, lt-ltb, le-leb, and_from, and_parts, false≢true}
 use Rattle.roff_num.specs.declared.short_name.ShortName.{ShortName}
-use Rattle.roff_layout.specs.declared.trap.Trap.{Trap}
-use Rattle.roff_layout.specs.Stops.{place_of, nearer_stop, next_stop}
-use Rattle.roff_layout.specs.Springs.{first_met, is_passed}
+use Rattle.page_model.specs.declared.trap.Trap.{Trap}
+use Rattle.page_model.specs.Stops.{place_of, nearer_stop, next_stop}
+use Rattle.page_model.specs.Springs.{first_met, is_passed}
 use Rattle.roff_pages.specs.Reach.{IsMetAtEnd}
 use Rattle.roff_pages.specs.declared.stops.Beyond.{Beyond}
 use Rattle.roff_pages.specs.declared.stops.Stops.{Stops}

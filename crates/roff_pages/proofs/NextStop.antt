@@ -5,12 +5,12 @@ use Rattle.std.specs.List.{AllByRecursion}
 use Rattle.std.proofs.lemmas.Bool.{cases_Bool, ltb-true, ltb-false, lt-ltb, leb-false, lt-leb, and_from, and_left, and_right, false≢true, cases_lt}
 use Rattle.std.proofs.lemmas.List.{length-replicate, length-append}
 use Rattle.roff_num.specs.declared.short_name.ShortName.{ShortName}
-use Rattle.roff_layout.specs.Words.{is_empty}
-use Rattle.roff_layout.specs.declared.trap.Trap.{Trap}
-use Rattle.roff_layout.specs.Layout.{Box, Lined, Empty, Layout, Diversion, page_place}
-use Rattle.roff_layout.specs.Stops.{Target, place_of, nearer_stop, next_stop, page_target, innermost}
-use Rattle.roff_layout.specs.Puts.{Put, boxes_behind, boxes_put}
-use Rattle.roff_layout.specs.Springs.{is_passed, first_met}
+use Rattle.page_model.specs.Words.{is_empty}
+use Rattle.page_model.specs.declared.trap.Trap.{Trap}
+use Rattle.page_model.specs.Layout.{Box, Lined, Empty, Layout, Diversion, page_place}
+use Rattle.page_model.specs.Stops.{Target, place_of, nearer_stop, next_stop, page_target, innermost}
+use Rattle.page_model.specs.Puts.{Put, boxes_behind, boxes_put}
+use Rattle.page_model.specs.Springs.{is_passed, first_met}
 use Rattle.roff_pages.specs.Reach.{IsMetAtEnd}
 
 -- a place, if there is one, lies before a page's end

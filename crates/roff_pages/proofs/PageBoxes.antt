@@ -4,23 +4,23 @@ use Rattle.std.specs.Prelude.{if◌then◌else◌, ◌==◌, nat_le, nat_lt}
 use Rattle.std.proofs.lemmas.Bool.{cases_lt, eq-eqb, le-ltb, lt-leb, and_left, and_right}
 use Rattle.roff_num.specs.declared.num.Num.{Num}
 use Rattle.roff_num.specs.declared.short_name.ShortName.{ShortName}
-use Rattle.roff_layout.specs.Words.{is_empty}
-use Rattle.roff_layout.specs.declared.trap.Trap.{Trap}
-use Rattle.roff_sinks.specs.declared.page_fault.PageFault.{PageFault}
-use Rattle.roff_sinks.specs.Sinks.{Sunk}
-use Rattle.roff_layout.specs.Layout.{Box, Empty, Layout, Diversion, page_place}
-use Rattle.roff_layout.specs.Happenings.{Happening, is_eject}
-use Rattle.roff_layout.specs.Stops.{Target, is_diverted, page_target, place_of, target}
-use Rattle.roff_layout.specs.Puts.{Put, appended, boxes_put, puts}
-use Rattle.roff_layout.specs.Turning.{behind_put, in_innermost, next_behind, no_space_behind, turned_if_full, turned_unless, unput, with_boxes, with_event, with_put}
-use Rattle.roff_layout.specs.Springs.{first_met, is_on_top, is_passed, passed, passed_in, springs}
-use Rattle.roff_layout.specs.DeviceText.{box_line, device_lines, device_text}
-use Rattle.roff_layout.proofs.DeviceText.{either_none}
+use Rattle.page_model.specs.Words.{is_empty}
+use Rattle.page_model.specs.declared.trap.Trap.{Trap}
+use Rattle.page_bytes.specs.declared.page_fault.PageFault.{PageFault}
+use Rattle.page_bytes.specs.Sinks.{Sunk}
+use Rattle.page_model.specs.Layout.{Box, Empty, Layout, Diversion, page_place}
+use Rattle.page_model.specs.Happenings.{Happening, is_eject}
+use Rattle.page_model.specs.Stops.{Target, is_diverted, page_target, place_of, target}
+use Rattle.page_model.specs.Puts.{Put, appended, boxes_put, puts}
+use Rattle.page_model.specs.Turning.{behind_put, in_innermost, next_behind, no_space_behind, turned_if_full, turned_unless, unput, with_boxes, with_event, with_put}
+use Rattle.page_model.specs.Springs.{first_met, is_on_top, is_passed, passed, passed_in, springs}
+use Rattle.page_model.specs.DeviceText.{box_line, device_lines, device_text}
+use Rattle.page_model.proofs.DeviceText.{either_none}
 use Rattle.roff_pages.specs.Pages.Kept.{Kept}
 use Rattle.roff_pages.specs.Pages.Stands.{StandsAs, SameLimits}
 use Rattle.roff_pages.specs.Pages.Advancing.{sprung_by, with_lines}
 use Rattle.roff_pages.specs.Pages.Printing.{Boxed, BoxedTo, DidTo, IsUnprinted, Printed, if_listed}
-use Rattle.roff_sinks.proofs.Appending.{Writes-nothing}
+use Rattle.page_bytes.proofs.Appending.{Writes-nothing}
 
 -- blank lines are written as newlines
 newline_behind : (n : ℕ) → replicate n 10 ++ 10 ∷ [] ≡ replicate {A = ℕ} (suc n) 10

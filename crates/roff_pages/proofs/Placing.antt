@@ -3,21 +3,21 @@ use Rattle.std.proofs.Common.{◌≡◌, ℕ, zero, suc, ◌+◌, ◌-◌, ◌<�
 use Rattle.std.specs.Prelude.{◌^◌}
 use Rattle.std.proofs.lemmas.List.{length-replicate, length-append}
 use Rattle.roff_num.specs.declared.num.Num.{Num}
-use Rattle.roff_layout.specs.Lines.{Finished}
-use Rattle.roff_layout.specs.Columns.{device_line, printed}
-use Rattle.roff_sinks.specs.declared.page_fault.PageFault.TheVariants.{Sink}
-use Rattle.roff_sinks.specs.Sinks.{Sunk, Writes, Fails}
-use Rattle.roff_layout.specs.Layout.{Box, Lined, Empty, Layout, page_place}
-use Rattle.roff_layout.specs.Happenings.{Places, Titles}
-use Rattle.roff_layout.specs.Stops.{next_stop}
-use Rattle.roff_layout.specs.Titles.{Title, title_text}
-use Rattle.roff_layout.specs.DeviceText.{device_lines}
-use Rattle.roff_layout.specs.Turning.{no_space_behind, turned_if_full}
+use Rattle.page_model.specs.Lines.{Finished}
+use Rattle.page_model.specs.Columns.{device_line, printed}
+use Rattle.page_bytes.specs.declared.page_fault.PageFault.TheVariants.{Sink}
+use Rattle.page_bytes.specs.Sinks.{Sunk, Writes, Fails}
+use Rattle.page_model.specs.Layout.{Box, Lined, Empty, Layout, page_place}
+use Rattle.page_model.specs.Happenings.{Places, Titles}
+use Rattle.page_model.specs.Stops.{next_stop}
+use Rattle.page_model.specs.Titles.{Title, title_text}
+use Rattle.page_model.specs.DeviceText.{device_lines}
+use Rattle.page_model.specs.Turning.{no_space_behind, turned_if_full}
 use Rattle.roff_pages.specs.Pages.Kept.{Kept}
 use Rattle.roff_pages.specs.Pages.Stands.{StandsAs}
 use Rattle.roff_pages.specs.Pages.Advancing.{sprung_by, way_on, with_lines}
 use Rattle.roff_pages.specs.Pages.Printing.{DidTo, Printed, if_listed}
-use Rattle.roff_sinks.proofs.Appending.{Writes-nothing}
+use Rattle.page_bytes.proofs.Appending.{Writes-nothing}
 use Rattle.roff_pages.proofs.NextStop.{next_stop_le}
 use Rattle.roff_pages.proofs.Standing.{goes_on_standing, none_sprung}
 use Rattle.roff_pages.proofs.PageBoxes.{PutsBoxes, boxed, device_lines-behind, did_boxes, set_standing, unboxed}

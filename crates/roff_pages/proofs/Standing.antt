@@ -4,10 +4,10 @@ use Rattle.std.specs.Prelude.{nat_le, ◌^◌, if◌then◌else◌}
 use Rattle.std.proofs.lemmas.Bool.{lt-leb, le-leb, eq-eqb, ne_eqb}
 use Rattle.std.proofs.lemmas.List.{length-append}
 use Rattle.roff_num.specs.declared.short_name.ShortName.{ShortName}
-use Rattle.roff_layout.specs.Layout.{Box, Layout, page_place}
-use Rattle.roff_layout.specs.Turning.{page_begun, turned, turned_if_full}
-use Rattle.roff_layout.specs.Stops.{next_stop}
-use Rattle.roff_layout.specs.Springs.{first_met, is_on_top, is_passed}
+use Rattle.page_model.specs.Layout.{Box, Layout, page_place}
+use Rattle.page_model.specs.Turning.{page_begun, turned, turned_if_full}
+use Rattle.page_model.specs.Stops.{next_stop}
+use Rattle.page_model.specs.Springs.{first_met, is_on_top, is_passed}
 use Rattle.roff_pages.specs.Pages.Kept.{Kept}
 use Rattle.roff_pages.specs.Pages.Stands.{StandsAs}
 use Rattle.roff_pages.specs.Pages.Advancing.{sprung_by, sprung_on, with_lines}

@@ -5,15 +5,15 @@ use Rattle.std.specs.List.{AllByRecursion}
 use Rattle.std.proofs.lemmas.Bool.{leb-true, leb-false, and_parts, eqb-true, false≢true, cases_lt}
 use Rattle.std.proofs.lemmas.List.{length-replicate, length-append}
 use Rattle.roff_num.specs.declared.short_name.ShortName.{ShortName}
-use Rattle.roff_layout.specs.Layout.{Box, Empty, Layout, page_place}
-use Rattle.roff_layout.specs.declared.layout_event.LayoutEvent.{LayoutEvent}
-use Rattle.roff_layout.specs.declared.layout_event.LayoutEvent.TheVariants.{Begin, Eject, EjectTo, EjectOn, EjectLast, Length, Offset}
-use Rattle.roff_layout.specs.Happenings.{Happening, Does, Places, Titles, is_eject}
-use Rattle.roff_layout.specs.Stops.{Target, next_stop, page_target, target, is_diverted}
-use Rattle.roff_layout.specs.Puts.{Put, boxes_put, puts, appended, ejected_if}
-use Rattle.roff_layout.specs.Turning.{page_begun, turned, turned_if_full, turned_unless, with_boxes, next_behind, unput, without_put, behind_put, with_event}
-use Rattle.roff_layout.specs.Springs.{is_passed, is_on_top, first_met, springs, goes_on}
-use Rattle.roff_layout.specs.DeviceText.{box_line, device_lines, device_text}
+use Rattle.page_model.specs.Layout.{Box, Empty, Layout, page_place}
+use Rattle.page_model.specs.declared.layout_event.LayoutEvent.{LayoutEvent}
+use Rattle.page_model.specs.declared.layout_event.LayoutEvent.TheVariants.{Begin, Eject, EjectTo, EjectOn, EjectLast, Length, Offset}
+use Rattle.page_model.specs.Happenings.{Happening, Does, Places, Titles, is_eject}
+use Rattle.page_model.specs.Stops.{Target, next_stop, page_target, target, is_diverted}
+use Rattle.page_model.specs.Puts.{Put, boxes_put, puts, appended, ejected_if}
+use Rattle.page_model.specs.Turning.{page_begun, turned, turned_if_full, turned_unless, with_boxes, next_behind, unput, without_put, behind_put, with_event}
+use Rattle.page_model.specs.Springs.{is_passed, is_on_top, first_met, springs, goes_on}
+use Rattle.page_model.specs.DeviceText.{box_line, device_lines, device_text}
 use Rattle.roff_pages.specs.Reach.{texts}
 use Rattle.roff_pages.specs.WholePages.{page_boxes, ends_page, boxes_of_page, written_on_page, sizes_behind, page_sizes, keeps_length, keeps_page}
 use Rattle.roff_pages.proofs.NextStop.{next_stop-end, next_stop_le, page_put-within, on_the_page, first_met-stop}

@@ -1,10 +1,10 @@
 -- How far a happening's boxes reach, and which traps they meet.
 use Rattle.std.specs.Prelude.{◌≡◌, ℕ, ◌+◌, ◌<◌, ◌≤◌, List, [], ◌∷◌, length, Option, Some, None}
-use Rattle.roff_layout.specs.Lines.{Finished}
-use Rattle.roff_layout.specs.Layout.{Box, Lined, Empty, Layout}
-use Rattle.roff_layout.specs.Happenings.{Happening, Places}
-use Rattle.roff_layout.specs.Stops.{target}
-use Rattle.roff_layout.specs.Puts.{appended}
+use Rattle.page_model.specs.Lines.{Finished}
+use Rattle.page_model.specs.Layout.{Box, Lined, Empty, Layout}
+use Rattle.page_model.specs.Happenings.{Happening, Places}
+use Rattle.page_model.specs.Stops.{target}
+use Rattle.page_model.specs.Puts.{appended}
 
 -- the places before and behind a happening
 abbrev pub place_before : Happening → Layout → ℕ

@@ -1,13 +1,13 @@
 -- What layouts do on lists of happenings, the oldest first: worked rows are computed with these.
 use Rattle.std.specs.Prelude.{ℕ, Bool, ℤ, List, [], ◌∷◌, ◌++◌, Option, Some, None}
 use Rattle.roff_num.specs.declared.short_name.ShortName.{ShortName}
-use Rattle.roff_layout.specs.declared.trap.Trap.{Trap}
-use Rattle.roff_layout.specs.Layout.{Layout, first_layout}
-use Rattle.roff_layout.specs.Happenings.{Happening, Places, Titles}
-use Rattle.roff_layout.specs.Turning.{with_event}
-use Rattle.roff_layout.specs.Springs.{springs, goes_on}
-use Rattle.roff_layout.specs.DeviceText.{device_text}
-use Rattle.roff_layout.specs.DivertedText.{diverted_text}
+use Rattle.page_model.specs.declared.trap.Trap.{Trap}
+use Rattle.page_model.specs.Layout.{Layout, first_layout}
+use Rattle.page_model.specs.Happenings.{Happening, Places, Titles}
+use Rattle.page_model.specs.Turning.{with_event}
+use Rattle.page_model.specs.Springs.{springs, goes_on}
+use Rattle.page_model.specs.DeviceText.{device_text}
+use Rattle.page_model.specs.DivertedText.{diverted_text}
 
 -- the layout behind what happened
 abbrev pub behind : List Happening → Layout → Layout

@@ -1,12 +1,12 @@
 -- Whole pages: the boxes of a page up to its end, and what is written of it.
 use Rattle.std.specs.Prelude.{ℕ, Bool, true, false, ◌&&◌, List, [], ◌∷◌, ◌++◌, length, nat_le, not, is_some, if◌then◌else◌}
-use Rattle.roff_layout.specs.Layout.{Box, Layout}
-use Rattle.roff_layout.specs.declared.layout_event.LayoutEvent.TheVariants.{Begin, Close, Length, Offset, EndDivert}
-use Rattle.roff_layout.specs.Happenings.{Happening, Does}
-use Rattle.roff_layout.specs.Stops.{is_diverted}
-use Rattle.roff_layout.specs.Puts.{puts, appended}
-use Rattle.roff_layout.specs.Turning.{with_event}
-use Rattle.roff_layout.specs.DeviceText.{device_text}
+use Rattle.page_model.specs.Layout.{Box, Layout}
+use Rattle.page_model.specs.declared.layout_event.LayoutEvent.TheVariants.{Begin, Close, Length, Offset, EndDivert}
+use Rattle.page_model.specs.Happenings.{Happening, Does}
+use Rattle.page_model.specs.Stops.{is_diverted}
+use Rattle.page_model.specs.Puts.{puts, appended}
+use Rattle.page_model.specs.Turning.{with_event}
+use Rattle.page_model.specs.DeviceText.{device_text}
 
 -- the page's boxes with those that a happening puts on it, before it ends
 abbrev pub page_boxes : Happening → Layout → List Box

@@ -14,8 +14,8 @@ mod sought;
 mod stops;
 mod traps;
 
-pub use pages::Pages;
-pub use roff_sinks::{
+pub use page_bytes::{
     Block, BlockWrite, ByteSink, PAGE_NUMBER, PageFault, SinkFault, StdWrite, TitleLine,
     TitlePiece, TitlePieces, WriteSink,
 };
+pub use pages::Pages;

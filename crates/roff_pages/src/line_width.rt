@@ -1,12 +1,12 @@
 //! How wide a line is.
 
 ghost use Rattle.std.specs.Prelude.{◌≡◌};
-ghost use Rattle.roff_layout.specs.Columns.{added_columns, finished_of, printed};
-ghost use Rattle.roff_layout.specs.Glyphs.{gaps_in, text_width};
+ghost use Rattle.page_model.specs.Columns.{added_columns, finished_of, printed};
+ghost use Rattle.page_model.specs.Glyphs.{gaps_in, text_width};
 ghost use Rattle.roff_pages.specs.Pages.Counted.{counted};
 
 use crate::pages::MOST_COUNTED;
-use roff_layout::{GAP, Line};
+use page_model::{GAP, Line};
 use roff_num::width_of_byte;
 
 /// How wide a line is as it is printed, in columns. No more than 2^33 are counted.

@@ -1,6 +1,6 @@
 //! A diversion that is open.
 
-use roff_layout::Trap;
+use page_model::Trap;
 use roff_num::ShortName;
 
 /// What is kept of an open diversion. Its text is kept elsewhere.

@@ -1,7 +1,7 @@
 //! Pages: how the lines on a page, its traps and the open diversions are kept.
 
 ghost use Rattle.std.specs.Prelude.{◌≡◌, ◌-◌, [], IfOk, Some, None, not, min, ◌^◌, ◌*◌};
-ghost use Rattle.roff_layout.specs.Layout.{Layout, first_layout, page_place};
+ghost use Rattle.page_model.specs.Layout.{Layout, first_layout, page_place};
 
 mod diverted;
 mod diverted_counts;
@@ -15,9 +15,9 @@ mod turning;
 use crate::open_diversion::OpenDiversion;
 use crate::stops::Stops;
 use arrayvec::ArrayVec;
-use roff_layout::Trap;
+use page_bytes::Block;
+use page_model::Trap;
 use roff_num::{Limits, Num};
-use roff_sinks::Block;
 use std::alloc::{AllocError, Global};
 use std::marker::Model;
 

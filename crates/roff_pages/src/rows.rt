@@ -2,18 +2,18 @@
 
 ghost use Rattle.std.specs.Prelude.{◌≡◌, ◌+◌, [], ◌∷◌, codes, true, false, Some, None, pos};
 ghost use Rattle.std.specs.Prelude.{negsuc, List, length};
-ghost use Rattle.roff_layout.specs.Layout.{first_layout};
-ghost use Rattle.roff_layout.specs.declared.layout_event.LayoutEvent.TheVariants.{Begin, Close};
-ghost use Rattle.roff_layout.specs.declared.layout_event.LayoutEvent.TheVariants.{Space, Need};
-ghost use Rattle.roff_layout.specs.declared.layout_event.LayoutEvent.TheVariants.{Eject};
-ghost use Rattle.roff_layout.specs.Happenings.{Happening, Does};
-ghost use Rattle.roff_layout.specs.declared.layout_event.LayoutEvent.TheVariants.{EjectOn};
-ghost use Rattle.roff_layout.specs.declared.layout_event.LayoutEvent.TheVariants.{EjectLast};
-ghost use Rattle.roff_layout.specs.declared.layout_event.LayoutEvent.TheVariants.{Length, Offset};
-ghost use Rattle.roff_layout.specs.declared.layout_event.LayoutEvent.TheVariants.{Plant, NoSpace};
-ghost use Rattle.roff_layout.specs.declared.layout_event.LayoutEvent.TheVariants.{Divert};
-ghost use Rattle.roff_layout.specs.declared.layout_event.LayoutEvent.TheVariants.{EndDivert};
-ghost use Rattle.roff_layout.specs.declared.layout_event.LayoutEvent.TheVariants.{DiversionTrap};
+ghost use Rattle.page_model.specs.Layout.{first_layout};
+ghost use Rattle.page_model.specs.declared.layout_event.LayoutEvent.TheVariants.{Begin, Close};
+ghost use Rattle.page_model.specs.declared.layout_event.LayoutEvent.TheVariants.{Space, Need};
+ghost use Rattle.page_model.specs.declared.layout_event.LayoutEvent.TheVariants.{Eject};
+ghost use Rattle.page_model.specs.Happenings.{Happening, Does};
+ghost use Rattle.page_model.specs.declared.layout_event.LayoutEvent.TheVariants.{EjectOn};
+ghost use Rattle.page_model.specs.declared.layout_event.LayoutEvent.TheVariants.{EjectLast};
+ghost use Rattle.page_model.specs.declared.layout_event.LayoutEvent.TheVariants.{Length, Offset};
+ghost use Rattle.page_model.specs.declared.layout_event.LayoutEvent.TheVariants.{Plant, NoSpace};
+ghost use Rattle.page_model.specs.declared.layout_event.LayoutEvent.TheVariants.{Divert};
+ghost use Rattle.page_model.specs.declared.layout_event.LayoutEvent.TheVariants.{EndDivert};
+ghost use Rattle.page_model.specs.declared.layout_event.LayoutEvent.TheVariants.{DiversionTrap};
 ghost use Rattle.roff_pages.specs.Rows.{behind, begun, written, diverted, sprung, going_on, line};
 ghost use Rattle.roff_pages.specs.Rows.{spaced_line, title, footer, header, footer_at, header_at};
 

@@ -2,14 +2,14 @@
 
 ghost use Rattle.std.specs.Prelude.{◌≡◌, ℕ, ◌≤◌, ◌++◌, ◌∷◌, [], List, length, vec_capacity};
 ghost use Rattle.std.specs.Prelude.{IfSome, Some, ◌<◌};
-ghost use Rattle.roff_layout.specs.declared.trap.Trap.{Trap};
-ghost use Rattle.roff_layout.specs.Stops.{next_stop};
+ghost use Rattle.page_model.specs.declared.trap.Trap.{Trap};
+ghost use Rattle.page_model.specs.Stops.{next_stop};
 ghost use Rattle.roff_pages.specs.Pages.KnownStops.{AreKnown, BeginsWith, IsNext, AreNext};
 ghost use Rattle.roff_pages.specs.Pages.KnownStops.{kept_stop};
 
 use crate::sought::Sought;
 use crate::traps::{first_on_top, index_of, nearer_stop, next_stop, place_of};
-use roff_layout::Trap;
+use page_model::Trap;
 use roff_num::ShortName;
 
 /// The next stop beyond a place: a trap, or the page's end.

@@ -5,17 +5,17 @@ ghost use Rattle.std.specs.Prelude.{true, ◌++◌, ◌∷◌, []};
 ghost use Rattle.roff_num.specs.declared.limit.Limit.TheVariants.{Traps};
 ghost use Rattle.std.specs.Prelude.{ℕ, ◌+◌, Some, not};
 ghost use Rattle.std.specs.List.{list_any};
-ghost use Rattle.roff_layout.specs.Stops.{place_of, next_stop, nearer_stop, stop_at, trap_stop};
-ghost use Rattle.roff_layout.specs.Queries.{way_from};
+ghost use Rattle.page_model.specs.Stops.{place_of, next_stop, nearer_stop, stop_at, trap_stop};
+ghost use Rattle.page_model.specs.Queries.{way_from};
 ghost use Rattle.roff_pages.specs.Pages.Counted.{counted};
-ghost use Rattle.roff_layout.specs.Turning.{is_given, is_named, same_name};
-ghost use Rattle.roff_layout.specs.Turning.{moved_to, with_first, with_trap, without_first};
-ghost use Rattle.roff_layout.specs.Springs.{diversion_trap_passed, first_met, is_on_top, is_passed};
+ghost use Rattle.page_model.specs.Turning.{is_given, is_named, same_name};
+ghost use Rattle.page_model.specs.Turning.{moved_to, with_first, with_trap, without_first};
+ghost use Rattle.page_model.specs.Springs.{diversion_trap_passed, first_met, is_on_top, is_passed};
 ghost use Rattle.roff_pages.specs.Pages.FirstTraps.{NoneBefore, first_index, is_at, is_sought};
 ghost use Rattle.roff_pages.specs.Pages.KnownStops.{name_at};
 
 use crate::sought::Sought;
-use roff_layout::Trap;
+use page_model::Trap;
 use roff_num::{Limit, ShortName};
 
 /// So many traps are passed at once where none of them was given a place.

@@ -4,11 +4,11 @@ use Rattle.std.specs.Prelude.{Result}
 use Rattle.std.specs.List.{AllByRecursion}
 use Rattle.std.proofs.lemmas.List.{length-take-le, take-take}
 use Rattle.roff_num.specs.declared.limit.Limit.{Limit}
-use Rattle.roff_source.specs.Bytes.{is_text_byte}
-use Rattle.roff_source.specs.Tape.{Tape}
-use Rattle.roff_input.specs.Input.{Input}
-use Rattle.roff_input.specs.Input.Names.{adding}
-use Rattle.roff_input.specs.Unread.{Unread, asks_to_take, changing}
+use Rattle.input_source.specs.Bytes.{is_text_byte}
+use Rattle.input_source.specs.Tape.{Tape}
+use Rattle.input_model.specs.Input.{Input}
+use Rattle.input_model.specs.Input.Names.{adding}
+use Rattle.input_model.specs.Unread.{Unread, asks_to_take, changing}
 use Rattle.roff_scan.specs.Unread.Calls.{IsFront, NoNewline, PassesFront, front_bytes, next_bytes}
 use Rattle.roff_scan.specs.Unread.Runs.{TakesRun}
 use Rattle.roff_scan.specs.declared.run_kind.RunKind.TheVariants.{Definition}

@@ -6,12 +6,12 @@ use Rattle.std.proofs.lemmas.List.Folds.{length-prefix_len}
 use Rattle.std.proofs.lemmas.List.{append-nil, get_or-set_same, length-append, length-set, set-get_or, set-set}
 use Rattle.std.proofs.lemmas.List.Sums.{sum_by-set}
 use Rattle.roff_num.specs.declared.limit.Limit.{Limit}
-use Rattle.roff_source.specs.Bytes.{is_text_byte}
-use Rattle.roff_input.specs.Input.{Input, is_none_ahead}
-use Rattle.roff_input.specs.Input.Names.{adding, calling_on, stored}
-use Rattle.roff_source.specs.Tape.{Tape}
-use Rattle.roff_input.specs.declared.looked.Looked.TheVariants.{Nothing}
-use Rattle.roff_input.specs.Unread.{Unread, IsWithin, changing, input_refusal, unless_passed}
+use Rattle.input_source.specs.Bytes.{is_text_byte}
+use Rattle.input_model.specs.Input.{Input, is_none_ahead}
+use Rattle.input_model.specs.Input.Names.{adding, calling_on, stored}
+use Rattle.input_source.specs.Tape.{Tape}
+use Rattle.input_model.specs.declared.looked.Looked.TheVariants.{Nothing}
+use Rattle.input_model.specs.Unread.{Unread, IsWithin, changing, input_refusal, unless_passed}
 use Rattle.roff_scan.specs.Unread.Calls.{IsFront, NoNewline, OfSource, PassesFront, PassesSource, front_bytes}
 use Rattle.roff_scan.specs.Unread.Runs.{TakesRun, room_for}
 use Rattle.roff_scan.specs.declared.run_kind.RunKind.TheVariants.{Definition}
@@ -19,7 +19,7 @@ use Rattle.roff_scan.proofs.Changing.{OthersWithin, changing_within}
 use Rattle.roff_scan.proofs.RunKinds.{no_bound, no_newline_of}
 use Rattle.roff_scan.proofs.Staged.{passes-staged, stage-behind}
 use Rattle.roff_scan.proofs.Fronts.{next-ready}
-use Rattle.roff_source.proofs.PlainBytes.{take_while-plain}
+use Rattle.input_source.proofs.PlainBytes.{take_while-plain}
 use Rattle.roff_store.specs.TextCalls.{PushOpen}
 use Rattle.roff_store.specs.Texts.{newest}
 

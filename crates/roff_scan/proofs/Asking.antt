@@ -1,13 +1,13 @@
 -- Calls that are lent the source, by what they find.
 use Rattle.std.proofs.Common.{Bool, true, false, ◌&&◌, ◌≡◌, ℕ, ◌≤◌, List, [], ◌∷◌, length, map, take, Option, Some, None, refl, sym, ap, ◌∙◌, arith}
 use Rattle.std.specs.Prelude.{IfSome, get_or, is_none}
-use Rattle.roff_input.specs.Input.{Ahead, ByteAhead, FreeAhead, EndAhead, ReturnAhead, DoAhead, is_none_ahead}
-use Rattle.roff_source.specs.Tape.{Tape, Answer, Answers, Took, Gives, Ends, OneByte, Ending, Ended}
-use Rattle.roff_input.specs.Unread.{Unread, Asked, Stays, taking, taking_first, taking_answer, asks_to_take, looking, looking_past, looking_at, asks_to_look}
-use Rattle.roff_input.specs.Looking.{answer_behind, is_nothing}
-use Rattle.roff_input.specs.declared.looked.Looked.{Looked}
-use Rattle.roff_input.specs.declared.looked.Looked.TheVariants.{Nothing, Byte, Closed}
-use Rattle.roff_input.specs.Shown.{Shown, ShowsByte, Sighted, SeesByte, SeesNote, SeesEnding, seen_ahead}
+use Rattle.input_model.specs.Input.{Ahead, ByteAhead, FreeAhead, EndAhead, ReturnAhead, DoAhead, is_none_ahead}
+use Rattle.input_source.specs.Tape.{Tape, Answer, Answers, Took, Gives, Ends, OneByte, Ending, Ended}
+use Rattle.input_model.specs.Unread.{Unread, Asked, Stays, taking, taking_first, taking_answer, asks_to_take, looking, looking_past, looking_at, asks_to_look}
+use Rattle.input_model.specs.Looking.{answer_behind, is_nothing}
+use Rattle.input_model.specs.declared.looked.Looked.{Looked}
+use Rattle.input_model.specs.declared.looked.Looked.TheVariants.{Nothing, Byte, Closed}
+use Rattle.input_model.specs.Shown.{Shown, ShowsByte, Sighted, SeesByte, SeesNote, SeesEnding, seen_ahead}
 use Rattle.roff_scan.specs.Unread.Calls.{Takes, Looks}
 
 -- a source that isn't lent stays

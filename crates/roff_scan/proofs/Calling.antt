@@ -11,9 +11,9 @@ use Rattle.roff_store.specs.TextLaws.{IsCounted}
 use Rattle.roff_store.specs.Texts.{Texts, used}
 use Rattle.roff_store.proofs.CountedTexts.{IsCounted-after, limits-after, limits-made}
 use Rattle.roff_store.proofs.TextRefusals.{answer_by, answer_of}
-use Rattle.roff_input.specs.Input.{Input}
-use Rattle.roff_input.specs.Input.Names.{calling, with_texts}
-use Rattle.roff_input.specs.Unread.{Unread, IsWithin, changing, texts_within, unless_passed}
+use Rattle.input_model.specs.Input.{Input}
+use Rattle.input_model.specs.Input.Names.{calling, with_texts}
+use Rattle.input_model.specs.Unread.{Unread, IsWithin, changing, texts_within, unless_passed}
 use Rattle.roff_scan.proofs.Changing.{changing_texts, texts_refusal}
 
 -- the answer of a store that is past a limit or not

@@ -1,10 +1,10 @@
 -- The end of a called body is taken: its call is over, and what was kept in it is kept no more.
 use Rattle.std.proofs.Common.{◌≡◌, ◌≤◌, ◌+◌, ℕ, Bool, true, false, List, [], ◌∷◌, length, length-drop, drop, sym, ap, arith}
 use Rattle.std.specs.Prelude.{if◌then◌else◌, nat_le}
-use Rattle.roff_input.specs.Input.{Ahead, ByteAhead, FreeAhead, EndAhead, ReturnAhead, DoAhead, bytes_ahead, ends_ahead, item_taken, results_below, returns_ahead}
-use Rattle.roff_input.specs.Arguments.{live_bytes}
-use Rattle.roff_input.specs.Unread.{Unread, IsWithin}
-use Rattle.roff_input.specs.Shown.{ShowsReturn, shown_ahead}
+use Rattle.input_model.specs.Input.{Ahead, ByteAhead, FreeAhead, EndAhead, ReturnAhead, DoAhead, bytes_ahead, ends_ahead, item_taken, results_below, returns_ahead}
+use Rattle.input_model.specs.Arguments.{live_bytes}
+use Rattle.input_model.specs.Unread.{Unread, IsWithin}
+use Rattle.input_model.specs.Shown.{ShowsReturn, shown_ahead}
 
 -- no more is kept than before
 fewer-if : (is : Bool) (calls : ℕ) (result : Bool × ℕ) (others : List (Bool × ℕ))

@@ -4,15 +4,15 @@ use Rattle.std.specs.Prelude.{nat_lt, Bool, Option, Some, if◌then◌else◌}
 use Rattle.std.proofs.lemmas.Bool.Decides.{nat_tests}
 use Rattle.roff_num.specs.declared.limit.Limit.{Limit}
 use Rattle.roff_num.specs.declared.limit.Limit.TheVariants.{Stack, Depth, Store, Names}
-use Rattle.roff_input.specs.Arguments.{Arguments, held}
-use Rattle.roff_escape.specs.OpenEscape.{OpenEscape, texts_held}
-use Rattle.roff_input.specs.Input.{Input, EndAhead, pushed, depth, result_count, pushing, freeing, leaving, with_arguments, with_escapes}
-use Rattle.roff_input.specs.Input.Names.{names_added, stored}
-use Rattle.roff_input.specs.declared.looked.Looked.{Looked}
-use Rattle.roff_input.specs.Unread.{Unread, IsWithin, changing, unless_passed}
+use Rattle.input_model.specs.Arguments.{Arguments, held}
+use Rattle.input_escapes.specs.OpenEscape.{OpenEscape, texts_held}
+use Rattle.input_model.specs.Input.{Input, EndAhead, pushed, depth, result_count, pushing, freeing, leaving, with_arguments, with_escapes}
+use Rattle.input_model.specs.Input.Names.{names_added, stored}
+use Rattle.input_model.specs.declared.looked.Looked.{Looked}
+use Rattle.input_model.specs.Unread.{Unread, IsWithin, changing, unless_passed}
 use Rattle.roff_scan.proofs.CallsOver.{results_below-few}
-use Rattle.roff_input.proofs.KeptArguments.{held-only_kept}
-use Rattle.roff_input.proofs.Counts.{bytes_ahead-bytes, ends_ahead-bytes, bytes_ahead-frees, ends_ahead-frees}
+use Rattle.input_model.proofs.KeptArguments.{held-only_kept}
+use Rattle.input_model.proofs.Counts.{bytes_ahead-bytes, ends_ahead-bytes, bytes_ahead-frees, ends_ahead-frees}
 
 -- a test that fails, and one that holds
 pub not_above : (limit count : ℕ) → count ≤ limit → nat_lt limit count ≡ false

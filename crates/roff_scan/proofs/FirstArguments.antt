@@ -4,15 +4,15 @@ use Rattle.std.specs.List.{AllByRecursion}
 use Rattle.std.proofs.Math.Seq.{take-add}
 use Rattle.std.proofs.lemmas.Bool.{and_parts}
 use Rattle.std.proofs.lemmas.List.{take-append-drop, take-take}
-use Rattle.roff_input.specs.Arguments.{Arguments, is_behind_quote}
-use Rattle.roff_input.specs.declared.place.Place.{Place}
-use Rattle.roff_input.specs.declared.place.Place.TheVariants.{Between}
-use Rattle.roff_arguments.specs.ArgumentTexts.Kept.{StopsAt}
-use Rattle.roff_source.specs.Bytes.{blank}
-use Rattle.roff_input.specs.Input.{is_none_ahead}
-use Rattle.roff_input.specs.Looking.{is_nothing}
-use Rattle.roff_input.specs.Unread.{Unread, asks_to_take}
-use Rattle.roff_input.specs.declared.looked.Looked.TheVariants.{Nothing}
+use Rattle.input_model.specs.Arguments.{Arguments, is_behind_quote}
+use Rattle.input_model.specs.declared.place.Place.{Place}
+use Rattle.input_model.specs.declared.place.Place.TheVariants.{Between}
+use Rattle.input_arguments.specs.ArgumentTexts.Kept.{StopsAt}
+use Rattle.input_source.specs.Bytes.{blank}
+use Rattle.input_model.specs.Input.{is_none_ahead}
+use Rattle.input_model.specs.Looking.{is_nothing}
+use Rattle.input_model.specs.Unread.{Unread, asks_to_take}
+use Rattle.input_model.specs.declared.looked.Looked.TheVariants.{Nothing}
 use Rattle.roff_scan.specs.Unread.FirstArguments.{MayStand, Unended, first_argument, first_room, is_inside}
 use Rattle.roff_scan.proofs.Fronts.{nothing_looked}
 

@@ -1,17 +1,17 @@
 -- Bytes that stand in front: those of a slice, and what is left of the input behind so many of them.
 use Rattle.std.proofs.Common.{◌≡◌, count_by, ℕ, ◌+◌, ◌-◌, ◌==◌, ◌≤◌, Bool, true, false, if◌then◌else◌, List, [], ◌∷◌, ◌++◌, length, map, take, drop, refl, sym, ap, subst, ◌∙◌, arith}
 use Rattle.std.proofs.lemmas.List.{length-take-le, take-take}
-use Rattle.roff_source.specs.Bytes.{newline}
-use Rattle.roff_input.specs.Input.{Ahead, ByteAhead, Input, counting, is_none_ahead, leading, lines_taken, returns_ahead}
-use Rattle.roff_source.specs.Tape.{Tape, OneByte, Took}
-use Rattle.roff_input.specs.Looking.{is_nothing}
-use Rattle.roff_input.specs.declared.looked.Looked.{Looked}
-use Rattle.roff_input.specs.declared.looked.Looked.TheVariants.{Nothing, Byte, Closed}
-use Rattle.roff_input.specs.Unread.{Unread, IsWithin}
+use Rattle.input_source.specs.Bytes.{newline}
+use Rattle.input_model.specs.Input.{Ahead, ByteAhead, Input, counting, is_none_ahead, leading, lines_taken, returns_ahead}
+use Rattle.input_source.specs.Tape.{Tape, OneByte, Took}
+use Rattle.input_model.specs.Looking.{is_nothing}
+use Rattle.input_model.specs.declared.looked.Looked.{Looked}
+use Rattle.input_model.specs.declared.looked.Looked.TheVariants.{Nothing, Byte, Closed}
+use Rattle.input_model.specs.Unread.{Unread, IsWithin}
 use Rattle.roff_scan.specs.Unread.Calls.{IsFront, NoNewline, PassesFront, OfTexts, PassesSource, front_bytes, next_bytes}
-use Rattle.roff_input.proofs.Counts.{returns_ahead-bytes}
+use Rattle.input_model.proofs.Counts.{returns_ahead-bytes}
 use Rattle.roff_scan.proofs.PassingAhead.{IsWithin-behind, behind_bytes, bytes_taken-is}
-use Rattle.roff_ahead.proofs.Leading.{Begins, begins, leading-parted}
+use Rattle.input_ahead.proofs.Leading.{Begins, begins, leading-parted}
 use Rattle.roff_scan.proofs.Passing.{counted, lines_taken-last}
 
 -- no byte was looked at

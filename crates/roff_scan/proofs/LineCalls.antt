@@ -2,22 +2,22 @@
 use Rattle.std.proofs.Common.{◌≡◌, ◌<◌, ◌≤◌, ◌+◌, ◌-◌, ℕ, Bool, true, false, List, [], ◌∷◌, get_or, length, Ok, Err, refl, ap, ◌∙◌, arith}
 use Rattle.std.specs.Prelude.{if◌then◌else◌, reverse, ◌==◌}
 use Rattle.roff_num.specs.declared.limit.Limit.TheVariants.{Stack, Depth}
-use Rattle.roff_input.specs.Arguments.{Arguments, with_byte, with_byte_at, with_plain, with_unit, with_whole, between, settled, settled_at, finished, finished_at, held, in_argument, only_kept, total_length}
-use Rattle.roff_arguments.specs.ArgumentList.{listed}
-use Rattle.roff_source.specs.Bytes.{blank, quote}
-use Rattle.roff_arguments.specs.Calls.Kept.{first_call}
-use Rattle.roff_input.specs.Input.{Input, ReturnAhead, depth, pushed, returns_ahead}
-use Rattle.roff_input.specs.Input.Calls.{argument_live, called_text, calling_body, springing}
-use Rattle.roff_input.specs.Unread.{Unread, IsWithin, changing}
+use Rattle.input_model.specs.Arguments.{Arguments, with_byte, with_byte_at, with_plain, with_unit, with_whole, between, settled, settled_at, finished, finished_at, held, in_argument, only_kept, total_length}
+use Rattle.input_arguments.specs.ArgumentList.{listed}
+use Rattle.input_source.specs.Bytes.{blank, quote}
+use Rattle.input_arguments.specs.Calls.Kept.{first_call}
+use Rattle.input_model.specs.Input.{Input, ReturnAhead, depth, pushed, returns_ahead}
+use Rattle.input_model.specs.Input.Calls.{argument_live, called_text, calling_body, springing}
+use Rattle.input_model.specs.Unread.{Unread, IsWithin, changing}
 use Rattle.roff_scan.specs.Unread.Kept.{NoneBegun}
-use Rattle.roff_arguments.specs.declared.arguments.ArgumentList.{ArgumentList}
-use Rattle.roff_input.specs.declared.place.Place.{Place}
-use Rattle.roff_input.specs.declared.place.Place.TheVariants.{Between, InPlain, InQuotes, BehindQuote}
-use Rattle.roff_escape.specs.declared.open_escape.CopyUnit.{CopyUnit}
-use Rattle.roff_escape.specs.declared.open_escape.CopyUnit.TheVariants.{Byte, Kept}
+use Rattle.input_arguments.specs.declared.arguments.ArgumentList.{ArgumentList}
+use Rattle.input_model.specs.declared.place.Place.{Place}
+use Rattle.input_model.specs.declared.place.Place.TheVariants.{Between, InPlain, InQuotes, BehindQuote}
+use Rattle.input_escapes.specs.declared.open_escape.CopyUnit.{CopyUnit}
+use Rattle.input_escapes.specs.declared.open_escape.CopyUnit.TheVariants.{Byte, Kept}
 use Rattle.roff_scan.proofs.Changing.{OthersWithin, put_past_stack, put_past_depth, put_within, IsWithin-put}
-use Rattle.roff_input.proofs.Counts.{bytes_ahead-bytes, ends_ahead-bytes, returns_ahead-bytes}
-use Rattle.roff_input.proofs.KeptArguments.{held-finished, held-only_kept, total_length-reverse}
+use Rattle.input_model.proofs.Counts.{bytes_ahead-bytes, ends_ahead-bytes, returns_ahead-bytes}
+use Rattle.input_model.proofs.KeptArguments.{held-finished, held-only_kept, total_length-reverse}
 
 -- where an argument is read, the reading doesn't stand between arguments
 in_argument-not : (place : Place) → in_argument place ≡ Between → ⊥

@@ -6,20 +6,20 @@ use Rattle.std.proofs.lemmas.List.Sums.{sum_by-cons}
 use Rattle.std.proofs.Math.Seq.{take-add}
 use Rattle.std.proofs.lemmas.Bool.{and_parts, eqb-true}
 use Rattle.std.proofs.lemmas.List.{drop-take, length-drop, length-take-le, take-take}
-use Rattle.roff_input.specs.Input.{counting, is_none_ahead, pushed}
-use Rattle.roff_input.specs.declared.looked.Looked.TheVariants.{Nothing}
-use Rattle.roff_input.specs.Unread.{IsWithin, Unread, asks_to_take}
-use Rattle.roff_source.specs.Bytes.{is_argument_byte, newline}
-use Rattle.roff_source.specs.Tape.{OneByte, Tape, Took}
+use Rattle.input_model.specs.Input.{counting, is_none_ahead, pushed}
+use Rattle.input_model.specs.declared.looked.Looked.TheVariants.{Nothing}
+use Rattle.input_model.specs.Unread.{IsWithin, Unread, asks_to_take}
+use Rattle.input_source.specs.Bytes.{is_argument_byte, newline}
+use Rattle.input_source.specs.Tape.{OneByte, Tape, Took}
 use Rattle.roff_scan.specs.Unread.Calls.{IsFront, NoNewline, PassesFront, PassesSource, front_bytes, next_bytes}
 use Rattle.roff_scan.specs.Unread.Lines.{HoldsLine, StandsNewline, begins_with_newline, ended_by, is_ended, line_behind, line_room, with_held}
 use Rattle.roff_scan.specs.declared.unread.lines.BehindHeld.{BehindHeld}
 use Rattle.roff_scan.specs.declared.run_kind.RunKind.TheVariants.{Arguments as ArgumentsRun}
 use Rattle.roff_scan.proofs.RunKinds.{run-held, run-plain}
 use Rattle.roff_scan.proofs.Runs.{IsWithin-staged}
-use Rattle.roff_arguments.specs.ArgumentTexts.Kept.{StopsAt}
-use Rattle.roff_input.specs.Arguments.{Arguments, HeldFewer, bytes_held}
-use Rattle.roff_input.specs.Looking.{is_nothing}
+use Rattle.input_arguments.specs.ArgumentTexts.Kept.{StopsAt}
+use Rattle.input_model.specs.Arguments.{Arguments, HeldFewer, bytes_held}
+use Rattle.input_model.specs.Looking.{is_nothing}
 use Rattle.roff_scan.proofs.Fronts.{nothing_looked, passes_lines, source}
 use Rattle.roff_scan.proofs.Passing.{counted}
 

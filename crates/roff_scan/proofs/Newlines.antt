@@ -1,9 +1,9 @@
 -- A newline in front that is taken at once.
 use Rattle.std.proofs.Common.{◌≡◌, ◌<◌, List, [], ◌∷◌, refl, subst, arith}
-use Rattle.roff_source.specs.Bytes.{newline}
-use Rattle.roff_input.specs.Input.{Ahead, ByteAhead}
-use Rattle.roff_source.specs.Tape.{Tape}
-use Rattle.roff_input.specs.Unread.{Unread}
+use Rattle.input_source.specs.Bytes.{newline}
+use Rattle.input_model.specs.Input.{Ahead, ByteAhead}
+use Rattle.input_source.specs.Tape.{Tape}
+use Rattle.input_model.specs.Unread.{Unread}
 use Rattle.roff_scan.specs.Unread.Calls.{OfTexts, PassesFront, PassesNewline}
 use Rattle.roff_scan.proofs.PassingAhead.{behind_bytes}
 

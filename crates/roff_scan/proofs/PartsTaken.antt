@@ -3,12 +3,12 @@ use Rattle.std.proofs.Common.{◌≡◌, ℕ, ◌==◌, ◌≤◌, Bool, true, L
 use Rattle.std.specs.List.{AllByRecursion, prefix_len}
 use Rattle.std.proofs.lemmas.List.Folds.{length-prefix_len}
 use Rattle.std.proofs.lemmas.List.Sums.{prefix_len-le-length}
-use Rattle.roff_source.specs.Bytes.{blank, is_passed, is_text_byte}
-use Rattle.roff_source.proofs.PlainBytes.{take_while-plain}
-use Rattle.roff_arguments.specs.ArgumentTexts.Kept.{KeptArguments, TakesFront as HoldsFront}
-use Rattle.roff_escape.specs.ConditionFronts.{TakesFront as ReadsCondition}
-use Rattle.roff_escape.specs.EscapeFronts.{ReadsFront}
-use Rattle.roff_escape.specs.EscapeTexts.{KeptEscapes}
+use Rattle.input_source.specs.Bytes.{blank, is_passed, is_text_byte}
+use Rattle.input_source.proofs.PlainBytes.{take_while-plain}
+use Rattle.input_arguments.specs.ArgumentTexts.Kept.{KeptArguments, TakesFront as HoldsFront}
+use Rattle.input_escapes.specs.ConditionFronts.{TakesFront as ReadsCondition}
+use Rattle.input_escapes.specs.EscapeFronts.{ReadsFront}
+use Rattle.input_escapes.specs.EscapeTexts.{KeptEscapes}
 use Rattle.roff_scan.specs.Unread.Runs.{TakesPart}
 use Rattle.roff_scan.specs.declared.run_kind.RunKind.{RunKind}
 use Rattle.roff_scan.specs.declared.run_kind.RunKind.TheVariants.{Arguments, Blanks, CallArguments, Condition, Definition, Dropped, Ignored, Name}

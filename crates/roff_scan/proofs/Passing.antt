@@ -1,8 +1,8 @@
 -- Bytes of the source, of which newlines may be some: what is counted of them.
 use Rattle.std.proofs.Common.{◌≡◌, ◌==◌, ℕ, ◌+◌, Bool, true, false, List, [], ◌∷◌, ◌++◌, cond, count_by, if◌then◌else◌, length, refl, ap, arith, ◌∙◌}
 use Rattle.std.proofs.lemmas.List.Sums.{sum_by-cons}
-use Rattle.roff_source.specs.Bytes.{newline}
-use Rattle.roff_input.specs.Input.{Input, counting, lines_taken}
+use Rattle.input_source.specs.Bytes.{newline}
+use Rattle.input_model.specs.Input.{Input, counting, lines_taken}
 
 -- a newline in front, if it is one, is counted
 newlines_and : (before : ℕ) (is : Bool) (p : ℕ → Bool) (b : ℕ) (front : List ℕ) → p b ≡ is

@@ -1,8 +1,8 @@
 -- Bytes ahead that are taken at once: what is left of the input behind them.
 use Rattle.std.proofs.Common.{◌≡◌, ℕ, ◌+◌, ◌≤◌, List, [], ◌∷◌, ◌++◌, length, map, refl, ap, ◌∙◌, arith}
-use Rattle.roff_input.specs.Input.{Ahead, ByteAhead, Input, bytes_ahead, bytes_taken, ends_ahead, item_taken}
-use Rattle.roff_input.specs.Unread.{Unread, IsWithin}
-use Rattle.roff_input.proofs.Counts.{bytes_ahead-bytes, ends_ahead-bytes}
+use Rattle.input_model.specs.Input.{Ahead, ByteAhead, Input, bytes_ahead, bytes_taken, ends_ahead, item_taken}
+use Rattle.input_model.specs.Unread.{Unread, IsWithin}
+use Rattle.input_model.proofs.Counts.{bytes_ahead-bytes, ends_ahead-bytes}
 
 module _ {E : Type 0} where
   -- the input behind so many bytes ahead

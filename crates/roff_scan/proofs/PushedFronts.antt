@@ -1,17 +1,17 @@
 -- Bytes of a pushed text that a condition takes at once: what is left ahead and half read behind them.
 use Rattle.std.proofs.Common.{◌≡◌, ℕ, ◌+◌, ◌≤◌, List, ◌++◌, length, map, sym, ap, subst, ◌∙◌, arith}
-use Rattle.roff_escape.specs.ConditionFronts.{HalvesTaken}
-use Rattle.roff_escape.specs.OpenEscape.{OpenEscape}
-use Rattle.roff_input.specs.Input.{Ahead, ByteAhead, Input, bytes_ahead, ends_ahead}
-use Rattle.roff_source.specs.Tape.{Tape}
-use Rattle.roff_input.specs.Unread.{Unread, IsWithin}
+use Rattle.input_escapes.specs.ConditionFronts.{HalvesTaken}
+use Rattle.input_escapes.specs.OpenEscape.{OpenEscape}
+use Rattle.input_model.specs.Input.{Ahead, ByteAhead, Input, bytes_ahead, ends_ahead}
+use Rattle.input_source.specs.Tape.{Tape}
+use Rattle.input_model.specs.Unread.{Unread, IsWithin}
 use Rattle.roff_scan.specs.Unread.Calls.{OfTexts, TakesPushed}
 use Rattle.roff_scan.specs.Unread.Runs.{TakesRun, with_stage_of}
 use Rattle.roff_scan.specs.declared.run_kind.RunKind.TheVariants.{Condition}
 use Rattle.roff_scan.proofs.RunKinds.{any_byte, no_bound}
-use Rattle.roff_input.proofs.Counts.{bytes_ahead-bytes, ends_ahead-bytes}
+use Rattle.input_model.proofs.Counts.{bytes_ahead-bytes, ends_ahead-bytes}
 use Rattle.roff_scan.proofs.PassingAhead.{behind_bytes, bytes_taken-is}
-use Rattle.roff_ahead.proofs.GivenFronts.{HalvesTaken-held}
+use Rattle.input_ahead.proofs.GivenFronts.{HalvesTaken-held}
 
 module _ {E : Type 0} where
   -- the input behind bytes that were given, where this is half read

@@ -2,20 +2,20 @@
 use Rattle.std.proofs.Common.{◌≡◌, ℕ, ◌+◌, ◌==◌, ◌≤◌, Bool, true, false, if◌then◌else◌, List, [], ◌∷◌, length, None, refl, ap, subst, arith}
 use Rattle.std.specs.List.{AllByRecursion}
 use Rattle.std.proofs.lemmas.Bool.{eqb-true}
-use Rattle.roff_source.specs.Bytes.{blank, is_argument_byte, is_passed, is_text_byte, newline}
-use Rattle.roff_escape.specs.ConditionFronts.{ByteTaken, HalvesTaken, NothingTaken}
-use Rattle.roff_escape.specs.EscapeFronts.{ByteRead, HalvesRead, NothingRead}
-use Rattle.roff_escape.specs.OpenEscape.{OpenEscape, texts_held}
-use Rattle.roff_escape.specs.declared.open_escape.CopyUnit.TheVariants.{Byte}
-use Rattle.roff_escape.proofs.ConditionFronts.{taken-plain}
-use Rattle.roff_escape.proofs.EscapeFronts.{HalvesRead-held}
-use Rattle.roff_input.specs.Arguments.{HeldFewer, bytes_held, held, only_kept, with_argument_byte}
-use Rattle.roff_input.specs.Arguments.{Arguments as LineArguments}
-use Rattle.roff_arguments.proofs.HeldBytes.{held-bytes_held}
-use Rattle.roff_ahead.proofs.GivenFronts.{HalvesTaken-held}
-use Rattle.roff_input.specs.Input.{Input}
+use Rattle.input_source.specs.Bytes.{blank, is_argument_byte, is_passed, is_text_byte, newline}
+use Rattle.input_escapes.specs.ConditionFronts.{ByteTaken, HalvesTaken, NothingTaken}
+use Rattle.input_escapes.specs.EscapeFronts.{ByteRead, HalvesRead, NothingRead}
+use Rattle.input_escapes.specs.OpenEscape.{OpenEscape, texts_held}
+use Rattle.input_escapes.specs.declared.open_escape.CopyUnit.TheVariants.{Byte}
+use Rattle.input_escapes.proofs.ConditionFronts.{taken-plain}
+use Rattle.input_escapes.proofs.EscapeFronts.{HalvesRead-held}
+use Rattle.input_model.specs.Arguments.{HeldFewer, bytes_held, held, only_kept, with_argument_byte}
+use Rattle.input_model.specs.Arguments.{Arguments as LineArguments}
+use Rattle.input_arguments.proofs.HeldBytes.{held-bytes_held}
+use Rattle.input_ahead.proofs.GivenFronts.{HalvesTaken-held}
+use Rattle.input_model.specs.Input.{Input}
 use Rattle.roff_scan.specs.RunKinds.{goes_by_bytes, has_newlines, is_held, is_of, most_whole}
-use Rattle.roff_input.specs.Unread.{Unread}
+use Rattle.input_model.specs.Unread.{Unread}
 use Rattle.roff_scan.specs.Unread.Calls.{NoNewline}
 use Rattle.roff_scan.specs.Unread.Kept.{NoneBegun}
 use Rattle.roff_scan.specs.Unread.Runs.{HalvesBehind, arguments_behind, room_for, texts_behind}

@@ -3,20 +3,20 @@ use Rattle.std.proofs.Common.{◌≡◌, ℕ, ◌+◌, ◌≤◌, Bool, true, fa
 use Rattle.std.specs.List.{AllByRecursion}
 use Rattle.std.proofs.lemmas.Bool.{and_parts}
 use Rattle.std.proofs.lemmas.List.{length-take-le, take-take}
-use Rattle.roff_input.specs.Arguments.{HeldFewer, held}
-use Rattle.roff_input.specs.Arguments.{Arguments as LineArguments}
-use Rattle.roff_escape.specs.OpenEscape.{OpenEscape, texts_held}
-use Rattle.roff_input.specs.Input.{Input, is_none_ahead, pushed}
-use Rattle.roff_source.specs.Tape.{Tape}
+use Rattle.input_model.specs.Arguments.{HeldFewer, held}
+use Rattle.input_model.specs.Arguments.{Arguments as LineArguments}
+use Rattle.input_escapes.specs.OpenEscape.{OpenEscape, texts_held}
+use Rattle.input_model.specs.Input.{Input, is_none_ahead, pushed}
+use Rattle.input_source.specs.Tape.{Tape}
 use Rattle.roff_scan.specs.RunKinds.{goes_by_bytes, has_newlines, is_held, is_of, most_whole}
-use Rattle.roff_input.specs.Unread.{Unread, IsWithin, asks_to_take}
+use Rattle.input_model.specs.Unread.{Unread, IsWithin, asks_to_take}
 use Rattle.roff_scan.specs.Unread.Calls.{IsFront, NoNewline, PassesFront, front_bytes, next_bytes}
 use Rattle.roff_scan.specs.Unread.Runs.{HalvesBehind, TakesRun, arguments_behind, room_for, texts_behind}
 use Rattle.roff_scan.specs.declared.run_kind.RunKind.{RunKind}
 use Rattle.roff_scan.specs.declared.run_kind.RunKind.TheVariants.{Text, Blanks, Arguments, CallArguments, Name, Condition, Definition, Ignored, Dropped}
-use Rattle.roff_input.specs.Looking.{is_nothing}
-use Rattle.roff_input.specs.declared.looked.Looked.{Looked}
-use Rattle.roff_input.specs.declared.looked.Looked.TheVariants.{Nothing, Byte, Closed}
+use Rattle.input_model.specs.Looking.{is_nothing}
+use Rattle.input_model.specs.declared.looked.Looked.{Looked}
+use Rattle.input_model.specs.declared.looked.Looked.TheVariants.{Nothing, Byte, Closed}
 use Rattle.roff_scan.proofs.Fronts.{nothing_looked, passes_none}
 use Rattle.roff_scan.proofs.AddedFronts.{adding-none}
 use Rattle.roff_scan.proofs.Staged.{passes-staged, stage-behind, staged}

@@ -1,13 +1,13 @@
 -- Changes that leave the unread input sound: there is room by the limits, and no count is above its limit.
 use Rattle.std.proofs.Common.{◌≡◌, ◌≤◌, ◌+◌, ℕ, true, List, length, take, ap, subst, sym, refl, ◌∙◌, arith}
 use Rattle.std.proofs.lemmas.List.{length-take-le}
-use Rattle.roff_input.specs.Arguments.{Arguments}
-use Rattle.roff_arguments.specs.ArgumentTexts.Kept.{KeptArguments}
-use Rattle.roff_escape.specs.EscapeTexts.{KeptEscapes, leaving}
-use Rattle.roff_escape.specs.OpenEscape.{Reads, texts_held}
-use Rattle.roff_escape.specs.declared.open_escape.Found.{Found}
-use Rattle.roff_input.specs.Input.{pushed}
-use Rattle.roff_input.specs.Unread.{IsWithin, Unread}
+use Rattle.input_model.specs.Arguments.{Arguments}
+use Rattle.input_arguments.specs.ArgumentTexts.Kept.{KeptArguments}
+use Rattle.input_escapes.specs.EscapeTexts.{KeptEscapes, leaving}
+use Rattle.input_escapes.specs.OpenEscape.{Reads, texts_held}
+use Rattle.input_escapes.specs.declared.open_escape.Found.{Found}
+use Rattle.input_model.specs.Input.{pushed}
+use Rattle.input_model.specs.Unread.{IsWithin, Unread}
 use Rattle.roff_scan.specs.RunKinds.{is_held}
 use Rattle.roff_scan.specs.Unread.Kept.{IsSound, NoneBegun, kept_by}
 use Rattle.roff_scan.specs.Unread.Runs.{TakesPart}

@@ -1,10 +1,10 @@
 -- Bytes that are taken behind a change of what is half read, of the arguments or of the texts in the making.
 use Rattle.std.proofs.Common.{◌≡◌, ℕ, List, [], ◌∷◌, ◌++◌, map, refl, sym, ap, ◌∙◌}
-use Rattle.roff_input.specs.Arguments.{Arguments as LineArguments}
-use Rattle.roff_escape.specs.OpenEscape.{OpenEscape}
-use Rattle.roff_input.specs.Input.{Ahead, ByteAhead, Input, bytes_taken, counting, item_taken, lines_taken}
-use Rattle.roff_source.specs.Tape.{Tape}
-use Rattle.roff_input.specs.Unread.{Unread}
+use Rattle.input_model.specs.Arguments.{Arguments as LineArguments}
+use Rattle.input_escapes.specs.OpenEscape.{OpenEscape}
+use Rattle.input_model.specs.Input.{Ahead, ByteAhead, Input, bytes_taken, counting, item_taken, lines_taken}
+use Rattle.input_source.specs.Tape.{Tape}
+use Rattle.input_model.specs.Unread.{Unread}
 use Rattle.roff_scan.specs.Unread.Calls.{OfSource, OfTexts, PassesFront}
 use Rattle.roff_scan.specs.Unread.Runs.{with_stage_of}
 

@@ -1,7 +1,7 @@
 -- The end of a text or of a call in front that is taken at once.
 use Rattle.std.proofs.Common.{◌≡◌, ◌+◌, ◌<◌, List, ◌∷◌, refl, subst, arith}
-use Rattle.roff_input.specs.Input.{Ahead, EndAhead, ReturnAhead, item_taken}
-use Rattle.roff_input.specs.Unread.{Unread}
+use Rattle.input_model.specs.Input.{Ahead, EndAhead, ReturnAhead, item_taken}
+use Rattle.input_model.specs.Unread.{Unread}
 use Rattle.roff_scan.specs.Unread.Calls.{PassesEnd, PassesReturn}
 
 -- one that stands ahead was taken, by the fields that keep the input

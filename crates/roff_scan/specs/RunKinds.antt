@@ -1,6 +1,6 @@
 -- Kinds of runs, and which bytes are of each.
 use Rattle.std.specs.Prelude.{ℕ, ◌==◌, Bool, true, false, Option, None, Some}
-use Rattle.roff_source.specs.Bytes.{blank, is_argument_byte, is_passed, is_text_byte}
+use Rattle.input_source.specs.Bytes.{blank, is_argument_byte, is_passed, is_text_byte}
 use Rattle.roff_scan.specs.declared.run_kind.RunKind.{RunKind}
 use Rattle.roff_scan.specs.declared.run_kind.RunKind.TheVariants.{Text, Blanks, Arguments, CallArguments, Name, Condition, Definition, Ignored, Dropped}
 

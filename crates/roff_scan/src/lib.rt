@@ -5,12 +5,12 @@
 mod run_kind;
 mod unread;
 
-pub use roff_arguments::ArgumentList;
-pub use roff_escape::{
+pub use input_arguments::ArgumentList;
+pub use input_escapes::{
     ConditionPart, CopyUnit, Decision, Escape, Found, NamePart, NameUse, Remark, SizePart,
     Surroundings, TextUse, Waiting, character, escape_of,
 };
-pub use roff_input::{Item, Looked, Place, Sight};
-pub use roff_source::{ByteSource, Note, ReadSource, Taken, is_dropped, is_silent, text_in_front};
+pub use input_model::{Item, Looked, Place, Sight};
+pub use input_source::{ByteSource, Note, ReadSource, Taken, is_dropped, is_silent, text_in_front};
 pub use run_kind::RunKind;
 pub use unread::{BehindHeld, Unread, begins_named};

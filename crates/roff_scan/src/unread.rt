@@ -1,8 +1,8 @@
 //! The unread input: what stands ahead of the source, and what is counted.
 
 ghost use Rattle.std.specs.Prelude.{◌≡◌, ◌≤◌, [], IfOk, vec_capacity};
-ghost use Rattle.roff_input.specs.Arguments.{no_arguments};
-ghost use Rattle.roff_input.specs.Input.{is_none_ahead, pushed, depth};
+ghost use Rattle.input_model.specs.Arguments.{no_arguments};
+ghost use Rattle.input_model.specs.Input.{is_none_ahead, pushed, depth};
 
 mod arguments;
 mod calls;
@@ -17,11 +17,11 @@ mod runs;
 mod skipped;
 mod taken;
 
+use input_ahead::InputAhead;
+use input_arguments::{ArgumentTexts, Calls};
+use input_escapes::OpenEscapes;
+use input_model::Looked;
 pub use lines::{BehindHeld, begins_named};
-use roff_ahead::InputAhead;
-use roff_arguments::{ArgumentTexts, Calls};
-use roff_escape::OpenEscapes;
-use roff_input::Looked;
 use roff_num::Limits;
 use std::alloc::{AllocError, Global};
 use std::marker::Model;
@@ -52,7 +52,7 @@ pub struct Unread<E> {
 }
 
 impl<E> Model for Unread<E> {
-    ghost use Rattle.roff_input.specs.Unread.{Unread};
+    ghost use Rattle.input_model.specs.Unread.{Unread};
 
     ghost Value = { Unread E };
 
@@ -64,7 +64,7 @@ impl<E> Model for Unread<E> {
 }
 
 impl<E: Copy> Unread<E> {
-    ghost use Rattle.roff_input.specs.Unread.{initial_unread, IsWithin};
+    ghost use Rattle.input_model.specs.Unread.{initial_unread, IsWithin};
 
     /// The input before anything is read. So many names stand for something then: they are to be
     /// set before anything is taken, and the limit on names doesn't count them.

@@ -4,19 +4,19 @@ use Rattle.std.proofs.lemmas.List.{take-append-le}
 use Rattle.std.specs.Option.{option_to_list}
 use Rattle.roff_num.specs.Lists.{IsBeginning}
 use Rattle.roff_num.specs.declared.limits.Limits.{Limits}
-use Rattle.roff_interpreter.specs.Outcome.{Outcome}
-use Rattle.roff_run.specs.declared.start.Start.{Start}
+use Rattle.run_items.specs.Outcome.{Outcome}
+use Rattle.run_model.specs.declared.start.Start.{Start}
 use Rattle.roff_engine.specs.Outcomes.{Gives, GivesAll, HadNoFault}
-use Rattle.roff_run.specs.Results.{output_of, messages_of, status_of}
-use Rattle.roff_run.specs.declared.status.Status.{Status}
-use Rattle.roff_sinks.specs.Devices.{Seen, seen}
-use Rattle.roff_sinks.specs.Sinks.{AppendsFront, Sunk}
+use Rattle.run_model.specs.Results.{output_of, messages_of, status_of}
+use Rattle.run_model.specs.declared.status.Status.{Status}
+use Rattle.page_bytes.specs.Devices.{Seen, seen}
+use Rattle.page_bytes.specs.Sinks.{AppendsFront, Sunk}
 use Rattle.roff_engine.proofs.Outcomes.{each_outcome_gives}
-use Rattle.roff_source.specs.Tape.{Tape}
-use Rattle.roff_devices.specs.Memory.{kept_by, room_of}
-use Rattle.roff_devices.specs.WatchedSink.Telling.{IsSound, given_to, nothing_told, told_by}
-use Rattle.roff_devices.specs.declared.watched.WatchedSink.{WatchedSink}
-use Rattle.roff_devices.proofs.Overflows.{overflow_or_not, kept-first, kept-all, given-longer}
+use Rattle.input_source.specs.Tape.{Tape}
+use Rattle.cli_devices.specs.Memory.{kept_by, room_of}
+use Rattle.cli_devices.specs.WatchedSink.Telling.{IsSound, given_to, nothing_told, told_by}
+use Rattle.cli_devices.specs.declared.watched.WatchedSink.{WatchedSink}
+use Rattle.cli_devices.proofs.Overflows.{overflow_or_not, kept-first, kept-all, given-longer}
 use Rattle.tbl_format.specs.declared.limits.TblLimits.{TblLimits}
 use Rattle.tbl_core.specs.Yields.{at_start, yields}
 use Rattle.roff_tools.specs.InMemory.{IsWholeResult, RanInMemory}

@@ -2,8 +2,8 @@
 use Rattle.std.proofs.Common.{◌≡◌, ℕ, ◌+◌, ◌<◌, List, [], ◌∷◌, ◌++◌, map, take, drop, length, get_or, ap, sym, ◌∙◌, subst}
 use Rattle.std.proofs.lemmas.List.{drop_more, map-append, take-append-drop, take_more}
 use Rattle.std.specs.Borrow.{Bor}
-use Rattle.roff_devices.specs.declared.inputs.Part.{Part}
-use Rattle.roff_devices.specs.Inputs.Part.{AreNamed, IsNamed}
+use Rattle.cli_devices.specs.declared.inputs.Part.{Part}
+use Rattle.cli_devices.specs.Inputs.Part.{AreNamed, IsNamed}
 use Rattle.roff_tools.specs.StartFault.{NamesFile, NamesFirstRefused}
 use Rattle.roff_tools.specs.declared.fault.StartFault.{StartFault}
 use Rattle.roff_tools.specs.declared.fault.StartFault.TheVariants.{CannotOpen, BadPages, BadRegister, NotText, OutOfMemory}

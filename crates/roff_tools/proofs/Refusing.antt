@@ -2,10 +2,10 @@
 use Rattle.std.proofs.Common.{ℕ, List, Option, Some, None, Result, Ok, Err, map, refl, subst}
 use Rattle.clap.specs.Words.{Row, Text}
 use Rattle.roff_num.specs.declared.num.Num.{Num}
-use Rattle.roff_command.specs.CommandLine.{AsksFor, files_asked}
-use Rattle.roff_command.specs.PagesAsked.{pages_asked, told_pages}
-use Rattle.roff_command.specs.RegistersAsked.{registers_asked, told}
-use Rattle.roff_command.specs.declared.request.Request.{Request}
+use Rattle.cli_words.specs.CommandLine.{AsksFor, files_asked}
+use Rattle.cli_words.specs.PagesAsked.{pages_asked, told_pages}
+use Rattle.cli_words.specs.RegistersAsked.{registers_asked, told}
+use Rattle.cli_words.specs.declared.request.Request.{Request}
 use Rattle.roff_tools.specs.Program.{NamesStart}
 use Rattle.roff_tools.specs.StartFault.{NamesBad, NamesFirstRefused}
 use Rattle.roff_tools.specs.declared.fault.StartFault.{StartFault}

@@ -1,9 +1,9 @@
 -- Runs over readers.
 use Rattle.std.proofs.Common.{◌≡◌, ℕ, List, [], Option, None, sym, subst}
-use Rattle.roff_source.specs.Tape.{Tape}
-use Rattle.roff_source.specs.ReadSource.Reach.{GivesBehind, MayGive}
-use Rattle.roff_run.specs.declared.status.Status.{Status}
-use Rattle.roff_interpreter.specs.Outcome.{Seen}
+use Rattle.input_source.specs.Tape.{Tape}
+use Rattle.input_source.specs.ReadSource.Reach.{GivesBehind, MayGive}
+use Rattle.run_model.specs.declared.status.Status.{Status}
+use Rattle.run_items.specs.Outcome.{Seen}
 use Rattle.roff_tools.specs.Jobs.{RunsJob}
 use Rattle.roff_tools.specs.declared.job.Job.{Job}
 use Rattle.roff_tools.specs.declared.job.Job.TheVariants.{Nroff, Tbl, Both}

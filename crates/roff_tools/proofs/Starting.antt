@@ -1,8 +1,8 @@
 -- What a buffer was given that holds nothing.
 use Rattle.std.proofs.Common.{◌≡◌, ℕ, List, [], Option, None, Some, refl, ap, append-nil}
 use Rattle.std.specs.Io.KnownBytes.{append_known}
-use Rattle.roff_devices.specs.Buffered.{with_held}
-use Rattle.roff_sinks.specs.Sinks.{Sunk}
+use Rattle.cli_devices.specs.Buffered.{with_held}
+use Rattle.page_bytes.specs.Sinks.{Sunk}
 
 append_known-nothing : (contents : Option (List ℕ)) → append_known contents [] ≡ contents
 append_known-nothing None = refl

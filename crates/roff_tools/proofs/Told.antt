@@ -1,6 +1,6 @@
 -- What is told where a run doesn't start.
 use Rattle.std.proofs.Common.{ℕ, List, Result, Ok, Err, inl, inr}
-use Rattle.roff_sinks.specs.Sinks.{Puts, Sunk}
+use Rattle.page_bytes.specs.Sinks.{Puts, Sunk}
 use Rattle.roff_tools.specs.Told.{Tells}
 
 -- what was put was told

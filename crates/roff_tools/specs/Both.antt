@@ -1,10 +1,10 @@
 -- A run of the formatter over a source with the pictures of its tables.
 use Rattle.std.specs.Prelude.{ℕ}
 use Rattle.roff_num.specs.declared.limits.Limits.{Limits}
-use Rattle.roff_run.specs.declared.start.Start.{Start}
-use Rattle.roff_source.specs.Tape.{Tape}
-use Rattle.roff_run.specs.declared.status.Status.{Status}
-use Rattle.roff_interpreter.specs.Outcome.{Outcome, Seen}
+use Rattle.run_model.specs.declared.start.Start.{Start}
+use Rattle.input_source.specs.Tape.{Tape}
+use Rattle.run_model.specs.declared.status.Status.{Status}
+use Rattle.run_items.specs.Outcome.{Outcome, Seen}
 use Rattle.tbl_format.specs.declared.limits.TblLimits.{TblLimits}
 use Rattle.tbl_core.specs.Yields.{at_start, yields}
 

@@ -1,7 +1,7 @@
 -- How the program ends.
 use Rattle.std.specs.Prelude.{ℕ, Bool, true, false}
-use Rattle.roff_run.specs.declared.status.Status.{Status}
-use Rattle.roff_run.specs.declared.status.Status.TheVariants as status
+use Rattle.run_model.specs.declared.status.Status.{Status}
+use Rattle.run_model.specs.declared.status.Status.TheVariants as status
 use Rattle.roff_tools.specs.declared.exit.Exit.{Exit}
 use Rattle.roff_tools.specs.declared.exit.Exit.TheVariants.{Done, NotStarted, DeviceFailed, LimitReached, Aborted}
 

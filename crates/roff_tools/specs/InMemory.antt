@@ -1,13 +1,13 @@
 -- What a run in memory gives of the definition's result.
 use Rattle.std.specs.Prelude.{◌≡◌, ℕ, Some}
 use Rattle.roff_num.specs.declared.limits.Limits.{Limits}
-use Rattle.roff_run.specs.declared.start.Start.{Start}
-use Rattle.roff_run.specs.Results.{output_of, messages_of, status_of}
-use Rattle.roff_source.specs.Tape.{Tape}
-use Rattle.roff_sinks.specs.Devices.{seen}
-use Rattle.roff_devices.specs.Memory.{kept_by}
-use Rattle.roff_devices.specs.WatchedSink.Telling.{IsSound, nothing_told, told_by}
-use Rattle.roff_devices.specs.declared.watched.WatchedSink.{WatchedSink}
+use Rattle.run_model.specs.declared.start.Start.{Start}
+use Rattle.run_model.specs.Results.{output_of, messages_of, status_of}
+use Rattle.input_source.specs.Tape.{Tape}
+use Rattle.page_bytes.specs.Devices.{seen}
+use Rattle.cli_devices.specs.Memory.{kept_by}
+use Rattle.cli_devices.specs.WatchedSink.Telling.{IsSound, nothing_told, told_by}
+use Rattle.cli_devices.specs.declared.watched.WatchedSink.{WatchedSink}
 use Rattle.roff_tools.specs.Jobs.{RunsJob}
 use Rattle.roff_tools.specs.declared.in_memory.Formatted.{Formatted}
 use Rattle.roff_tools.specs.declared.in_memory.Room.{Room}

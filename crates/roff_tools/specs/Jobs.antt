@@ -2,17 +2,17 @@
 use Rattle.std.specs.Prelude.{ℕ, List, Option, Some, None, Result, Ok}
 use Rattle.clap.specs.Words.{Row, Text}
 use Rattle.roff_num.specs.declared.num.Num.{Num}
-use Rattle.roff_source.specs.Tape.{Tape}
-use Rattle.roff_run.specs.declared.status.Status.{Status}
-use Rattle.roff_run.specs.declared.start.Start.{Start}
-use Rattle.roff_interpreter.specs.Outcome.{Runs, Seen}
+use Rattle.input_source.specs.Tape.{Tape}
+use Rattle.run_model.specs.declared.status.Status.{Status}
+use Rattle.run_model.specs.declared.start.Start.{Start}
+use Rattle.run_items.specs.Outcome.{Runs, Seen}
 use Rattle.tbl_run.specs.Outcome.{PutsTables}
-use Rattle.roff_command.specs.CommandLine.{first_page_asked}
-use Rattle.roff_command.specs.PagesAsked.{pages_asked, told_pages}
-use Rattle.roff_command.specs.RegistersAsked.{registers_asked, told}
-use Rattle.roff_command.specs.declared.request.Asked.{Asked}
-use Rattle.roff_command.specs.declared.request.Asked.TheVariants as asked
-use Rattle.roff_command.specs.declared.request.Request.{Request}
+use Rattle.cli_words.specs.CommandLine.{first_page_asked}
+use Rattle.cli_words.specs.PagesAsked.{pages_asked, told_pages}
+use Rattle.cli_words.specs.RegistersAsked.{registers_asked, told}
+use Rattle.cli_words.specs.declared.request.Asked.{Asked}
+use Rattle.cli_words.specs.declared.request.Asked.TheVariants as asked
+use Rattle.cli_words.specs.declared.request.Request.{Request}
 use Rattle.roff_tools.specs.Both.{RunsBoth}
 use Rattle.roff_tools.specs.declared.job.Job.{Job}
 use Rattle.roff_tools.specs.declared.job.Job.TheVariants.{Nroff, Tbl, Both}

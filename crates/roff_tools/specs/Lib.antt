@@ -1,5 +1,5 @@
-pub use Rattle.roff_source.specs.Tape
-pub use Rattle.roff_interpreter.specs.Outcome
+pub use Rattle.input_source.specs.Tape
+pub use Rattle.run_items.specs.Outcome
 pub mod StartFault
 pub mod Told
 pub mod Exit

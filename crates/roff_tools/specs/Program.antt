@@ -1,15 +1,15 @@
 -- What the program does.
 use Rattle.std.specs.Prelude.{◌≡◌, ◌⊎◌, ℕ, false, true, List, Option, Some, None, Result, is_ok}
 use Rattle.clap.specs.Words.{Row, Text, fault_of, subcommand_of, takes}
-use Rattle.roff_source.specs.Tape.{Tape}
-use Rattle.roff_sinks.specs.Sinks.{Sunk}
-use Rattle.roff_sinks.specs.declared.sink.SinkFault.{SinkFault}
-use Rattle.roff_command.specs.CommandLine.{AreMistaken, AskForHelp, asked_by, files_asked, roff_app}
-use Rattle.roff_command.specs.Preparing.{words_prepared}
-use Rattle.roff_command.specs.declared.request.Asked.{Asked}
-use Rattle.roff_devices.specs.Buffered.{Finishes}
+use Rattle.input_source.specs.Tape.{Tape}
+use Rattle.page_bytes.specs.Sinks.{Sunk}
+use Rattle.page_bytes.specs.declared.sink.SinkFault.{SinkFault}
+use Rattle.cli_words.specs.CommandLine.{AreMistaken, AskForHelp, asked_by, files_asked, roff_app}
+use Rattle.cli_words.specs.Preparing.{words_prepared}
+use Rattle.cli_words.specs.declared.request.Asked.{Asked}
+use Rattle.cli_devices.specs.Buffered.{Finishes}
 use Rattle.roff_tools.specs.Exit.{exit_flushed, exit_number}
-use Rattle.roff_run.specs.declared.start.Start.{Start}
+use Rattle.run_model.specs.declared.start.Start.{Start}
 use Rattle.roff_tools.specs.Jobs.{job_of, start_asked}
 use Rattle.roff_tools.specs.RunOver.{Performs}
 use Rattle.roff_tools.specs.declared.exit.Exit.{Exit}
@@ -18,8 +18,8 @@ use Rattle.roff_tools.specs.StartFault.{NamesBad, NamesFirstRefused, NamesWords}
 use Rattle.roff_tools.specs.Told.{Shows, TellsFault, TellsNoMemory, TellsSome}
 use Rattle.roff_tools.specs.declared.fault.StartFault.{StartFault}
 use Rattle.roff_tools.specs.declared.fault.StartFault.TheVariants.{OutOfMemory}
-use Rattle.roff_command.specs.PagesAsked.{pages_asked}
-use Rattle.roff_command.specs.RegistersAsked.{registers_asked}
+use Rattle.cli_words.specs.PagesAsked.{pages_asked}
+use Rattle.cli_words.specs.RegistersAsked.{registers_asked}
 
 -- a command ran over the files of these names as it was asked to, with this given at its start, if one was asked for and what is
 -- given isn't bad

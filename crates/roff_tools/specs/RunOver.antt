@@ -1,17 +1,17 @@
 -- A run of a command over readers.
 use Rattle.std.specs.Prelude.{◌≡◌, ℕ, List, Option}
-use Rattle.roff_source.specs.Tape.{Ending, Tape}
-use Rattle.roff_source.specs.ReadSource.Reach.{CountsFaults, MayGive}
-use Rattle.roff_run.specs.declared.status.Status.{Status}
-use Rattle.roff_sinks.specs.Devices.{seen}
-use Rattle.roff_sinks.specs.Sinks.{Sunk}
+use Rattle.input_source.specs.Tape.{Ending, Tape}
+use Rattle.input_source.specs.ReadSource.Reach.{CountsFaults, MayGive}
+use Rattle.run_model.specs.declared.status.Status.{Status}
+use Rattle.page_bytes.specs.Devices.{seen}
+use Rattle.page_bytes.specs.Sinks.{Sunk}
 use Rattle.roff_tools.specs.Exit.{exit_after}
 use Rattle.roff_tools.specs.Jobs.{RunsJob}
-use Rattle.roff_devices.specs.Inputs.Part.{AreNamed}
-use Rattle.roff_devices.specs.Inputs.Giving.{inputs_give}
+use Rattle.cli_devices.specs.Inputs.Part.{AreNamed}
+use Rattle.cli_devices.specs.Inputs.Giving.{inputs_give}
 use Rattle.roff_tools.specs.declared.exit.Exit.{Exit}
 use Rattle.roff_tools.specs.declared.job.Job.{Job}
-use Rattle.roff_devices.specs.declared.inputs.Part.{Part}
+use Rattle.cli_devices.specs.declared.inputs.Part.{Part}
 
 -- A run over what a reader gives: behind it the bytes that were read and not taken, and the reader, are left. A fault was
 -- answered exactly where that is how the input ended. The sinks tell one thing before it and another behind it.

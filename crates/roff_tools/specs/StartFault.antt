@@ -1,8 +1,8 @@
 -- What a fault of the start names, and what is told of it.
 use Rattle.std.specs.Prelude.{◌≡◌, ℕ, List, [], ◌∷◌, ◌++◌, Result, Ok, Err, codes, string_bytes}
 use Rattle.roff_num.specs.declared.num.Num.{Num}
-use Rattle.roff_devices.specs.Inputs.Part.{AreNamed}
-use Rattle.roff_devices.specs.declared.inputs.Part.{Part}
+use Rattle.cli_devices.specs.Inputs.Part.{AreNamed}
+use Rattle.cli_devices.specs.declared.inputs.Part.{Part}
 use Rattle.roff_tools.specs.declared.fault.StartFault.{StartFault}
 use Rattle.roff_tools.specs.declared.fault.StartFault.TheVariants.{CannotOpen, BadPages, BadRegister, NotText, OutOfMemory}
 

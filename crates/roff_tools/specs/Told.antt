@@ -1,6 +1,6 @@
 -- What is told on standard error where a run doesn't start, and what is shown in place of one.
 use Rattle.std.specs.Prelude.{◌≡◌, ◌⊎◌, ◌<◌, ℕ, List, length}
-use Rattle.roff_sinks.specs.Sinks.{Fails, Sunk, Writes}
+use Rattle.page_bytes.specs.Sinks.{Fails, Sunk, Writes}
 use Rattle.roff_tools.specs.StartFault.{fault_line}
 use Rattle.roff_tools.specs.declared.exit.Exit.{Exit}
 use Rattle.roff_tools.specs.declared.exit.Exit.TheVariants.{Done, DeviceFailed}

@@ -6,10 +6,10 @@ ghost use Rattle.roff_tools.specs.Clauses.{IsBeginning, IsWholeResult, RanInMemo
 ghost use Rattle.roff_tools.specs.Clauses.{output_of, tape_of_bytes};
 
 use crate::{Job, run};
-use roff_devices::{MemSource, WatchedSink};
+use cli_devices::{MemSource, WatchedSink};
+use page_bytes::Bounded;
 use roff_engine::{Start, Status};
 use roff_num::Limits;
-use roff_sinks::Bounded;
 use std::alloc::{AllocError, Global};
 use tbl_core::TblLimits;
 

@@ -3,10 +3,10 @@
 ghost use Rattle.std.specs.Prelude.{◌≡◌, IfOk, OnErr};
 ghost use Rattle.roff_tools.specs.Clauses.{PutsTables, Runs, RunsBoth, RunsJob, seen};
 
+use page_bytes::{ByteSink, MessageSink};
 use roff_engine::{Engine, Start, Status};
 use roff_num::Limits;
 use roff_scan::ByteSource;
-use roff_sinks::{ByteSink, MessageSink};
 use std::alloc::{AllocError, Global};
 use tbl_core::{GatheredSource, TblLimits, TblSource};
 use tbl_run::put_tables;

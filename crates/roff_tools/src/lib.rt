@@ -9,15 +9,15 @@ mod program;
 mod telling;
 mod words;
 
+pub use cli_devices::{MemSink, MemSource};
+pub use cli_words::laws;
 pub use fault::StartFault;
 pub use in_memory::{Formatted, Room, format_in_memory};
 pub use job::{Job, run};
+pub use page_bytes::{BlockWrite, Bounded, ByteSink, MessageSink, SinkFault, StdWrite, WriteSink};
 pub use program::{Finished, main_with};
-pub use roff_command::laws;
-pub use roff_devices::{MemSink, MemSource};
 pub use roff_engine::{Engine, Start, Status};
 pub use roff_num::{Limit, Limits};
 pub use roff_scan::{ByteSource, Note, ReadSource, Taken};
-pub use roff_sinks::{BlockWrite, Bounded, ByteSink, MessageSink, SinkFault, StdWrite, WriteSink};
 pub use tbl_core::TblLimits;
 pub use words::Words;

@@ -19,8 +19,8 @@ use crate::words::Words;
 use crate::{
     BlockWrite, Bounded, ByteSink, Job, MessageSink, ReadSource, SinkFault, Start, WriteSink, run,
 };
-use roff_command::{Asked, Pages, Registers, Request, STANDARD_INPUT, parse_words, prepare_words};
-use roff_devices::{Buffered, Inputs, Part, Readers};
+use cli_devices::{Buffered, Inputs, Part, Readers};
+use cli_words::{Asked, Pages, Registers, Request, STANDARD_INPUT, parse_words, prepare_words};
 use std::alloc::Global;
 use std::convert::AsStr;
 use std::process::ExitCode;

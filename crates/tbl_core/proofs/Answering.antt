@@ -3,8 +3,8 @@ use Rattle.std.proofs.Common.{◌≡◌, ℕ, List, [], ◌∷◌, ◌++◌, Opt
 use Rattle.std.specs.Prelude.{unwrap_or}
 use Rattle.std.specs.Option.{MatchOption}
 use Rattle.roff_num.specs.declared.limit.Limit.{Limit}
-use Rattle.roff_source.specs.declared.source.Taken.{Taken}
-use Rattle.roff_source.specs.Tape.{Item, OneByte, OneNote, Ending, Stopped, Tape, Answer, Answers, Gives, Ends, Took, answer_of, front, items_then, only}
+use Rattle.input_source.specs.declared.source.Taken.{Taken}
+use Rattle.input_source.specs.Tape.{Item, OneByte, OneNote, Ending, Stopped, Tape, Answer, Answers, Gives, Ends, Took, answer_of, front, items_then, only}
 use Rattle.tbl_format.specs.declared.limits.TblLimits.{TblLimits}
 use Rattle.tbl_core.specs.Laws.{AnswersAreGiven}
 use Rattle.tbl_core.specs.Machine.{Now, Standing, Reads, Over, Step, take}

@@ -2,8 +2,8 @@
 use Rattle.std.proofs.Common.{◌≡◌, ◌∙◌, ◌+◌, ◌==◌, not, ℕ, Bool, true, false, List, [], ◌∷◌, ◌++◌, ◌&&◌, Option, Some, None, ap, if◌then◌else◌, length, map, nat_le, nat_lt, refl}
 use Rattle.roff_num.specs.declared.limit.Limit.{Limit}
 use Rattle.roff_num.specs.declared.limit.Limit.TheVariants.{Rows, Columns, Text, Width}
-use Rattle.roff_source.specs.Bytes.{newline}
-use Rattle.roff_source.specs.Tape.{Item, OneByte, OneNote, Ending, Ended, Failed, Stopped}
+use Rattle.input_source.specs.Bytes.{newline}
+use Rattle.input_source.specs.Tape.{Item, OneByte, OneNote, Ending, Ended, Failed, Stopped}
 use Rattle.tbl_options.specs.Messages.{told_items}
 use Rattle.tbl_format.specs.declared.limits.TblLimits.{TblLimits}
 use Rattle.tbl_options.specs.declared.message.Told.{Told}

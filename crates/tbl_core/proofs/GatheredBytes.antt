@@ -2,9 +2,9 @@
 use Rattle.std.proofs.Common.{◌≡◌, ◌⊎◌, inl, inr, ◌∙◌, ℕ, ◌+◌, ◌<◌, ◌≤◌, List, [], ◌∷◌, ◌++◌, length, map, take, drop, get_or, Option, Some, None, IfSome, ap, append_assoc, arith, refl, sym, subst, length-drop, vec_capacity, vec_len}
 use Rattle.std.proofs.Math.Bridge.{le_prop}
 use Rattle.std.proofs.lemmas.List.{drop-append-le, drop-drop, drop_all, drop_more, length-map, map-append, take-append-drop}
-use Rattle.roff_source.specs.declared.source.ByteSource as byte_source
-use Rattle.roff_source.specs.BlockRead.{SomeTape}
-use Rattle.roff_source.specs.Tape.{Item, OneByte, Tape, Answer, Answers, Gives, Took, items_then}
+use Rattle.input_source.specs.declared.source.ByteSource as byte_source
+use Rattle.input_source.specs.BlockRead.{SomeTape}
+use Rattle.input_source.specs.Tape.{Item, OneByte, Tape, Answer, Answers, Gives, Took, items_then}
 use Rattle.tbl_format.specs.Parts.{IsFront}
 use Rattle.tbl_core.specs.declared.gathered.GatheredSource.{GatheredSource}
 use Rattle.tbl_core.specs.Gathered.{AreGathered, GathersOn, KeepsGiven, StandReady, bytes_first, bytes_or, gathered_gives, gathered_ready, inner_of, left_of, tables_of, with_bytes}

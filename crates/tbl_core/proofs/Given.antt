@@ -2,7 +2,7 @@
 use Rattle.std.proofs.Common.{◌≡◌, ℕ, zero, suc, ◌≤◌, Bool, true, false, List, [], ◌∷◌, Option, length, length-take, map, nat_le, take, drop, refl, sym, ap, ◌∙◌, subst, arith}
 use Rattle.std.proofs.lemmas.Bool.Decides.{nat_tests}
 use Rattle.std.proofs.lemmas.List.{drop-map, drop_all, length-map, length-take-le, take-map, take-take, take_all}
-use Rattle.roff_source.specs.Tape.{Item, OneByte, OneNote, Tape}
+use Rattle.input_source.specs.Tape.{Item, OneByte, OneNote, Tape}
 use Rattle.tbl_format.specs.declared.limits.TblLimits.{TblLimits}
 use Rattle.tbl_options.specs.declared.message.Told.{Told}
 use Rattle.tbl_format.specs.Parts.{IsFront}

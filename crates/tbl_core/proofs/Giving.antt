@@ -1,7 +1,7 @@
 -- What may be given behind each turn, over what the input may give.
 use Rattle.std.proofs.Common.{◌≡◌, ℕ, List, [], ◌∷◌, Option, Some, None, length, nat_lt, subst, refl, sym, ap, ◌∙◌, Bool, true, false}
 use Rattle.roff_num.specs.declared.limit.Limit.{Limit}
-use Rattle.roff_source.specs.Tape.{Item, OneByte, OneNote, Ending, Ended, Failed, Stopped, Tape, Answer, Answers, Gives, Ends, only, items_then, answer_then}
+use Rattle.input_source.specs.Tape.{Item, OneByte, OneNote, Ending, Ended, Failed, Stopped, Tape, Answer, Answers, Gives, Ends, only, items_then, answer_then}
 use Rattle.tbl_format.specs.declared.limits.TblLimits.{TblLimits}
 use Rattle.tbl_core.specs.declared.place.Count.{Count}
 use Rattle.tbl_core.specs.Lines.{is_name}

@@ -4,8 +4,8 @@ use Rattle.std.proofs.Common.{nat_le, nat_lt, length, if◌then◌else◌, refl,
 use Rattle.std.proofs.lemmas.Bool.Decides.{nat_tests}
 use Rattle.roff_num.specs.declared.limit.Limit.{Limit}
 use Rattle.roff_num.specs.declared.limit.Limit.TheVariants.{Rows, Columns, Text, TblBytes, Width}
-use Rattle.roff_source.specs.Bytes.{newline}
-use Rattle.roff_source.specs.Tape.{Item, OneByte, OneNote, Ending, Ended, Failed, Stopped, Tape, items_then}
+use Rattle.input_source.specs.Bytes.{newline}
+use Rattle.input_source.specs.Tape.{Item, OneByte, OneNote, Ending, Ended, Failed, Stopped, Tape, items_then}
 use Rattle.tbl_format.specs.declared.limits.TblLimits.{TblLimits}
 use Rattle.tbl_options.specs.declared.message.Told.{Told}
 use Rattle.tbl_options.specs.Messages.{told_item, told_items}

@@ -4,9 +4,9 @@ use Rattle.std.proofs.lemmas.Bool.Decides.{nat_tests}
 use Rattle.std.proofs.lemmas.List.{length-append}
 use Rattle.roff_num.specs.declared.limit.Limit.{Limit}
 use Rattle.roff_num.specs.declared.limit.Limit.TheVariants.{Text, TblBytes}
-use Rattle.roff_source.specs.Bytes.{newline}
-use Rattle.roff_source.specs.declared.source.Taken.{Taken}
-use Rattle.roff_source.specs.Tape.{Item, OneByte, OneNote, Ending, Ended, Failed, Stopped, Gives, Ends, answer_of}
+use Rattle.input_source.specs.Bytes.{newline}
+use Rattle.input_source.specs.declared.source.Taken.{Taken}
+use Rattle.input_source.specs.Tape.{Item, OneByte, OneNote, Ending, Ended, Failed, Stopped, Gives, Ends, answer_of}
 use Rattle.std.specs.Prelude.{unwrap_or}
 use Rattle.std.specs.Option.{MatchOption}
 use Rattle.tbl_format.specs.declared.limits.TblLimits.{TblLimits}

@@ -3,8 +3,8 @@ use Rattle.std.proofs.Common.{◌≡◌, ℕ, List, [], ◌∷◌, ◌++◌, Boo
 use Rattle.std.proofs.Common.{if◌then◌else◌, IfSome, refl, sym, ap, ◌∙◌, arith, append-nil}
 use Rattle.std.specs.Option.{MatchOption}
 use Rattle.roff_num.specs.declared.limit.Limit.{Limit}
-use Rattle.roff_source.specs.Tape.{Item, OneByte, answer_of}
-use Rattle.roff_source.specs.declared.source.Taken.{Taken}
+use Rattle.input_source.specs.Tape.{Item, OneByte, answer_of}
+use Rattle.input_source.specs.declared.source.Taken.{Taken}
 use Rattle.tbl_format.specs.declared.limits.TblLimits.{TblLimits}
 use Rattle.tbl_options.specs.declared.message.Told.{Told}
 use Rattle.tbl_core.specs.Machine.{limit_told, own_told, stops}

@@ -3,7 +3,7 @@ use Rattle.std.proofs.Common.{◌≡◌, ℕ, ◌+◌, ◌-◌, ◌<◌, List, [
 use Rattle.std.proofs.lemmas.Bool.Decides.{nat_tests}
 use Rattle.roff_num.specs.declared.limit.Limit.{Limit}
 use Rattle.roff_num.specs.declared.limit.Limit.TheVariants.{TblBytes}
-use Rattle.roff_source.specs.Tape.{Item, OneByte, Ending, Ended, Failed, Stopped}
+use Rattle.input_source.specs.Tape.{Item, OneByte, Ending, Ended, Failed, Stopped}
 use Rattle.tbl_format.specs.declared.limits.TblLimits.{TblLimits}
 use Rattle.tbl_options.specs.declared.message.Told.{Told}
 use Rattle.tbl_core.specs.declared.place.Count.{Count}

@@ -3,11 +3,11 @@ use Rattle.std.proofs.Common.{◌≡◌, ◌==◌, ◌&&◌, ℕ, ◌+◌, ◌-�
 use Rattle.std.proofs.Common.{List, [], ◌∷◌, ◌++◌, Option, None, Some, length, map, take as take_front, refl, sym, ap, ◌∙◌, subst, arith, append_assoc, length-append, length-take}
 use Rattle.std.specs.List.{take_while}
 use Rattle.std.proofs.lemmas.Bool.Decides.{nat_tests}
-use Rattle.roff_source.proofs.PlainBytes.{take_while-plain}
+use Rattle.input_source.proofs.PlainBytes.{take_while-plain}
 use Rattle.roff_num.specs.declared.limit.Limit.{Limit}
 use Rattle.roff_num.specs.declared.limit.Limit.TheVariants.{Rows, Columns, Text, TblBytes}
-use Rattle.roff_source.specs.Bytes.{newline}
-use Rattle.roff_source.specs.Tape.{Item, OneByte, Ending, Tape, Took, items_then}
+use Rattle.input_source.specs.Bytes.{newline}
+use Rattle.input_source.specs.Tape.{Item, OneByte, Ending, Tape, Took, items_then}
 use Rattle.tbl_format.specs.declared.limits.TblLimits.{TblLimits}
 use Rattle.tbl_core.specs.declared.place.Count.{Count}
 use Rattle.tbl_core.specs.declared.place.Front.TheVariants.{Nothing, Other}

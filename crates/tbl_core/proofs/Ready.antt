@@ -4,8 +4,8 @@ use Rattle.std.proofs.Common.{List, [], ◌∷◌, ◌++◌, None, length, map, 
 use Rattle.std.specs.List.{prefix_len, take_while}
 use Rattle.std.proofs.lemmas.Bool.Decides.{nat_tests}
 use Rattle.std.proofs.lemmas.List.{take-take, length-take-le}
-use Rattle.roff_source.specs.Tape.{Item, OneByte, Ending, Tape, Took, items_then}
-use Rattle.roff_source.proofs.PlainBytes.{take_while-plain}
+use Rattle.input_source.specs.Tape.{Item, OneByte, Ending, Tape, Took, items_then}
+use Rattle.input_source.proofs.PlainBytes.{take_while-plain}
 use Rattle.roff_num.specs.declared.limit.Limit.TheVariants.{TblBytes}
 use Rattle.tbl_format.specs.declared.limits.TblLimits.{TblLimits}
 use Rattle.tbl_core.specs.declared.place.Count.{Count}
@@ -19,10 +19,10 @@ use Rattle.tbl_core.specs.Tables.{IsByteGiven, IsGiven, TablesState, stopped_by}
 use Rattle.tbl_core.specs.NotesLeft.{noted}
 use Rattle.std.proofs.Common.{Option, Some, IfSome}
 use Rattle.std.specs.Option.{MatchOption}
-use Rattle.roff_source.specs.Tape.{Answers, Gives}
+use Rattle.input_source.specs.Tape.{Answers, Gives}
 use Rattle.tbl_core.specs.Source.{IsAlive, IsSourced}
 use Rattle.tbl_core.proofs.Turning.{alive_given, given_now, idle_given}
-use Rattle.roff_source.specs.declared.source.Taken.TheVariants.{Byte}
+use Rattle.input_source.specs.declared.source.Taken.TheVariants.{Byte}
 use Rattle.tbl_core.specs.Yields.{At, MayGive, yields, yields_from}
 use Rattle.tbl_core.proofs.Answering.{pending_takes}
 use Rattle.tbl_core.proofs.Passing.{before-few, before-first, before-stays}

@@ -3,8 +3,8 @@ use Rattle.std.proofs.Common.{◌≡◌, ℕ, Bool, true, List, [], ◌∷◌, �
 use Rattle.std.specs.Prelude.{unwrap_or}
 use Rattle.std.specs.Option.{MatchOption}
 use Rattle.roff_num.specs.declared.limit.Limit.{Limit}
-use Rattle.roff_source.specs.declared.source.Taken.{Taken}
-use Rattle.roff_source.specs.Tape.{Item, OneByte, Ending, Stopped, Tape, Answers, Gives, Ends, answer_of}
+use Rattle.input_source.specs.declared.source.Taken.{Taken}
+use Rattle.input_source.specs.Tape.{Item, OneByte, Ending, Stopped, Tape, Answers, Gives, Ends, answer_of}
 use Rattle.tbl_format.specs.declared.limits.TblLimits.{TblLimits}
 use Rattle.tbl_core.specs.Machine.{Now, Standing, Reads, Over, Step}
 use Rattle.tbl_core.specs.Source.{IsAlive, NotAsked, WasAsked}

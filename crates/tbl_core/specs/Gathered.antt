@@ -1,8 +1,8 @@
 -- A source of which bytes are gathered, and what it may give.
 use Rattle.std.specs.Prelude.{◌≡◌, ℕ, ◌<◌, ◌≤◌, true, List, [], ◌∷◌, ◌++◌, length, map, drop, refl}
-use Rattle.roff_source.specs.declared.source.ByteSource as byte_source
-use Rattle.roff_source.specs.BlockRead.{SomeTape}
-use Rattle.roff_source.specs.Tape.{Tape, OneByte}
+use Rattle.input_source.specs.declared.source.ByteSource as byte_source
+use Rattle.input_source.specs.BlockRead.{SomeTape}
+use Rattle.input_source.specs.Tape.{Tape, OneByte}
 use Rattle.tbl_core.specs.declared.gathered.GatheredSource.{GatheredSource}
 use Rattle.tbl_core.specs.NotesLeft.{notes_left}
 use Rattle.tbl_core.specs.Source.{source_ready}

@@ -1,7 +1,7 @@
 -- What holds of tables whatever the input is.
 use Rattle.std.specs.Prelude.{◌≡◌, ℕ, ◌≤◌, List, [], ◌∷◌, ◌++◌}
 use Rattle.roff_num.specs.declared.limit.Limit.{Limit}
-use Rattle.roff_source.specs.Tape.{Item, Ending, Failed, Stopped, Tape, front}
+use Rattle.input_source.specs.Tape.{Item, Ending, Failed, Stopped, Tape, front}
 use Rattle.tbl_format.specs.declared.limits.TblLimits.{TblLimits}
 use Rattle.tbl_core.specs.Machine.{Now, Standing, Reads, limit_told, told_so_far}
 use Rattle.tbl_options.specs.Messages.{told_item, told_items}

@@ -1,6 +1,6 @@
 -- How a table's beginning and end are known (Lesk, "Input commands"), and how lines are counted.
 use Rattle.std.specs.Prelude.{ℕ, ◌+◌, Bool, true, false, ◌||◌, ◌==◌, if◌then◌else◌}
-use Rattle.roff_source.specs.Bytes.{newline, blank, tab, dot}
+use Rattle.input_source.specs.Bytes.{newline, blank, tab, dot}
 use Rattle.tbl_core.specs.declared.place.Front.{Front}
 use Rattle.tbl_core.specs.declared.place.Front.TheVariants.{Nothing, Dot, Letter, Name, Other}
 use Rattle.tbl_core.specs.declared.place.Count.{Count}

@@ -2,8 +2,8 @@
 use Rattle.std.specs.Prelude.{ℕ, ◌+◌, Bool, true, false, ◌&&◌, not, ◌==◌, nat_lt, nat_le, if◌then◌else◌, List, [], ◌∷◌, ◌++◌, map, length, Option, Some, None}
 use Rattle.roff_num.specs.declared.limit.Limit.{Limit}
 use Rattle.roff_num.specs.declared.limit.Limit.TheVariants.{Rows, Columns, Text, TblBytes}
-use Rattle.roff_source.specs.Bytes.{newline}
-use Rattle.roff_source.specs.Tape.{Item, OneByte}
+use Rattle.input_source.specs.Bytes.{newline}
+use Rattle.input_source.specs.Tape.{Item, OneByte}
 use Rattle.tbl_format.specs.declared.limits.TblLimits.{TblLimits}
 use Rattle.tbl_options.specs.declared.message.Message.TheVariants.{LimitReached, TableNotEnded}
 use Rattle.tbl_options.specs.declared.message.Told.{Told}

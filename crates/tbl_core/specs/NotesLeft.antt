@@ -1,6 +1,6 @@
 -- How many messages may still come.
 use Rattle.std.specs.Prelude.{ℕ, Bool, true, false, ◌+◌, ◌-◌, ◌*◌, List, [], ◌∷◌, length, if◌then◌else◌}
-use Rattle.roff_source.specs.Tape.{Item, OneByte, OneNote, Answer, Gives, Ends}
+use Rattle.input_source.specs.Tape.{Item, OneByte, OneNote, Answer, Gives, Ends}
 use Rattle.tbl_format.specs.declared.limits.TblLimits.{TblLimits}
 use Rattle.tbl_core.specs.Lines.{is_name}
 use Rattle.tbl_core.specs.Machine.{Place, Outside, RestOfStart, Inside, Standing, Reads, Over}

@@ -1,7 +1,7 @@
 -- A source over a source, and what it may give.
 use Rattle.std.specs.Prelude.{◌≡◌, ℕ, Bool, true, List, [], if◌then◌else◌, refl}
-use Rattle.roff_source.specs.BlockRead.{SomeTape}
-use Rattle.roff_source.specs.Tape.{Tape}
+use Rattle.input_source.specs.BlockRead.{SomeTape}
+use Rattle.input_source.specs.Tape.{Tape}
 use Rattle.tbl_core.specs.NotesLeft.{noted}
 use Rattle.tbl_core.specs.Passing.{passing}
 use Rattle.tbl_core.specs.Tables.{TablesState}

@@ -1,6 +1,6 @@
 -- What is answered next, by what an input gives and how far the run has come.
 use Rattle.std.specs.Prelude.{◌≡◌, ℕ, List, [], ◌∷◌}
-use Rattle.roff_source.specs.Tape.{Item, OneByte, OneNote, Ending, Stopped, Tape, Answer, Gives, Ends, Took, items_then}
+use Rattle.input_source.specs.Tape.{Item, OneByte, OneNote, Ending, Stopped, Tape, Answer, Gives, Ends, Took, items_then}
 use Rattle.tbl_format.specs.declared.limits.TblLimits.{TblLimits}
 use Rattle.tbl_core.specs.Machine.{Standing, Reads, Over, take}
 use Rattle.tbl_core.specs.Yields.{At, at_ending}

@@ -1,9 +1,9 @@
 -- The machine, as its calls make its steps.
 use Rattle.std.specs.Prelude.{◌≡◌, ℕ, ◌+◌, ◌<◌, ◌≤◌, ◌==◌, false, List, [], ◌∷◌, ◌++◌, map, length, drop, Option, Some, None, option_to_list, if◌then◌else◌}
 use Rattle.roff_num.specs.declared.limit.Limit.{Limit}
-use Rattle.roff_source.specs.Bytes.{newline}
-use Rattle.roff_source.specs.Tape.{Item, OneByte, Ending, Gives, answer_of}
-use Rattle.roff_source.specs.declared.source.Taken.{Taken}
+use Rattle.input_source.specs.Bytes.{newline}
+use Rattle.input_source.specs.Tape.{Item, OneByte, Ending, Gives, answer_of}
+use Rattle.input_source.specs.declared.source.Taken.{Taken}
 use Rattle.tbl_format.specs.declared.limits.TblLimits.{TblLimits}
 use Rattle.tbl_options.specs.declared.message.Told.{Told}
 use Rattle.tbl_core.specs.declared.place.Count.{Count}

@@ -1,6 +1,6 @@
 -- What is given for a whole input.
 use Rattle.std.specs.Prelude.{◌≡◌, ℕ, List, [], ◌∷◌}
-use Rattle.roff_source.specs.Tape.{Item, OneByte, OneNote, Ending, Ended, Failed, Stopped, Tape, only, items_then}
+use Rattle.input_source.specs.Tape.{Item, OneByte, OneNote, Ending, Ended, Failed, Stopped, Tape, only, items_then}
 use Rattle.tbl_format.specs.declared.limits.TblLimits.{TblLimits}
 use Rattle.tbl_core.specs.Lines.{nothing_counted}
 use Rattle.tbl_core.specs.Machine.{Now, Standing, Reads, Over, Step, take, at_end, at_fault, at_rest}

@@ -3,12 +3,13 @@
 ghost use Rattle.std.specs.Prelude.{◌≡◌, ◌+◌, ◌<◌, ◌≤◌, ◌++◌, [], length, vec_capacity, vec_len};
 ghost use Rattle.std.specs.Prelude.{IfErr, IfOk, false, true};
 ghost use Rattle.roff_num.specs.Faults.{Rises};
-ghost use Rattle.roff_source.specs.Tape.{Answers, Ends, Failed, Gives, OneByte, OneNote, answer_of};
+ghost use Rattle.input_source.specs.Tape.{Answers, Ends, Failed, Gives, OneByte, OneNote};
+ghost use Rattle.input_source.specs.Tape.{answer_of};
 ghost use Rattle.tbl_core.specs.NotesLeft.{gives_byte, notes_left};
 ghost use Rattle.tbl_core.specs.Yields.{at_start};
 
 use crate::source::TblSource;
-use roff_source::{ByteSource, Taken, at_most};
+use input_source::{ByteSource, Taken, at_most};
 use std::alloc::{AllocError, Global};
 use tbl_format::limits::TblLimits;
 

@@ -2,7 +2,8 @@
 
 ghost use Rattle.std.specs.Prelude.{◌≡◌, ◌+◌, ◌<◌, ◌≤◌, [], false, true, IfErr, IfOk, IfSome, None};
 ghost use Rattle.std.specs.Prelude.{length, map};
-ghost use Rattle.roff_source.specs.Tape.{Answers, Ends, Failed, Gives, OneByte, OneNote, answer_of};
+ghost use Rattle.input_source.specs.Tape.{Answers, Ends, Failed, Gives, OneByte, OneNote};
+ghost use Rattle.input_source.specs.Tape.{answer_of};
 ghost use Rattle.roff_num.specs.Faults.{Rises};
 ghost use Rattle.tbl_format.specs.Parts.{IsFront};
 ghost use Rattle.tbl_core.specs.NotesLeft.{gives_byte, noted};
@@ -10,7 +11,7 @@ ghost use Rattle.tbl_core.specs.NotesLeft.{gives_byte, noted};
 mod reading;
 
 use crate::tables::Tables;
-use roff_source::{ByteSource, Taken, at_most};
+use input_source::{ByteSource, Taken, at_most};
 use std::alloc::{AllocError, Global};
 use std::marker::Model;
 use tbl_format::limits::TblLimits;

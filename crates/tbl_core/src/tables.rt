@@ -3,7 +3,7 @@
 ghost use Rattle.std.specs.Prelude.{◌≡◌, ◌+◌, ◌<◌, ◌≤◌, ◌++◌, [], true, Some, IfOk, IfSome};
 ghost use Rattle.std.specs.Prelude.{option_to_list, length, map};
 ghost use Rattle.std.specs.Option.{MatchOption};
-ghost use Rattle.roff_source.specs.Tape.{Ended, Failed, OneByte, answer_of};
+ghost use Rattle.input_source.specs.Tape.{Ended, Failed, OneByte, answer_of};
 ghost use Rattle.tbl_core.specs.Machine.{limit_inside, not_ended, own_told, reading_on};
 ghost use Rattle.tbl_core.specs.Passing.{passes_next, reads_outside};
 ghost use Rattle.tbl_core.specs.NotesLeft.{gives_byte, noted};
@@ -21,9 +21,9 @@ mod passing;
 mod reading;
 
 use crate::place::{Count, Front, Position, ends_name};
+use input_source::Taken;
 use limits_met::{limit_met, not_ended, own_told, position_behind};
 use roff_num::Limit;
-use roff_source::Taken;
 use std::alloc::{AllocError, Global};
 use std::marker::Model;
 use tbl_format::limits::TblLimits;

@@ -3,7 +3,7 @@ use Rattle.std.proofs.Common.{◌≡◌, ◌≢◌, ◌==◌, ℕ, suc, ◌+◌,
 use Rattle.std.specs.Prelude.{All, is_some, option_map}
 use Rattle.std.specs.List.{slice_range}
 use Rattle.std.proofs.lemmas.List.{map-append}
-use Rattle.roff_source.specs.Bytes.{newline}
+use Rattle.input_source.specs.Bytes.{newline}
 use Rattle.tbl_data.specs.DataRead.{fields_with_block, with_text}
 use Rattle.tbl_data.specs.LineTaken.{LineLies, Makes, contents_in, left_from, row_begun, text_made}
 use Rattle.tbl_data.specs.OpenBlocks.{had_surplus}

@@ -9,7 +9,7 @@ use Rattle.tbl_options.specs.declared.message.Told.{Told}
 use Rattle.tbl_kept.specs.Joined.{line_at}
 use Rattle.tbl_kept.specs.TableNotes.{KeptNotes}
 use Rattle.memchr.specs.Find.{IsFirstByte, Nowhere, Passes, is_byte2}
-use Rattle.roff_source.specs.Bytes.{blank, is_dropped, is_silent, tab}
+use Rattle.input_source.specs.Bytes.{blank, is_dropped, is_silent, tab}
 use Rattle.tbl_text.proofs.ItemLists.{items-byte}
 use Rattle.tbl_text.specs.Items.{Item, byte_what, items, note}
 use Rattle.tbl_text.specs.declared.items.What.TheVariants.{Blank, Byte, Dropped, NotMeasured as NotMeasuredItem, Nothing}

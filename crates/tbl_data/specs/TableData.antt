@@ -1,6 +1,6 @@
 -- What is kept of the data of a table while it is read (Lesk, "Tbl": Data).
 use Rattle.std.specs.Prelude.{◌≡◌, ℕ, ◌+◌, ◌-◌, ◌≤◌, ◌<◌, List, [], ◌∷◌, drop, length, map, get_or, Option, None, Some, false}
-use Rattle.roff_source.specs.Bytes.{newline}
+use Rattle.input_source.specs.Bytes.{newline}
 use Rattle.std.specs.List.{AllByRecursion}
 use Rattle.tbl_data.specs.TableRead.{RowBegun, TableRead}
 use Rattle.tbl_data.specs.declared.phase.Phase.{Phase}

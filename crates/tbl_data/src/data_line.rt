@@ -8,8 +8,8 @@ ghost use Rattle.tbl_kept.specs.TableText.{block_of};
 ghost use Rattle.tbl_text.specs.Items.{items};
 ghost use Rattle.tbl_text.specs.Measuring.{notes_from};
 
+use input_escapes::OpenEscapes;
 use memchr::memchr2;
-use roff_escape::OpenEscapes;
 use tbl_kept::table_notes::TableNotes;
 use tbl_kept::table_text::TableText;
 use tbl_options::notes::{Cause, KeptNote};

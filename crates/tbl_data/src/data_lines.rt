@@ -3,7 +3,7 @@
 
 ghost use Rattle.std.specs.Prelude.{◌≡◌, ◌≢◌, ◌==◌, ℕ, ◌+◌, ◌-◌, ◌<◌, ◌≤◌, ◌^◌, All, List, []};
 ghost use Rattle.std.specs.Prelude.{false, length, map, slice_range};
-ghost use Rattle.roff_source.specs.Bytes.{newline};
+ghost use Rattle.input_source.specs.Bytes.{newline};
 ghost use Rattle.tbl_data.specs.DataRead.{closed_block, with_whole};
 ghost use Rattle.tbl_data.specs.LineTaken.{HasRoom, LineLies, Makes, block_line_made, left_from};
 ghost use Rattle.tbl_data.specs.LineTaken.{cells_next, made_by, text_made};

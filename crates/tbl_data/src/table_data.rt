@@ -3,7 +3,7 @@
 ghost use Rattle.std.specs.Prelude.{◌≡◌};
 ghost use Rattle.tbl_data.specs.OpenBlocks.{had_surplus, is_open};
 
-use roff_escape::OpenEscapes;
+use input_escapes::OpenEscapes;
 use tbl_format::format_rows::FormatRows;
 use tbl_kept::rows::TableRows;
 use tbl_kept::table_notes::TableNotes;

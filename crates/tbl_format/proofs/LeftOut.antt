@@ -1,7 +1,7 @@
 -- What is left out of a line of a format, byte by byte.
 use Rattle.std.proofs.Common.{◌≡◌, ℕ, ◌+◌, ◌<◌, ◌≤◌, Bool, true, false, List, [], ◌∷◌, ◌++◌, Option, Some, None, length, map, take, drop, get_or, refl, sym, ap, ◌∙◌, arith, append_assoc, length-append, if◌then◌else◌}
 use Rattle.std.proofs.lemmas.List.{at_drop_more, map-append, take_more}
-use Rattle.roff_source.specs.Bytes.{newline}
+use Rattle.input_source.specs.Bytes.{newline}
 use Rattle.tbl_format.specs.Format.{Format, format_byte, format_read, if_letter, left_out, left_out_at, left_out_behind, letters_left_out}
 use Rattle.tbl_format.specs.FormatSteps.{again, step, step_of, widening, width_of}
 use Rattle.tbl_options.specs.Notes.{left_out_message, left_out_note, told_at, told_of_all}

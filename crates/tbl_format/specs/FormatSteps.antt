@@ -5,7 +5,7 @@ use Rattle.roff_num.specs.Rounding.{rounded}
 use Rattle.roff_num.specs.declared.num.Num.{Num}
 use Rattle.roff_num.specs.declared.num.NumFault.{NumFault}
 use Rattle.roff_num.specs.declared.num.Scale.TheVariants.{Columns}
-use Rattle.roff_source.specs.Bytes.{newline, dot, is_digit}
+use Rattle.input_source.specs.Bytes.{newline, dot, is_digit}
 use Rattle.tbl_format.specs.Keys.{is_between, is_one_of, key_of, separates_rows}
 use Rattle.tbl_options.specs.Options.{closing, opening}
 use Rattle.tbl_format.specs.declared.format.FormatPlace.TheVariants.{AtEnd, AtFault, InRows}

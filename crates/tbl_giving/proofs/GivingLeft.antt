@@ -2,7 +2,7 @@
 use Rattle.std.proofs.Common.{◌≡◌, ℕ, ◌+◌, ◌-◌, ◌^◌, ◌<◌, ◌≤◌, Bool, true, false, List, [], ◌∷◌, ◌++◌, length, take, drop, refl, sym, ap, subst, ◌∙◌, arith, append_assoc, ◌==◌, if◌then◌else◌, ne_eqb}
 use Rattle.std.specs.List.{slice_range}
 use Rattle.std.proofs.lemmas.List.{append-nil, drop_all, length-take, take-append-le}
-use Rattle.roff_source.specs.Bytes.{backslash, newline}
+use Rattle.input_source.specs.Bytes.{backslash, newline}
 use Rattle.tbl_format.specs.Format.{has_some}
 use Rattle.tbl_format.specs.Parts.{IsFront}
 use Rattle.tbl_format.specs.FormatRows.{KeptFormat}

@@ -1,7 +1,7 @@
 -- The steps of a walk over the lines of a picture with cells of several rows.
 use Rattle.std.proofs.Common.{◌≡◌, ℕ, suc, ◌+◌, ◌<◌, Bool, true, false, List, [], ◌∷◌, ◌++◌, drop, length, refl, sym, ap, subst, ◌∙◌, arith, append_assoc, length-append}
 use Rattle.std.specs.List.{slice_range}
-use Rattle.roff_source.specs.Bytes.{newline}
+use Rattle.input_source.specs.Bytes.{newline}
 use Rattle.tbl_format.specs.Format.{FormatRow}
 use Rattle.tbl_kept.specs.Rows.{Command, KeptElement, KeptRows, heights_of}
 use Rattle.tbl_layout.specs.Entries.{Command as OneCommand, Element}

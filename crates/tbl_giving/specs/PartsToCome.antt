@@ -1,6 +1,6 @@
 -- A table's picture part by part: each of its lines, and each command between them (Lesk, "Tbl": Formatting).
 use Rattle.std.specs.Prelude.{ℕ, zero, suc, ◌+◌, ◌-◌, ◌<◌, List, [], ◌∷◌, ◌++◌, drop, get_or, length, map}
-use Rattle.roff_source.specs.Bytes.{newline}
+use Rattle.input_source.specs.Bytes.{newline}
 use Rattle.tbl_layout.specs.Entries.{Command, Content, Element, Row, Rule}
 use Rattle.tbl_format.specs.Format.{FormatRow}
 use Rattle.tbl_lines.specs.CellsLeft.{Left, bars_at_end, behind_line, cells_next}

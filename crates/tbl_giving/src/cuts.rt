@@ -22,7 +22,7 @@ ghost use Rattle.tbl_tall.specs.LinesNext.{CanLayRow, CanLayRule};
 ghost use Rattle.tbl_tall.specs.LinesOver.{heights_kept};
 ghost use Rattle.tbl_tall.specs.TallRows.{RowEnded, RowStands, RuleComes, SignIs};
 
-use roff_escape::OpenEscapes;
+use input_escapes::OpenEscapes;
 use tbl_format::format_rows::FormatRows;
 use tbl_kept::rows::{Lent, TableRows};
 use tbl_layout::bars::Bars;

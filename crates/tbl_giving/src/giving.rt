@@ -18,7 +18,7 @@ mod refilling;
 
 use crate::frame::{FRAME, write_frame};
 use crate::line_by_line::LineByLine;
-use roff_escape::OpenEscapes;
+use input_escapes::OpenEscapes;
 use std::alloc::{AllocError, Global};
 use std::marker::Model;
 use tbl_format::format_rows::FormatRows;

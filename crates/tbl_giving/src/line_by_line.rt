@@ -14,7 +14,7 @@ ghost use Rattle.tbl_lines.specs.PictureLines.{Sheet};
 mod on_lines;
 
 use crate::cuts::{Drawn, count_cut};
-use roff_escape::OpenEscapes;
+use input_escapes::OpenEscapes;
 use std::alloc::{AllocError, Global};
 use std::marker::Model;
 use tbl_format::format_rows::FormatRows;

@@ -5,7 +5,7 @@ use Rattle.std.specs.List.{slice_range}
 use Rattle.std.proofs.lemmas.Bool.Decides.{nat_tests}
 use Rattle.std.proofs.lemmas.Bool.{eqb-true}
 use Rattle.std.proofs.lemmas.List.{drop-append-le, drop_all, length-take-le, take-append-drop, take-append-le, take_all}
-use Rattle.roff_source.specs.Bytes.{newline, backslash}
+use Rattle.input_source.specs.Bytes.{newline, backslash}
 use Rattle.tbl_kept.specs.Joined.{Joined, RiseWithin, behind_joined, ends_joined, goes_on, unjoined}
 use Rattle.tbl_kept.specs.TableText.{KeptText, Lies, ends_of, pending_of, text_closed, text_joined, text_of_block, text_whole}
 use Rattle.tbl_kept.specs.declared.table_text.Joint.{Joint}

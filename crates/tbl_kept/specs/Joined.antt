@@ -1,7 +1,7 @@
 -- Lines of the data that go on in the next: how they are joined, and how they were read.
 use Rattle.std.specs.Prelude.{ℕ, ◌≤◌, Bool, false, List, [], ◌∷◌, ◌++◌, drop, nat_lt, Option, None, Some, if◌then◌else◌, ◌==◌}
 use Rattle.std.specs.List.{slice_range}
-use Rattle.roff_source.specs.Bytes.{newline, backslash}
+use Rattle.input_source.specs.Bytes.{newline, backslash}
 use Rattle.tbl_kept.specs.declared.table_text.Joint.{Joint}
 
 -- a line of the data that goes on: its bytes, and where each line of the input ended of which it was joined, with its number

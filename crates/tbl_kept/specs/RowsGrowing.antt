@@ -1,7 +1,7 @@
 -- The rows of a table, as they grow by bytes and lines.
 use Rattle.std.specs.Prelude.{◌≡◌, ℕ, ◌+◌, ◌<◌, ◌≤◌, false, List, [], ◌∷◌, ◌++◌, get_or, length, All, ◌==◌}
 use Rattle.std.specs.List.{slice_range}
-use Rattle.roff_source.specs.Bytes.{newline}
+use Rattle.input_source.specs.Bytes.{newline}
 use Rattle.tbl_layout.specs.Entries.{Block, Content}
 use Rattle.tbl_layout.specs.KeptEntries.{not_filled}
 use Rattle.tbl_layout.specs.declared.entry.Entry.{Entry}

@@ -1,7 +1,7 @@
 -- The bytes of a table, as they are kept while they are read.
 use Rattle.std.specs.Prelude.{◌≡◌, ℕ, ◌+◌, ◌-◌, ◌*◌, ◌≤◌, ◌<◌, List, [], ◌∷◌, ◌++◌, length, take, drop, nat_lt, if◌then◌else◌, Option, None, Some, vec_capacity}
 use Rattle.std.specs.List.{slice_range}
-use Rattle.roff_source.specs.Bytes.{newline}
+use Rattle.input_source.specs.Bytes.{newline}
 use Rattle.tbl_kept.specs.Joined.{Joined, RiseWithin, behind_joined, ends_joined, line_at, unjoined}
 use Rattle.tbl_kept.specs.declared.table_text.Joint.{Joint}
 use Rattle.tbl_kept.specs.declared.table_text.TableText.TheInside.{Inside}

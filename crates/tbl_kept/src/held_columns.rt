@@ -15,7 +15,7 @@ ghost use Rattle.tbl_layout.specs.KeptEntries.{block_filled, block_lines, stands
 ghost use Rattle.tbl_text.specs.BlockLines.{lines_of, widest};
 ghost use Rattle.tbl_text.specs.BlockWords.{parts_of};
 
-use roff_escape::OpenEscapes;
+use input_escapes::OpenEscapes;
 use tbl_format::format::{Asked, FormatKey, Key};
 use tbl_layout::bars::Bars;
 use tbl_layout::columns::{Column, Needs, Stands, fit, unsplit};

@@ -1,7 +1,7 @@
 -- The pieces of a line of a row on which entries run on stand apart.
 use Rattle.std.proofs.Common.{◌≡◌, ℕ, zero, suc, ◌+◌, ◌-◌, ◌<◌, ◌≤◌, Bool, true, false, ◌&&◌, ◌==◌, List, [], ◌∷◌, ◌++◌, length, take, drop, map, Option, Some, None, refl, sym, ap, subst, ◌∙◌, arith, length-append, if◌then◌else◌}
 use Rattle.std.proofs.lemmas.List.Sums.{sum_by-cons}
-use Rattle.roff_source.specs.Bytes.{blank}
+use Rattle.input_source.specs.Bytes.{blank}
 use Rattle.tbl_format.specs.Cells.{by_cells}
 use Rattle.tbl_format.specs.declared.format.FormatKey.{FormatKey}
 use Rattle.tbl_layout.specs.Columns.{bar_place, passes, place_in, stands}

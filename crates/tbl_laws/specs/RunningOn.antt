@@ -1,7 +1,7 @@
 -- Entries without width run on over what is free to their right, and are cut to whole glyphs (Lesk, "Tbl": Format, the key letter `z`).
 use Rattle.std.specs.Prelude.{◌≡◌, ℕ, ◌+◌, ◌-◌, ◌<◌, ◌≤◌, max, min, nat_lt, is_some, unwrap_or, false, true, List, [], ◌∷◌, ◌++◌, drop, length, map, None, Some, ◌⊎◌, if◌then◌else◌, ⊤}
 use Rattle.std.specs.List.{AllByRecursion}
-use Rattle.roff_source.specs.Bytes.{blank}
+use Rattle.input_source.specs.Bytes.{blank}
 use Rattle.tbl_format.specs.Cells.{AreCells, end_of}
 use Rattle.tbl_format.specs.declared.format.FormatKey.{FormatKey}
 use Rattle.tbl_layout.specs.Entries.{Command, Content, Element, Repeated, Row, Rule, Run, columns_of, field_at, is_entry}

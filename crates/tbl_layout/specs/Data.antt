@@ -1,7 +1,7 @@
 -- The data of a table: lines, of which each is a row of fields (Lesk, "Tbl": Data).
 use Rattle.std.specs.Prelude.{ℕ, Bool, false, not, ◌&&◌, List, [], ◌∷◌, if◌then◌else◌, ◌==◌}
 use Rattle.std.specs.List.{list_all}
-use Rattle.roff_source.specs.Bytes.{blank, dot, is_digit}
+use Rattle.input_source.specs.Bytes.{blank, dot, is_digit}
 
 -- a byte in front of the first field
 abbrev pub in_first : ℕ → List (List ℕ) → List (List ℕ)

@@ -1,6 +1,6 @@
 -- The lines of a table's data: commands, rows of fields, and the lines of text blocks (Lesk, "Tbl": Data).
 use Rattle.std.specs.Prelude.{ℕ, ◌+◌, Bool, true, false, not, ◌&&◌, ◌||◌, List, [], ◌∷◌, take, drop, get_or, length, Option, None, Some, bytes_eq, codes, if◌then◌else◌, ◌==◌}
-use Rattle.roff_source.specs.Bytes.{tab, blank, backslash}
+use Rattle.input_source.specs.Bytes.{tab, blank, backslash}
 use Rattle.tbl_layout.specs.Data.{fields, is_command, is_opening}
 use Rattle.tbl_format.specs.declared.format.Key.{Key}
 use Rattle.tbl_layout.specs.RuleKeys.{kind_of_key}

@@ -1,6 +1,6 @@
 -- What stands in the columns of a table, and on which lines (Lesk, "Tbl": Data, Text Blocks).
 use Rattle.std.specs.Prelude.{ℕ, Bool, true, false, List, [], ◌∷◌, ◌++◌, length, map, take, drop, replicate, sum_by, get_or, Option, Some, None}
-use Rattle.roff_source.specs.Bytes.{blank}
+use Rattle.input_source.specs.Bytes.{blank}
 use Rattle.tbl_format.specs.Format.{FormatRow}
 use Rattle.tbl_layout.specs.DataLines.{field_kind, kind_under}
 use Rattle.tbl_layout.specs.RuleKeys.{under_keys}

@@ -1,7 +1,7 @@
 -- How wide the texts and the columns of a table are, in columns of the page (Lesk, "Tbl": Formatting).
 use Rattle.std.specs.Prelude.{ℕ, zero, suc, ◌+◌, max, Bool, false, not, ◌||◌, List, [], ◌∷◌, Option, None, Some, if◌then◌else◌, ◌==◌}
-use Rattle.roff_escape.specs.Measures.{byte_columns}
-use Rattle.roff_source.specs.Bytes.{is_dropped}
+use Rattle.input_escapes.specs.Measures.{byte_columns}
+use Rattle.input_source.specs.Bytes.{is_dropped}
 use Rattle.tbl_options.specs.declared.options.Boxing.{Boxing}
 use Rattle.tbl_format.specs.Format.{Format}
 use Rattle.tbl_format.specs.declared.format.Asked.{Asked}

@@ -2,7 +2,7 @@
 
 ghost use Rattle.std.specs.Prelude.{◌≡◌, ◌≤◌, length, not, ◌==◌};
 ghost use Rattle.std.specs.List.{list_all, prefix_len};
-ghost use Rattle.roff_source.specs.Bytes.{blank};
+ghost use Rattle.input_source.specs.Bytes.{blank};
 ghost use Rattle.tbl_layout.specs.Data.{is_brace, is_opening};
 
 use memchr::memchr;

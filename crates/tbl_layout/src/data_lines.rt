@@ -1,7 +1,7 @@
 //! What the lines of a table's data are (Lesk, "Tbl": Data).
 
 ghost use Rattle.std.specs.Prelude.{◌≡◌, ◌==◌, ◌&&◌, not, drop, [], ◌∷◌, if◌then◌else◌};
-ghost use Rattle.roff_source.specs.Bytes.{backslash};
+ghost use Rattle.input_source.specs.Bytes.{backslash};
 ghost use Rattle.tbl_layout.specs.Data.{fields, is_command};
 ghost use Rattle.tbl_layout.specs.DataLines.{begins_format, behind_blanks, behind_first};
 ghost use Rattle.tbl_layout.specs.DataLines.{block_kind_ends_row, block_line_kind, ends_in_block};

@@ -5,8 +5,8 @@ ghost use Rattle.tbl_layout.specs.Widths.{left_edge, right_edge, separation, sep
 ghost use Rattle.tbl_layout.specs.Widths.{width_in_text};
 
 use crate::bars::{Bars, edge_bars, edge_width, inner_bars, last_bars, least_separation};
+use input_source::{is_dropped, is_silent};
 use roff_num::width_of_byte;
-use roff_source::{is_dropped, is_silent};
 use tbl_format::format::Asked;
 
 /// The width of a byte of a text, in columns: of one that is dropped there is nothing.

@@ -4,7 +4,7 @@ ghost use Rattle.std.specs.Prelude.{◌≡◌, ◌<◌, ◌^◌, drop, length};
 ghost use Rattle.tbl_text.specs.BlockLines.{behind_rest, lines_of};
 ghost use Rattle.tbl_text.specs.BlockPlaces.{IsWithin, ReadsAll, parts_at};
 
-use roff_escape::OpenEscapes;
+use input_escapes::OpenEscapes;
 use tbl_text::block_lines::{OnLine, next_on_line};
 use tbl_text::block_parts::{BlockPart, BlockPlace, next_part};
 

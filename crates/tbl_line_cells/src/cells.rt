@@ -9,7 +9,7 @@ ghost use Rattle.tbl_line_cells.specs.KeptCells.{IsLeft, ShowsRule, behind_rules
 ghost use Rattle.tbl_text.specs.BlockPlaces.{IsWithin};
 
 use crate::block_places::behind_block_line;
-use roff_escape::OpenEscapes;
+use input_escapes::OpenEscapes;
 use tbl_format::format::FormatKey;
 use tbl_layout::columns::Column;
 use tbl_layout::data_lines::RuleSign;

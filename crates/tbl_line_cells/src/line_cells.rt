@@ -22,7 +22,7 @@ ghost use Rattle.tbl_line_cells.specs.LinesDrawn.{as_row, if_any, kept_line};
 
 use crate::laid_cells::{LaidCell, RunsOn, TextAt, place_of};
 use crate::running::{cut_to, drawn_by, drawn_in_front, fill_false, room_of};
-use roff_escape::OpenEscapes;
+use input_escapes::OpenEscapes;
 use std::alloc::{AllocError, Global};
 use tbl_format::format::{FormatKey, Key, Standing};
 use tbl_layout::columns::Column;

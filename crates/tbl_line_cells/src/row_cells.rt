@@ -22,7 +22,7 @@ ghost use Rattle.tbl_line_cells.specs.LinesDrawn.{kept_line, keys_of};
 use crate::cells::CellLeft;
 use crate::laid_cells::{laid, laid_within};
 use crate::line_cells::LineCells;
-use roff_escape::OpenEscapes;
+use input_escapes::OpenEscapes;
 use tbl_layout::bars::{Bars, edge_bars, inner_bars};
 use tbl_layout::columns::{Column, bar_place};
 use tbl_layout::data_lines::RuleSign;

@@ -22,7 +22,7 @@ use crate::laid_cells::{drawn_at, nothing_ruled, repeated};
 use crate::line_cells::LineCells;
 use crate::row_cells::{as_one, bars_at};
 use crate::rule_places::{bars_begin, end_of, left_end, right_end, rule_begin, rule_end};
-use roff_escape::OpenEscapes;
+use input_escapes::OpenEscapes;
 use tbl_layout::columns::{Column, bar_place, bars_end};
 use tbl_layout::data_lines::RuleSign;
 use tbl_lines::fronts::Front;

@@ -21,7 +21,7 @@ ghost use Rattle.tbl_text.specs.Fitted.{fitting_text};
 ghost use Rattle.tbl_line_cells.specs.LaidCells.{IsDrawn, IsShown, on_line, with_room, with_text};
 
 use crate::laid_cells::{LaidCell, RunsOn};
-use roff_escape::OpenEscapes;
+use input_escapes::OpenEscapes;
 use tbl_layout::columns::Column;
 use tbl_layout::entry::{Entry, EntryKind};
 use tbl_lines::fronts::Front;

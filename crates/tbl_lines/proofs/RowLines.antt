@@ -18,7 +18,7 @@ use Rattle.tbl_lines.specs.PictureLines.{Cell, all_between, at_column, bars_at, 
 use Rattle.tbl_lines.specs.RowsLeft.{all_between_by, cell_left, from_line, fronts_by, joined_first, joined_kinds, row_columns, rule_end_by}
 use Rattle.tbl_lines.specs.RowsLent.{WalkedRow, first_place, fronts_of, line_cells, walked}
 use Rattle.tbl_layout.specs.declared.data_lines.RuleSign.{RuleSign}
-use Rattle.roff_source.specs.Bytes.{newline}
+use Rattle.input_source.specs.Bytes.{newline}
 use Rattle.tbl_lines.proofs.AllEntries.{fields-all}
 use Rattle.tbl_kept.proofs.AllLaid.{all-high, all-laid, all-short}
 use Rattle.tbl_lines.proofs.CellsLent.{length-cells_of}

@@ -3,7 +3,7 @@ use Rattle.std.proofs.Common.{◌≡◌, ℕ, zero, suc, ◌-◌, ◌<◌, ◌�
 use Rattle.std.specs.List.{flat_map}
 use Rattle.std.proofs.lemmas.List.{append-nil}
 use Rattle.std.proofs.lemmas.List.Concat.{flat_map-cons}
-use Rattle.roff_source.specs.Bytes.{newline}
+use Rattle.input_source.specs.Bytes.{newline}
 use Rattle.tbl_layout.specs.Entries.{Run, before_glyphs, blanks, up_to_last_glyph}
 use Rattle.tbl_lines.specs.PictureLines.{Cell, at_column, end_of, line_of, lines_from, written}
 use Rattle.tbl_lines.specs.RowsLeft.{behind_first, first_of, given, given_of, if_given, one_less}

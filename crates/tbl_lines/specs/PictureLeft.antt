@@ -1,6 +1,6 @@
 -- The lines of a table's picture, as the formatter reads them, with cells of several rows (Lesk, "Tbl": Formatting).
 use Rattle.std.specs.Prelude.{ℕ, zero, suc, ◌-◌, List, [], ◌∷◌, ◌++◌, drop, get_or, length, map, if◌then◌else◌}
-use Rattle.roff_source.specs.Bytes.{newline}
+use Rattle.input_source.specs.Bytes.{newline}
 use Rattle.tbl_format.specs.Format.{FormatRow}
 use Rattle.tbl_layout.specs.Entries.{Command, Element, Row, Rule}
 use Rattle.tbl_layout.specs.Heights.{heights}

@@ -1,6 +1,6 @@
 -- The lines of a table's picture, as the formatter reads them (Lesk, "Tbl": Formatting).
 use Rattle.std.specs.Prelude.{ℕ, zero, suc, nat_lt, ◌+◌, ◌-◌, max, Bool, true, false, ◌&&◌, List, [], ◌∷◌, ◌++◌, length, map, replicate, get_or, Option, None, Some, is_some, codes, if◌then◌else◌, ◌==◌}
-use Rattle.roff_source.specs.Bytes.{blank, newline}
+use Rattle.input_source.specs.Bytes.{blank, newline}
 use Rattle.tbl_format.specs.Cells.{cell_behind}
 use Rattle.tbl_format.specs.Format.{FormatRow}
 use Rattle.tbl_format.specs.declared.format.FormatKey.{FormatKey}

@@ -17,7 +17,7 @@ ghost use Rattle.tbl_text.specs.BlockLines.{lines_of};
 ghost use Rattle.tbl_text.specs.BlockPlaces.{IsWithin, parts_at};
 
 use crate::row_lent::RowLent;
-use roff_escape::OpenEscapes;
+use input_escapes::OpenEscapes;
 use tbl_format::format::Key;
 use tbl_kept::rows::key_at;
 use tbl_layout::columns::{Column, bar_place};

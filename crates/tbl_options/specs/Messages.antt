@@ -1,8 +1,8 @@
 -- The messages about tables.
 use Rattle.std.specs.Prelude.{ℕ, List, [], ◌∷◌, ◌++◌, codes, decimal, map}
 use Rattle.roff_num.specs.LimitNames.{limit_name}
-use Rattle.roff_source.specs.Bytes.{newline}
-use Rattle.roff_source.specs.Tape.{Item, OneNote}
+use Rattle.input_source.specs.Bytes.{newline}
+use Rattle.input_source.specs.Tape.{Item, OneNote}
 use Rattle.tbl_options.specs.declared.message.Message.{Message}
 use Rattle.tbl_options.specs.declared.message.Message.TheVariants.{LimitReached, BadFormat, TableNotEnded, OptionIgnored, LeftOut, TooManyFields, NotMeasured, RequestInTextBlock, EntryCut, ReadFailed, WriteFailed}
 use Rattle.tbl_options.specs.declared.message.Told.{Told}

@@ -1,6 +1,6 @@
 -- The options of a table: what its first line says up to a `;` (Lesk, "Tbl": Options).
 use Rattle.std.specs.Prelude.{ℕ, suc, ◌+◌, ◌-◌, Bool, true, false, not, ◌&&◌, ◌||◌, List, [], ◌∷◌, ◌++◌, length, map, fold, max, take, slice_index, slice_range, nat_le, nat_lt, Option, None, Some, is_some, bytes_eq, codes, if◌then◌else◌, ◌==◌}
-use Rattle.roff_source.specs.Bytes.{tab, blank}
+use Rattle.input_source.specs.Bytes.{tab, blank}
 use Rattle.tbl_options.specs.declared.options.Boxing.{Boxing}
 use Rattle.tbl_options.specs.declared.options.Options.{Options}
 use Rattle.tbl_options.specs.declared.options.TableOption.{TableOption}

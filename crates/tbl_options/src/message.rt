@@ -5,9 +5,9 @@ ghost use Rattle.arrayvec.specs.ArrayVec.{array_vec_len};
 ghost use Rattle.tbl_options.specs.Messages.{tbl_message_line, tbl_message_text};
 
 use arrayvec::ArrayVec;
+use input_source::Note;
 use itoa::Buffer;
 use roff_num::Limit;
-use roff_source::Note;
 
 /// An option as it is written, or its first 32 bytes.
 pub type OptionText = ArrayVec<u8, 32>;

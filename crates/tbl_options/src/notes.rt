@@ -5,7 +5,7 @@ ghost use Rattle.arrayvec.specs.ArrayVec.{array_vec_len};
 ghost use Rattle.tbl_options.specs.Notes.{IsWithin, told_of};
 
 use crate::message::{Message, OptionText, Told};
-use roff_source::at_most;
+use input_source::at_most;
 
 /// What is reported.
 #[derive(Clone, Copy)]

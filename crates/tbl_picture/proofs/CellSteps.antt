@@ -1,6 +1,6 @@
 -- What a step does that gives a cell of a line.
 use Rattle.std.proofs.Common.{◌≡◌, ℕ, zero, suc, ◌+◌, ◌-◌, ◌≤◌, max, List, [], ◌∷◌, ◌++◌, replicate, sym, ap, subst, ◌∙◌, arith}
-use Rattle.roff_source.specs.Bytes.{blank}
+use Rattle.input_source.specs.Bytes.{blank}
 use Rattle.tbl_layout.specs.Entries.{Run}
 use Rattle.tbl_pieces.specs.PieceQueue.{Adds, KeptPieces}
 use Rattle.tbl_lines.specs.RowsLeft.{begins_at, behind_first, block_text, cell_left, end_given, first_of, given, if_given, one_less}

@@ -3,7 +3,7 @@ use Rattle.std.proofs.Common.{◌≡◌, ◌≢◌, ℕ, zero, suc, ◌+◌, ◌
 use Rattle.std.specs.Prelude.{nat_lt}
 use Rattle.std.proofs.lemmas.Bool.{ltb-true, ltb-false}
 use Rattle.std.proofs.lemmas.List.{append-nil, drop_all, length-map}
-use Rattle.roff_source.specs.Bytes.{blank}
+use Rattle.input_source.specs.Bytes.{blank}
 use Rattle.tbl_layout.specs.DataLines.{sign_byte}
 use Rattle.tbl_layout.specs.Entries.{Run, before_glyphs, blanks, columns_of, up_to_last_glyph}
 use Rattle.tbl_layout.specs.declared.data_lines.RuleSign.{RuleSign}

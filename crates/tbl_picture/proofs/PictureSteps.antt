@@ -1,7 +1,7 @@
 -- What a step of a walk does with the elements of a picture.
 use Rattle.std.proofs.Common.{◌≡◌, ℕ, suc, ◌+◌, ◌-◌, ◌≤◌, Bool, true, false, ◌&&◌, List, [], ◌∷◌, ◌++◌, length, drop, take, refl, sym, ap, subst, ◌∙◌, arith, append_assoc, length-append, if◌then◌else◌, ◌==◌}
 use Rattle.std.specs.List.{slice_range}
-use Rattle.roff_source.specs.Bytes.{newline}
+use Rattle.input_source.specs.Bytes.{newline}
 use Rattle.tbl_format.specs.Format.{FormatRow}
 use Rattle.tbl_format.specs.RowsServed.{row_at}
 use Rattle.tbl_kept.specs.Rows.{Command, CommandLies, ElementLaid, KeptElement, KeptRows, Row, Rule, elements_of, fields_of}

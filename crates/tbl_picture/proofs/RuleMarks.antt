@@ -3,7 +3,7 @@ use Rattle.std.proofs.Common.{◌≡◌, ℕ, suc, ◌+◌, ◌-◌, ◌≤◌, 
 use Rattle.std.specs.Prelude.{slice_get}
 use Rattle.std.proofs.lemmas.Bool.{ne_eqb}
 use Rattle.std.proofs.lemmas.List.{append-nil, drop_more, length-drop, length-replicate}
-use Rattle.roff_source.specs.Bytes.{blank, newline}
+use Rattle.input_source.specs.Bytes.{blank, newline}
 use Rattle.tbl_layout.specs.Columns.{bar_place, bars_end}
 use Rattle.tbl_layout.specs.DataLines.{sign_byte}
 use Rattle.tbl_layout.specs.LayoutLaws.{last_end}

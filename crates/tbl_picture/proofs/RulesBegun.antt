@@ -2,7 +2,7 @@
 -- keys, and for a rule above them, as none of them is ruled there.
 use Rattle.std.proofs.Common.{◌≡◌, ℕ, zero, suc, ◌+◌, ◌-◌, ◌≤◌, ◌<◌, max, Bool, true, false, ◌&&◌, List, [], ◌∷◌, ◌++◌, length, drop, take, codes, replicate, Some, refl, sym, ap, ◌∙◌, arith, append_assoc, if◌then◌else◌, ◌==◌, ne_eqb}
 use Rattle.std.proofs.lemmas.List.{append-nil, drop_more, length-replicate}
-use Rattle.roff_source.specs.Bytes.{blank, newline}
+use Rattle.input_source.specs.Bytes.{blank, newline}
 use Rattle.tbl_format.specs.Format.{FormatRow}
 use Rattle.tbl_format.specs.RowsServed.{no_keys, row_at}
 use Rattle.tbl_layout.specs.Columns.{bar_place, bars_end}

@@ -1,7 +1,7 @@
 -- What a step does that begins a line of a block, or gives a word of it.
 use Rattle.std.proofs.Common.{◌≡◌, ℕ, ◌+◌, ◌-◌, max, List, [], ◌∷◌, ◌++◌, drop, map, get_or, replicate, sym, ap, ◌∙◌, arith, append_assoc}
 use Rattle.std.proofs.lemmas.List.Sums.{sum_by-cons}
-use Rattle.roff_source.specs.Bytes.{blank}
+use Rattle.input_source.specs.Bytes.{blank}
 use Rattle.tbl_layout.specs.Entries.{Run, blanks, block_line, columns_of, further_words, run_of_word}
 use Rattle.tbl_layout.specs.KeptEntries.{measure_by}
 use Rattle.tbl_layout.specs.declared.entry.Entry.{Entry}

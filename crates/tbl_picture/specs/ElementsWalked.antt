@@ -1,6 +1,6 @@
 -- A walk over the elements of a table's picture, and the rules that its box adds: what is to come, and what a step does.
 use Rattle.std.specs.Prelude.{◌≡◌, ℕ, suc, ◌+◌, ◌-◌, ◌*◌, ◌≤◌, ◌<◌, max, ◌&&◌, Bool, true, false, List, [], ◌∷◌, ◌++◌, drop, length, codes, replicate, if◌then◌else◌, ◌==◌}
-use Rattle.roff_source.specs.Bytes.{newline}
+use Rattle.input_source.specs.Bytes.{newline}
 use Rattle.tbl_format.specs.Format.{FormatRow}
 use Rattle.tbl_format.specs.RowsServed.{row_at}
 use Rattle.tbl_options.specs.declared.options.Boxing.{Boxing}

@@ -1,6 +1,6 @@
 -- The marks of a line of rules as it is walked: a rule that goes on behind a column is one mark.
 use Rattle.std.specs.Prelude.{ℕ, suc, ◌+◌, ◌-◌, Bool, false, ◌&&◌, List, [], ◌∷◌, ◌++◌, length, replicate, codes, Option, None, Some, is_none, if◌then◌else◌, ◌==◌}
-use Rattle.roff_source.specs.Bytes.{newline}
+use Rattle.input_source.specs.Bytes.{newline}
 use Rattle.tbl_layout.specs.Columns.{bar_place, bars_end}
 use Rattle.tbl_layout.specs.DataLines.{is_same_sign, sign_byte}
 use Rattle.tbl_layout.specs.declared.bars.Bars.{Bars}

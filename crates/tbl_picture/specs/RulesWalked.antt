@@ -1,7 +1,7 @@
 -- The lines of rules of a picture, as they are walked: a column after the other.
 use Rattle.std.specs.Prelude.{◌≡◌, ℕ, zero, suc, ◌+◌, ◌-◌, ◌≤◌, ◌<◌, ◌^◌, max, nat_lt, Bool, true, false, ◌||◌, List, [], ◌∷◌, ◌++◌, drop, length, map, take, replicate, codes, Option, None, Some, IfSome, if◌then◌else◌, ◌==◌}
 use Rattle.std.specs.List.{AllByRecursion}
-use Rattle.roff_source.specs.Bytes.{blank, newline}
+use Rattle.input_source.specs.Bytes.{blank, newline}
 use Rattle.tbl_format.specs.Format.{FormatRow}
 use Rattle.tbl_format.specs.RowsServed.{row_at}
 use Rattle.tbl_options.specs.declared.options.Boxing.{Boxing}

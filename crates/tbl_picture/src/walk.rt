@@ -14,7 +14,7 @@ ghost use Rattle.tbl_layout.specs.KeptEntries.{all_entries};
 ghost use Rattle.tbl_picture.specs.Walks.{first_place};
 
 use beside::Beside;
-use roff_escape::OpenEscapes;
+use input_escapes::OpenEscapes;
 use rules::{RuleBegun, frame_sign};
 use std::alloc::{AllocError, Global};
 use std::marker::Model;

@@ -1,7 +1,7 @@
 -- The pieces of which a line is given: parts of the block, and blanks and rules between them.
 use Rattle.std.specs.Prelude.{◌≡◌, ℕ, ◌-◌, ◌<◌, List, [], ◌∷◌, ◌++◌, length, replicate, codes, if◌then◌else◌, ◌==◌}
 use Rattle.std.specs.List.{slice_range, AllByRecursion}
-use Rattle.roff_source.specs.Bytes.{newline, blank, backslash}
+use Rattle.input_source.specs.Bytes.{newline, blank, backslash}
 use Rattle.tbl_pieces.specs.declared.pieces.Piece.{Piece}
 use Rattle.tbl_pieces.specs.declared.pieces.Piece.TheVariants.{Blanks, Block, Frame, Joint, LineEnd, LineFront, Repeated}
 

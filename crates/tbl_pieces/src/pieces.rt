@@ -3,11 +3,11 @@
 ghost use Rattle.std.specs.Prelude.{◌≡◌, ℕ, ◌+◌, ◌-◌, ◌*◌, ◌<◌, ◌≤◌, ◌^◌, List, ◌++◌, length};
 ghost use Rattle.std.specs.Prelude.{[], ◌∷◌, drop, min, replicate, slice_index, slice_range, vec_capacity};
 ghost use Rattle.std.specs.Prelude.{vec_len, if◌then◌else◌};
-ghost use Rattle.roff_source.specs.Bytes.{blank};
+ghost use Rattle.input_source.specs.Bytes.{blank};
 ghost use Rattle.tbl_format.specs.Parts.{IsFront};
 ghost use Rattle.tbl_pieces.specs.Pieces.{bytes_of, piece_len, some_piece};
 
-use roff_source::at_most;
+use input_source::at_most;
 
 /// A piece of what is given.
 #[derive(Clone, Copy)]

@@ -4,12 +4,12 @@ use Rattle.std.proofs.lemmas.Bool.Decides.{nat_tests}
 use Rattle.std.proofs.lemmas.List.{length-map, map-append, take-append-drop}
 use Rattle.std.specs.Io.KnownBytes.{Appends}
 use Rattle.roff_num.specs.declared.limit.Limit.TheVariants.{Output}
-use Rattle.roff_sinks.proofs.Appending.{Appends-append}
-use Rattle.roff_sinks.specs.Devices.{AppendsBetween, Seen}
-use Rattle.roff_sinks.specs.Sinks.{CountsFault, Sunk}
-use Rattle.roff_run.specs.declared.status.Status.{Status}
-use Rattle.roff_run.specs.declared.status.Status.TheVariants.{Device, Limit as Limited}
-use Rattle.roff_source.specs.Tape.{Item, OneByte, Tape, items_then}
+use Rattle.page_bytes.proofs.Appending.{Appends-append}
+use Rattle.page_bytes.specs.Devices.{AppendsBetween, Seen}
+use Rattle.page_bytes.specs.Sinks.{CountsFault, Sunk}
+use Rattle.run_model.specs.declared.status.Status.{Status}
+use Rattle.run_model.specs.declared.status.Status.TheVariants.{Device, Limit as Limited}
+use Rattle.input_source.specs.Tape.{Item, OneByte, Tape, items_then}
 use Rattle.tbl_options.specs.Messages.{tbl_message_line}
 use Rattle.tbl_format.specs.Parts.{IsFront}
 use Rattle.tbl_format.specs.declared.limits.TblLimits.{TblLimits}

@@ -3,8 +3,8 @@ use Rattle.std.proofs.Common.{◌≡◌, ◌∙◌, ℕ, zero, suc, ◌≤◌, B
 use Rattle.std.proofs.lemmas.Bool.Decides.{nat_tests}
 use Rattle.roff_num.specs.Lists.{IsBeginning}
 use Rattle.roff_num.specs.declared.limit.Limit.TheVariants.{Messages}
-use Rattle.roff_run.specs.declared.status.Status.TheVariants.{Limit as Limited}
-use Rattle.roff_source.specs.Tape.{Answer, Ended, Ends, Failed, Gives, OneByte, OneNote, Stopped, Tape}
+use Rattle.run_model.specs.declared.status.Status.TheVariants.{Limit as Limited}
+use Rattle.input_source.specs.Tape.{Answer, Ended, Ends, Failed, Gives, OneByte, OneNote, Stopped, Tape}
 use Rattle.tbl_options.specs.Messages.{tbl_message_line}
 use Rattle.tbl_format.specs.TblLimits.{tbl_limits_with}
 use Rattle.tbl_format.specs.declared.limits.TblLimits.{TblLimits}

@@ -2,11 +2,11 @@
 use Rattle.std.proofs.Common.{◌≡◌, ◌∙◌, ◌⊎◌, ℕ, ◌+◌, ◌-◌, ◌<◌, ◌≤◌, suc, Bool, true, false, List, [], ◌∷◌, ◌++◌, length, length-append, nat_lt, Option, Some, None, ap, append_assoc, arith, inl, inr, refl, subst, sym}
 use Rattle.std.specs.Io.KnownBytes.{Appends}
 use Rattle.roff_num.specs.Faults.{Rises}
-use Rattle.roff_sinks.proofs.Appending.{Appends-append, Appends-nothing}
-use Rattle.roff_sinks.specs.Devices.{AppendsBetween, Seen}
-use Rattle.roff_sinks.specs.Sinks.{CountsFault, Sunk}
-use Rattle.roff_run.specs.declared.status.Status.{Status}
-use Rattle.roff_source.specs.Tape.{Answer, Ended, Ends, Failed, Gives, Item, OneByte, OneNote, Stopped, Tape, items_then}
+use Rattle.page_bytes.proofs.Appending.{Appends-append, Appends-nothing}
+use Rattle.page_bytes.specs.Devices.{AppendsBetween, Seen}
+use Rattle.page_bytes.specs.Sinks.{CountsFault, Sunk}
+use Rattle.run_model.specs.declared.status.Status.{Status}
+use Rattle.input_source.specs.Tape.{Answer, Ended, Ends, Failed, Gives, Item, OneByte, OneNote, Stopped, Tape, items_then}
 use Rattle.tbl_options.specs.Messages.{tbl_message_line}
 use Rattle.tbl_core.specs.Stages.{Takes}
 use Rattle.tbl_core.specs.Tables.{line_of}

@@ -1,8 +1,8 @@
 -- How far the loop has come, as a run of the definition.
 use Rattle.std.specs.Prelude.{◌≡◌, ℕ, List, None}
 use Rattle.std.specs.Io.KnownBytes.{Appends}
-use Rattle.roff_sinks.specs.Devices.{NoSinkFault, Seen}
-use Rattle.roff_source.specs.Tape.{Item, Tape, items_then}
+use Rattle.page_bytes.specs.Devices.{NoSinkFault, Seen}
+use Rattle.input_source.specs.Tape.{Item, Tape, items_then}
 use Rattle.tbl_format.specs.declared.limits.TblLimits.{TblLimits}
 use Rattle.tbl_core.specs.Yields.{At}
 use Rattle.tbl_run.specs.Run.{Written, initial, steps}

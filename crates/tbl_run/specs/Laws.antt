@@ -2,8 +2,8 @@
 use Rattle.std.specs.Prelude.{◌≡◌, ℕ, ◌≤◌, length}
 use Rattle.roff_num.specs.Lists.{IsBeginning}
 use Rattle.roff_num.specs.declared.limit.Limit.TheVariants.{Messages}
-use Rattle.roff_run.specs.declared.status.Status.TheVariants.{Limit as Limited}
-use Rattle.roff_source.specs.Tape.{Tape}
+use Rattle.run_model.specs.declared.status.Status.TheVariants.{Limit as Limited}
+use Rattle.input_source.specs.Tape.{Tape}
 use Rattle.tbl_format.specs.TblLimits.{tbl_limits_with}
 use Rattle.tbl_format.specs.declared.limits.TblLimits.{TblLimits}
 use Rattle.tbl_options.specs.declared.message.Message.TheVariants.{LimitReached}

@@ -2,11 +2,11 @@
 use Rattle.std.specs.Prelude.{◌≡◌, ◌⊎◌, ℕ, ◌++◌, List, Some, None}
 use Rattle.std.specs.Io.KnownBytes.{Appends}
 use Rattle.roff_num.specs.Faults.{Rises}
-use Rattle.roff_sinks.specs.Devices.{AppendsBetween, NoSinkFault, Seen}
-use Rattle.roff_sinks.specs.Sinks.{CountsFault}
-use Rattle.roff_run.specs.declared.status.Status.{Status}
-use Rattle.roff_run.specs.declared.status.Status.TheVariants.{Device}
-use Rattle.roff_source.specs.Tape.{Item, Tape, Took, items_then}
+use Rattle.page_bytes.specs.Devices.{AppendsBetween, NoSinkFault, Seen}
+use Rattle.page_bytes.specs.Sinks.{CountsFault}
+use Rattle.run_model.specs.declared.status.Status.{Status}
+use Rattle.run_model.specs.declared.status.Status.TheVariants.{Device}
+use Rattle.input_source.specs.Tape.{Item, Tape, Took, items_then}
 use Rattle.tbl_format.specs.declared.limits.TblLimits.{TblLimits}
 use Rattle.tbl_options.specs.declared.message.Message.TheVariants.{WriteFailed}
 use Rattle.tbl_options.specs.Messages.{tbl_message_line}

@@ -1,9 +1,9 @@
 -- A run of the command `tbl`: what it writes and reports, an answer of its source a step (Lesk, "Usage").
 use Rattle.std.specs.Prelude.{ℕ, zero, suc, List, [], ◌∷◌, ◌++◌, length, nat_lt, Option, Some, None, if◌then◌else◌}
 use Rattle.roff_num.specs.declared.limit.Limit.TheVariants.{Messages, Output}
-use Rattle.roff_run.specs.declared.status.Status.{Status}
-use Rattle.roff_run.specs.declared.status.Status.TheVariants.{Done, Device, Limit as Limited}
-use Rattle.roff_source.specs.Tape.{Answer, Ended, Ends, Failed, Gives, OneByte, OneNote, Stopped, Tape}
+use Rattle.run_model.specs.declared.status.Status.{Status}
+use Rattle.run_model.specs.declared.status.Status.TheVariants.{Done, Device, Limit as Limited}
+use Rattle.input_source.specs.Tape.{Answer, Ended, Ends, Failed, Gives, OneByte, OneNote, Stopped, Tape}
 use Rattle.tbl_format.specs.declared.limits.TblLimits.{TblLimits}
 use Rattle.tbl_options.specs.declared.message.Message.{Message}
 use Rattle.tbl_options.specs.declared.message.Message.TheVariants.{LimitReached, ReadFailed}

@@ -1,9 +1,9 @@
 -- What a turn of the loop makes of the sinks.
 use Rattle.std.specs.Prelude.{◌≡◌, ◌⊎◌, ℕ, ◌+◌, ◌≤◌, List, ◌++◌, length, Some, None, Result, Ok, Err}
-use Rattle.roff_sinks.specs.Sinks.{Fails, Sunk, Writes}
-use Rattle.roff_run.specs.declared.status.Status.{Status}
-use Rattle.roff_run.specs.declared.status.Status.TheVariants.{Device}
-use Rattle.roff_source.specs.Tape.{Answer, Ends, Failed}
+use Rattle.page_bytes.specs.Sinks.{Fails, Sunk, Writes}
+use Rattle.run_model.specs.declared.status.Status.{Status}
+use Rattle.run_model.specs.declared.status.Status.TheVariants.{Device}
+use Rattle.input_source.specs.Tape.{Answer, Ends, Failed}
 use Rattle.tbl_options.specs.Messages.{tbl_message_line}
 use Rattle.tbl_format.specs.declared.limits.TblLimits.{TblLimits}
 use Rattle.tbl_options.specs.declared.message.Message.{Message}

@@ -1,17 +1,17 @@
 //! The loop over what a source with tables answers.
 
 ghost use Rattle.std.specs.Prelude.{◌≡◌, ◌+◌, ◌≤◌, None, length, take};
-ghost use Rattle.roff_source.specs.Tape.{Gives, OneByte, OneNote, answer_of};
-ghost use Rattle.roff_sinks.specs.Devices.{seen};
+ghost use Rattle.input_source.specs.Tape.{Gives, OneByte, OneNote, answer_of};
+ghost use Rattle.page_bytes.specs.Devices.{seen};
 ghost use Rattle.tbl_core.specs.Yields.{at_start};
 ghost use Rattle.tbl_run.specs.Outcome.{PutsTables};
 ghost use Rattle.tbl_run.specs.Run.{Written};
 ghost use Rattle.tbl_run.specs.Turns.{Counted, FrontPut, Tells, Turned};
 
+use input_source::{ByteSource, Taken, at_most};
+use page_bytes::{ByteSink, MessageSink};
 use roff_num::Limit;
-use roff_run::Status;
-use roff_sinks::{ByteSink, MessageSink};
-use roff_source::{ByteSource, Taken, at_most};
+use run_model::Status;
 use tbl_core::{Message, TblLimits, TblSource, Told};
 
 /// How much a run wrote and told.

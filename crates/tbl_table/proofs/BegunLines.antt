@@ -7,7 +7,7 @@ use Rattle.tbl_format.proofs.Parts.{slice_range-rest}
 use Rattle.tbl_format.proofs.RowsHeld.{read-held}
 use Rattle.tbl_format.proofs.RowsWithin.{has_some-begun}
 use Rattle.std.specs.List.{slice_range}
-use Rattle.roff_source.specs.Bytes.{newline}
+use Rattle.input_source.specs.Bytes.{newline}
 use Rattle.tbl_table.specs.Begun.{begun_in, count_of, head_begun}
 use Rattle.tbl_format.specs.Format.{Format, columns_of as row_columns, format_byte, format_read, has_some, no_format}
 use Rattle.tbl_format.specs.FormatLaws.{IsRead, Line, NoByte}

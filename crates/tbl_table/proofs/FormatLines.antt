@@ -5,7 +5,7 @@ use Rattle.std.proofs.lemmas.List.{drop_at}
 use Rattle.std.specs.List.{slice_range}
 use Rattle.tbl_format.proofs.Parts.{slice_range-rest}
 use Rattle.tbl_format.proofs.RowsHeld.{read-held}
-use Rattle.roff_source.specs.Bytes.{newline}
+use Rattle.input_source.specs.Bytes.{newline}
 use Rattle.tbl_data.specs.TableData.{FormatFits, OpenBehind, begun_by}
 use Rattle.tbl_data.specs.TableRead.{TableRead}
 use Rattle.tbl_data.specs.declared.phase.Phase.{Phase}

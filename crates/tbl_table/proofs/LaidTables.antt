@@ -8,7 +8,7 @@ use Rattle.tbl_data.specs.declared.phase.Phase.TheVariants.{Bad, InData}
 use Rattle.tbl_data.specs.declared.table_data.OpenBlock.{OpenBlock}
 use Rattle.tbl_data.specs.declared.table_data.OpenBlock.TheVariants.{Dropped, Kept, Nothing as NoBlock}
 use Rattle.tbl_data.specs.declared.table_data.TableData.{TableData}
-use Rattle.roff_escape.specs.EscapeTexts.{KeptEscapes}
+use Rattle.input_escapes.specs.EscapeTexts.{KeptEscapes}
 use Rattle.tbl_format.specs.RowsServed.{all_rows}
 use Rattle.tbl_format.specs.Format.{FormatRow}
 use Rattle.tbl_format.specs.FormatLaws.{RowHeld}

@@ -3,7 +3,7 @@ use Rattle.std.proofs.Common.{◌≡◌, ◌==◌, ℕ, ◌+◌, ◌-◌, ◌<�
 use Rattle.std.proofs.lemmas.List.{drop_at, length-map, length-replicate, length-take}
 use Rattle.std.proofs.lemmas.List.Elements.{All-take}
 use Rattle.std.specs.List.{slice_range}
-use Rattle.roff_source.specs.Bytes.{newline}
+use Rattle.input_source.specs.Bytes.{newline}
 use Rattle.tbl_data.specs.DataRead.{closed_block, whole_line, with_pending}
 use Rattle.tbl_data.specs.TableData.{FitsBehind, table_by}
 use Rattle.tbl_data.specs.TableRead.{RowBegun, TableRead}

@@ -4,7 +4,7 @@ use Rattle.std.proofs.lemmas.List.{drop_at, length-map, take_at}
 use Rattle.std.proofs.Math.Seq.{get_or-append_seam}
 use Rattle.std.proofs.Math.ListN.{get_or-append}
 use Rattle.std.specs.List.{slice_range, AllByRecursion}
-use Rattle.roff_source.specs.Bytes.{newline}
+use Rattle.input_source.specs.Bytes.{newline}
 use Rattle.tbl_data.specs.DataRead.{whole_line, with_whole}
 use Rattle.tbl_data.specs.TableData.{DataFits, ElementEnds, EndsBy, FitsBehind, LastEndsAt, OpenBehind, OpenEndsAt, SameRooms, begun_by, table_by}
 use Rattle.tbl_data.specs.TableRead.{TableRead}

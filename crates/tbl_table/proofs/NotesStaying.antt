@@ -1,6 +1,6 @@
 -- The messages of a table so far stay.
 use Rattle.std.proofs.Common.{ℕ, suc, ◌+◌, ◌-◌, Bool, true, false, not, ◌&&◌, ◌||◌, List, [], ◌∷◌, ◌++◌, length, map, take, drop, Option, Some, None, refl, sym, ap, ◌∙◌, append-nil, append_assoc, nat_lt, if◌then◌else◌}
-use Rattle.roff_source.specs.Bytes.{newline}
+use Rattle.input_source.specs.Bytes.{newline}
 use Rattle.tbl_format.specs.Format.{Format, format_read}
 use Rattle.tbl_options.specs.Options.{options_end}
 use Rattle.tbl_format.specs.declared.format.FormatPlace.{FormatPlace}

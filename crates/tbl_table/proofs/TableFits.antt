@@ -2,8 +2,8 @@
 use Rattle.std.proofs.Common.{◌≡◌, ◌==◌, ℕ, ◌+◌, ◌-◌, ◌<◌, ◌≤◌, All, true, false, List, [], ◌∷◌, ◌++◌, length, Option, Some, None, refl, sym, subst, ◌∙◌, arith, append_assoc, length-append}
 use Rattle.std.specs.Prelude.{is_some}
 use Rattle.std.proofs.lemmas.List.Elements.{All-append, All-nil}
-use Rattle.roff_escape.specs.EscapeTexts.{KeptEscapes}
-use Rattle.roff_source.specs.Bytes.{newline}
+use Rattle.input_escapes.specs.EscapeTexts.{KeptEscapes}
+use Rattle.input_source.specs.Bytes.{newline}
 use Rattle.tbl_data.specs.TableData.{FormatFits}
 use Rattle.tbl_data.specs.declared.phase.Phase.{Phase}
 use Rattle.tbl_data.specs.declared.phase.Phase.TheVariants.{AtHead, Bad, InData, InFormat}

@@ -1,7 +1,7 @@
 -- What the parts of a table hold together.
 use Rattle.std.specs.Prelude.{◌≡◌, ◌==◌, false, All, ℕ, ◌+◌, ◌≤◌, ◌<◌, min, List, [], ◌++◌, length, Option, None, Some}
 use Rattle.std.specs.List.{AllByRecursion}
-use Rattle.roff_source.specs.Bytes.{newline}
+use Rattle.input_source.specs.Bytes.{newline}
 use Rattle.tbl_table.specs.Begun.{FewKeys, begun_in}
 use Rattle.tbl_format.specs.Format.{Format, no_format}
 use Rattle.tbl_format.specs.FormatLaws.{IsRead}

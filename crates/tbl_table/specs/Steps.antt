@@ -2,7 +2,7 @@
 use Rattle.std.specs.Prelude.{◌≡◌, ◌<◌, ◌≤◌, ◌+◌, ℕ, suc, drop, nat_lt, Bool, true, false, List, [], ◌∷◌, ◌++◌, length, Option, None, Some, map, replicate, take, if◌then◌else◌}
 use Rattle.roff_num.specs.declared.limit.Limit.{Limit}
 use Rattle.roff_num.specs.declared.limit.Limit.TheVariants.{Width}
-use Rattle.roff_source.specs.Bytes.{newline}
+use Rattle.input_source.specs.Bytes.{newline}
 use Rattle.tbl_format.specs.Format.{Format, format_read, letters_left_out, no_format}
 use Rattle.tbl_format.specs.FormatRows.{keeping}
 use Rattle.tbl_options.specs.Notes.{cut_note, ignored_message, left_out_note, told_at}

@@ -1,6 +1,6 @@
 -- A table, line by line: what it is behind each of them, and what is written in its place (Lesk, "Tbl").
 use Rattle.std.specs.Prelude.{ℕ, suc, ◌+◌, Bool, true, false, not, ◌&&◌, List, [], ◌∷◌, ◌++◌, length, map, replicate, take, drop, Option, None, Some, is_some, if◌then◌else◌, ◌==◌}
-use Rattle.roff_source.specs.Bytes.{newline}
+use Rattle.input_source.specs.Bytes.{newline}
 use Rattle.tbl_format.specs.Format.{Format, format_read, letters_left_out, no_format}
 use Rattle.tbl_options.specs.Notes.{ignored_message, told_at}
 use Rattle.tbl_options.specs.Options.{ignored_options, options_end, options_read}

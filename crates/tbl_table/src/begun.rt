@@ -2,7 +2,7 @@
 
 ghost use Rattle.std.specs.Prelude.{◌≡◌, ◌+◌, ◌^◌, ◌<◌, ℕ, Bool, not, ◌&&◌, ◌==◌, ◌++◌, [], ◌∷◌};
 ghost use Rattle.std.specs.Prelude.{length};
-ghost use Rattle.roff_source.specs.Bytes.{newline};
+ghost use Rattle.input_source.specs.Bytes.{newline};
 ghost use Rattle.tbl_table.specs.Begun.{FewKeys, begun_in, count_of, head_begun};
 ghost use Rattle.tbl_format.specs.Format.{Format, format_read, no_format};
 ghost use Rattle.tbl_format.specs.FormatLaws.{IsRead};

@@ -1,6 +1,6 @@
 //! The table that is being read.
 
-ghost use Rattle.roff_source.specs.Bytes.{newline};
+ghost use Rattle.input_source.specs.Bytes.{newline};
 ghost use Rattle.std.specs.Prelude.{◌≡◌, ◌==◌, false, All, ℕ, ◌+◌, ◌-◌, ◌<◌, ◌≤◌, ◌++◌, [], ◌∷◌};
 ghost use Rattle.std.specs.Prelude.{true, drop, length, IfOk};
 ghost use Rattle.std.specs.Option.{MatchOption};

@@ -17,7 +17,7 @@ ghost use Rattle.tbl_table.specs.Steps.{with_cause, with_cut, with_keys};
 ghost use Rattle.tbl_options.specs.declared.notes.Cause.TheVariants.{BadFormat};
 ghost use Rattle.tbl_data.specs.declared.phase.Phase.TheVariants.{Bad};
 
-use roff_escape::OpenEscapes;
+use input_escapes::OpenEscapes;
 use std::alloc::{AllocError, Global};
 use tbl_data::phase::Phase;
 use tbl_data::table_data::{OpenBlock, TableData};

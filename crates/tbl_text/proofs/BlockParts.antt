@@ -9,7 +9,7 @@ use Rattle.std.proofs.lemmas.List.Splits.{slice_split_none, slice_split_at}
 use Rattle.std.proofs.lemmas.Slice.{between_is}
 use Rattle.std.proofs.Math.Seq.{split_at}
 use Rattle.memchr.specs.Find.{IsFirstByte, is_byte}
-use Rattle.roff_source.specs.Bytes.{newline}
+use Rattle.input_source.specs.Bytes.{newline}
 use Rattle.tbl_text.specs.BlockWords.{Word, EmptyLine, OneWord, is_request, is_empty_line, joined_to, joined_words, known_behind, parts_behind, lines_in, words_of}
 use Rattle.tbl_text.specs.BlockPlaces.{line_behind, lines_from, parts_at, word_at, words_with, parts_of_word, WordGoesOn, LiesBehind, GoesOn}
 use Rattle.tbl_text.specs.BlockRuns.{joined_word}

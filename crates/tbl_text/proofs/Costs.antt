@@ -5,31 +5,31 @@ use Rattle.roff_num.specs.Expressions.{value_at}
 use Rattle.roff_num.specs.declared.num.Num.{Num}
 use Rattle.roff_num.specs.declared.num.NumFault.{NumFault}
 use Rattle.roff_num.specs.declared.num.Scale.TheVariants.{Units}
-use Rattle.roff_source.specs.Bytes.{backslash, blank, dot, is_dropped, newline, quote, start_of_text, tab}
-use Rattle.roff_escape.specs.Conditions.{begins_expression, byte_of_condition, byte_or_backslash, choice_made, condition_ended, delimiter_met, expression_valued, unit_of_condition}
-use Rattle.roff_escape.specs.Escapes.{escape_of, is_copied}
-use Rattle.roff_escape.specs.Measures.{escape_measures, motion_of, name_measures}
-use Rattle.roff_escape.specs.Nesting.{is_nothing}
-use Rattle.roff_escape.specs.OpenEscape.{OpenEscape, Reads, Backslash, Comment, Name, Size, Delimited, Width, Condition, names_in}
-use Rattle.roff_escape.specs.OpenEscapes.{byte_of_text, byte_of_width, byte_read, copied_escape, escape_given, escape_read, is_first_digit, is_sign, most_names, motion_given, name_begun, name_ended, name_given, name_or_opening, part_at_first, place_above, reading_ended, reads_text, reads_widths, size_read, surroundings, text_given, told, unit_of_name, unit_of_text, unit_taken}
-use Rattle.roff_escape.specs.declared.escapes.Escape.{Escape as Kind}
-use Rattle.roff_escape.specs.declared.escapes.Escape.TheVariants.{Prints, Blank as PrintsBlank, NoWidth, Nothing as GivesNothing, Tab as GivesTab, Interrupts, Brace, LeftOut as IsLeftOut, Comment as BeginsComment, Size as BeginsSize, Name as BeginsName, Text as BeginsText, Width as BeginsWidth}
-use Rattle.roff_escape.specs.declared.escapes.NameUse.{NameUse}
-use Rattle.roff_escape.specs.declared.escapes.NameUse.TheVariants.{Register, Text, Argument, Character, Font, LeftOut}
-use Rattle.roff_escape.specs.declared.escapes.TextUse.{TextUse}
-use Rattle.roff_escape.specs.declared.escapes.TextUse.TheVariants.{Motion as OfMotion, LeftOut as LeftOutText}
-use Rattle.roff_escape.specs.declared.open_escape.ConditionPart.{ConditionPart}
-use Rattle.roff_escape.specs.declared.open_escape.ConditionPart.TheVariants.{Choice, Expression, Decided, Compared}
-use Rattle.roff_escape.specs.declared.open_escape.CopyUnit.{CopyUnit}
-use Rattle.roff_escape.specs.declared.open_escape.CopyUnit.TheVariants.{Byte, Kept}
-use Rattle.roff_escape.specs.declared.open_escape.Found.{Found}
-use Rattle.roff_escape.specs.declared.open_escape.Found.TheVariants.{GoesOn, Unit as GivesUnit, Asks}
-use Rattle.roff_escape.specs.declared.open_escape.NamePart.{NamePart}
-use Rattle.roff_escape.specs.declared.open_escape.NamePart.TheVariants.{Nothing, Opened, First}
-use Rattle.roff_escape.specs.declared.open_escape.Remark.{Remark}
-use Rattle.roff_escape.specs.declared.open_escape.SizePart.{SizePart}
-use Rattle.roff_escape.specs.declared.open_escape.SizePart.TheVariants.{Nothing as NoSize, Sign, Digit}
-use Rattle.roff_escape.specs.declared.open_escape.Surroundings.{Surroundings}
+use Rattle.input_source.specs.Bytes.{backslash, blank, dot, is_dropped, newline, quote, start_of_text, tab}
+use Rattle.input_escapes.specs.Conditions.{begins_expression, byte_of_condition, byte_or_backslash, choice_made, condition_ended, delimiter_met, expression_valued, unit_of_condition}
+use Rattle.input_escapes.specs.Escapes.{escape_of, is_copied}
+use Rattle.input_escapes.specs.Measures.{escape_measures, motion_of, name_measures}
+use Rattle.input_escapes.specs.Nesting.{is_nothing}
+use Rattle.input_escapes.specs.OpenEscape.{OpenEscape, Reads, Backslash, Comment, Name, Size, Delimited, Width, Condition, names_in}
+use Rattle.input_escapes.specs.OpenEscapes.{byte_of_text, byte_of_width, byte_read, copied_escape, escape_given, escape_read, is_first_digit, is_sign, most_names, motion_given, name_begun, name_ended, name_given, name_or_opening, part_at_first, place_above, reading_ended, reads_text, reads_widths, size_read, surroundings, text_given, told, unit_of_name, unit_of_text, unit_taken}
+use Rattle.input_escapes.specs.declared.escapes.Escape.{Escape as Kind}
+use Rattle.input_escapes.specs.declared.escapes.Escape.TheVariants.{Prints, Blank as PrintsBlank, NoWidth, Nothing as GivesNothing, Tab as GivesTab, Interrupts, Brace, LeftOut as IsLeftOut, Comment as BeginsComment, Size as BeginsSize, Name as BeginsName, Text as BeginsText, Width as BeginsWidth}
+use Rattle.input_escapes.specs.declared.escapes.NameUse.{NameUse}
+use Rattle.input_escapes.specs.declared.escapes.NameUse.TheVariants.{Register, Text, Argument, Character, Font, LeftOut}
+use Rattle.input_escapes.specs.declared.escapes.TextUse.{TextUse}
+use Rattle.input_escapes.specs.declared.escapes.TextUse.TheVariants.{Motion as OfMotion, LeftOut as LeftOutText}
+use Rattle.input_escapes.specs.declared.open_escape.ConditionPart.{ConditionPart}
+use Rattle.input_escapes.specs.declared.open_escape.ConditionPart.TheVariants.{Choice, Expression, Decided, Compared}
+use Rattle.input_escapes.specs.declared.open_escape.CopyUnit.{CopyUnit}
+use Rattle.input_escapes.specs.declared.open_escape.CopyUnit.TheVariants.{Byte, Kept}
+use Rattle.input_escapes.specs.declared.open_escape.Found.{Found}
+use Rattle.input_escapes.specs.declared.open_escape.Found.TheVariants.{GoesOn, Unit as GivesUnit, Asks}
+use Rattle.input_escapes.specs.declared.open_escape.NamePart.{NamePart}
+use Rattle.input_escapes.specs.declared.open_escape.NamePart.TheVariants.{Nothing, Opened, First}
+use Rattle.input_escapes.specs.declared.open_escape.Remark.{Remark}
+use Rattle.input_escapes.specs.declared.open_escape.SizePart.{SizePart}
+use Rattle.input_escapes.specs.declared.open_escape.SizePart.TheVariants.{Nothing as NoSize, Sign, Digit}
+use Rattle.input_escapes.specs.declared.open_escape.Surroundings.{Surroundings}
 use Rattle.tbl_text.specs.Items.{Reading, all_ended, begun, ended, is_ended, line_start, met, taken, whole}
 
 -- as many bytes as these were read at least

@@ -5,25 +5,25 @@ use Rattle.roff_num.specs.Expressions.{value_at}
 use Rattle.roff_num.specs.declared.num.Num.{Num}
 use Rattle.roff_num.specs.declared.num.NumFault.{NumFault}
 use Rattle.roff_num.specs.declared.num.Scale.TheVariants.{Units}
-use Rattle.roff_source.specs.Bytes.{backslash, blank, quote, start_of_text, tab}
-use Rattle.roff_escape.specs.Conditions.{begins_expression, choice_made, condition_ended, expression_valued, unit_of_condition}
-use Rattle.roff_escape.specs.Escapes.{is_copied}
-use Rattle.roff_escape.specs.Measures.{motion_of}
-use Rattle.roff_escape.specs.OpenEscape.{OpenEscape, Reads, Backslash, Comment, Name, Size, Delimited, Width, Condition}
-use Rattle.roff_escape.specs.OpenEscapes.{escape_given, motion_given, name_begun, name_ended, name_given, name_or_opening, place_above, reading_ended, reads_text, surroundings, text_given, unit_of_name, unit_of_text, unit_taken}
-use Rattle.roff_escape.specs.declared.escapes.NameUse.{NameUse}
-use Rattle.roff_escape.specs.declared.escapes.NameUse.TheVariants.{Register, Text, Argument, Character, Font, LeftOut}
-use Rattle.roff_escape.specs.declared.escapes.TextUse.{TextUse}
-use Rattle.roff_escape.specs.declared.escapes.TextUse.TheVariants.{Motion as OfMotion, LeftOut as LeftOutText}
-use Rattle.roff_escape.specs.declared.open_escape.ConditionPart.{ConditionPart}
-use Rattle.roff_escape.specs.declared.open_escape.ConditionPart.TheVariants.{Choice, Expression, Decided, Compared}
-use Rattle.roff_escape.specs.declared.open_escape.CopyUnit.{CopyUnit}
-use Rattle.roff_escape.specs.declared.open_escape.CopyUnit.TheVariants.{Byte, Kept}
-use Rattle.roff_escape.specs.declared.open_escape.Found.{Found}
-use Rattle.roff_escape.specs.declared.open_escape.Found.TheVariants.{GoesOn}
-use Rattle.roff_escape.specs.declared.open_escape.NamePart.{NamePart}
-use Rattle.roff_escape.specs.declared.open_escape.NamePart.TheVariants.{Nothing, Opened, First}
-use Rattle.roff_escape.specs.declared.open_escape.Surroundings.{Surroundings}
+use Rattle.input_source.specs.Bytes.{backslash, blank, quote, start_of_text, tab}
+use Rattle.input_escapes.specs.Conditions.{begins_expression, choice_made, condition_ended, expression_valued, unit_of_condition}
+use Rattle.input_escapes.specs.Escapes.{is_copied}
+use Rattle.input_escapes.specs.Measures.{motion_of}
+use Rattle.input_escapes.specs.OpenEscape.{OpenEscape, Reads, Backslash, Comment, Name, Size, Delimited, Width, Condition}
+use Rattle.input_escapes.specs.OpenEscapes.{escape_given, motion_given, name_begun, name_ended, name_given, name_or_opening, place_above, reading_ended, reads_text, surroundings, text_given, unit_of_name, unit_of_text, unit_taken}
+use Rattle.input_escapes.specs.declared.escapes.NameUse.{NameUse}
+use Rattle.input_escapes.specs.declared.escapes.NameUse.TheVariants.{Register, Text, Argument, Character, Font, LeftOut}
+use Rattle.input_escapes.specs.declared.escapes.TextUse.{TextUse}
+use Rattle.input_escapes.specs.declared.escapes.TextUse.TheVariants.{Motion as OfMotion, LeftOut as LeftOutText}
+use Rattle.input_escapes.specs.declared.open_escape.ConditionPart.{ConditionPart}
+use Rattle.input_escapes.specs.declared.open_escape.ConditionPart.TheVariants.{Choice, Expression, Decided, Compared}
+use Rattle.input_escapes.specs.declared.open_escape.CopyUnit.{CopyUnit}
+use Rattle.input_escapes.specs.declared.open_escape.CopyUnit.TheVariants.{Byte, Kept}
+use Rattle.input_escapes.specs.declared.open_escape.Found.{Found}
+use Rattle.input_escapes.specs.declared.open_escape.Found.TheVariants.{GoesOn}
+use Rattle.input_escapes.specs.declared.open_escape.NamePart.{NamePart}
+use Rattle.input_escapes.specs.declared.open_escape.NamePart.TheVariants.{Nothing, Opened, First}
+use Rattle.input_escapes.specs.declared.open_escape.Surroundings.{Surroundings}
 use Rattle.tbl_text.specs.Items.{all_ended, ended, is_ended, line_start}
 
 -- a condition that isn't read decides first

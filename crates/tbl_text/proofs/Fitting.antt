@@ -3,15 +3,15 @@ use Rattle.std.proofs.Common.{◌≡◌, ℕ, ◌≤◌, Bool, true, false, List
 use Rattle.std.specs.Prelude.{◌==◌, ◌&&◌, Option, Some, None, bytes_eq, cond, find, option_map}
 use Rattle.std.specs.List.{list_all}
 use Rattle.std.proofs.Math.Bool.{and-false}
-use Rattle.roff_escape.specs.Characters.{Character as CharacterOf, character, characters}
-use Rattle.roff_escape.specs.Escapes.{escape_of}
-use Rattle.roff_escape.specs.declared.escapes.Escape.{Escape as Kind}
-use Rattle.roff_escape.specs.declared.escapes.Escape.TheVariants.{Prints, Blank as PrintsBlank, NoWidth, Nothing as GivesNothing, Tab, Interrupts, Brace, LeftOut, Comment, Size, Name, Text as BeginsText, Width}
-use Rattle.roff_escape.specs.declared.escapes.NameUse.{NameUse}
-use Rattle.roff_escape.specs.declared.escapes.NameUse.TheVariants.{Register, Text as ReadsText, Argument, Character, Font, LeftOut as LeftOutName}
-use Rattle.roff_escape.specs.declared.escapes.TextUse.TheVariants.{Motion as OfMotion, LeftOut as LeftOutText}
-use Rattle.roff_escape.specs.declared.open_escape.Found.{Found}
-use Rattle.roff_escape.specs.declared.open_escape.Found.TheVariants.{GoesOn, Unit as GivesUnit, Holds, Escape, Asks, Motion, Measures, Tells, Decides}
+use Rattle.input_escapes.specs.Characters.{Character as CharacterOf, character, characters}
+use Rattle.input_escapes.specs.Escapes.{escape_of}
+use Rattle.input_escapes.specs.declared.escapes.Escape.{Escape as Kind}
+use Rattle.input_escapes.specs.declared.escapes.Escape.TheVariants.{Prints, Blank as PrintsBlank, NoWidth, Nothing as GivesNothing, Tab, Interrupts, Brace, LeftOut, Comment, Size, Name, Text as BeginsText, Width}
+use Rattle.input_escapes.specs.declared.escapes.NameUse.{NameUse}
+use Rattle.input_escapes.specs.declared.escapes.NameUse.TheVariants.{Register, Text as ReadsText, Argument, Character, Font, LeftOut as LeftOutName}
+use Rattle.input_escapes.specs.declared.escapes.TextUse.TheVariants.{Motion as OfMotion, LeftOut as LeftOutText}
+use Rattle.input_escapes.specs.declared.open_escape.Found.{Found}
+use Rattle.input_escapes.specs.declared.open_escape.Found.TheVariants.{GoesOn, Unit as GivesUnit, Holds, Escape, Asks, Motion, Measures, Tells, Decides}
 use Rattle.tbl_text.specs.Items.{character_what, columns, escape_what, found_what, name_what}
 use Rattle.tbl_text.proofs.Costs.{worth}
 use Rattle.tbl_text.proofs.PlainTexts.{one_wide}

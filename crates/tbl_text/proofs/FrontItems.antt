@@ -4,12 +4,12 @@ use Rattle.std.specs.Prelude.{◌==◌, Some, None, fold, nat_lt, if◌then◌el
 use Rattle.std.proofs.lemmas.Bool.{ltb-false, ltb-true}
 use Rattle.std.proofs.lemmas.List.{drop-take, take-take}
 use Rattle.std.proofs.lemmas.List.Sums.{sum_by-cons}
-use Rattle.roff_source.specs.Bytes.{backslash, is_dropped}
-use Rattle.roff_escape.specs.Nesting.{is_nothing}
-use Rattle.roff_escape.specs.OpenEscape.{OpenEscape, Reads}
-use Rattle.roff_escape.specs.OpenEscapes.{reading_ended}
-use Rattle.roff_escape.specs.Waiting.{is_ended_by}
-use Rattle.roff_escape.specs.declared.open_escape.Found.{Found}
+use Rattle.input_source.specs.Bytes.{backslash, is_dropped}
+use Rattle.input_escapes.specs.Nesting.{is_nothing}
+use Rattle.input_escapes.specs.OpenEscape.{OpenEscape, Reads}
+use Rattle.input_escapes.specs.OpenEscapes.{reading_ended}
+use Rattle.input_escapes.specs.Waiting.{is_ended_by}
+use Rattle.input_escapes.specs.declared.open_escape.Found.{Found}
 use Rattle.tbl_text.specs.Fitted.{fitting, fitting_text}
 use Rattle.tbl_text.specs.Items.{Item, Reading, all_ended, begun, byte_what, columns, ended, first_item, found_what, item_read, items, line_start, met, taken, whole}
 use Rattle.tbl_text.specs.Measuring.{len_of, width_of}

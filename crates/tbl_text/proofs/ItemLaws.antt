@@ -4,7 +4,7 @@ use Rattle.std.specs.Prelude.{◌==◌, if◌then◌else◌}
 use Rattle.std.specs.List.{AllByRecursion}
 use Rattle.std.proofs.lemmas.List.{take-append-drop, take_min, length-take}
 use Rattle.std.proofs.lemmas.Bool.Decides.{nat_tests}
-use Rattle.roff_source.specs.Bytes.{backslash, is_text_byte}
+use Rattle.input_source.specs.Bytes.{backslash, is_text_byte}
 use Rattle.tbl_text.specs.Items.{Item, begun, first_item, first_items, item_read, items, whole}
 use Rattle.tbl_text.specs.Laws.{ArePlain, byte_item}
 use Rattle.tbl_text.specs.Measuring.{bytes_of}

@@ -1,10 +1,10 @@
 -- An escape behind one byte more, and behind many.
 use Rattle.std.proofs.Common.{◌≡◌, ℕ, ◌+◌, ◌≤◌, Bool, true, false, List, [], ◌∷◌, length, refl, sym, ap, ◌∙◌, arith, rules}
 use Rattle.std.specs.Prelude.{◌==◌, None, Some, fold, if◌then◌else◌}
-use Rattle.roff_source.specs.Bytes.{is_dropped}
-use Rattle.roff_escape.specs.Nesting.{is_nothing}
-use Rattle.roff_escape.specs.OpenEscape.{OpenEscape, Reads}
-use Rattle.roff_escape.specs.declared.open_escape.Found.{Found}
+use Rattle.input_source.specs.Bytes.{is_dropped}
+use Rattle.input_escapes.specs.Nesting.{is_nothing}
+use Rattle.input_escapes.specs.OpenEscape.{OpenEscape, Reads}
+use Rattle.input_escapes.specs.declared.open_escape.Found.{Found}
 use Rattle.tbl_text.specs.Items.{Reading, all_ended, begun, met, reading, taken, whole}
 
 -- a choice by a test that is known

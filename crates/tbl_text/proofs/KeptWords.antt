@@ -3,7 +3,7 @@ use Rattle.std.proofs.Common.{◌≡◌, ◌==◌, ℕ, Bool, true, false, List,
 use Rattle.std.specs.List.{flat_map, join_with_byte}
 use Rattle.std.proofs.lemmas.List.Concat.{flat_map-cons}
 use Rattle.std.proofs.lemmas.List.Splits.{slice_split_none, slice_split_at}
-use Rattle.roff_source.specs.Bytes.{newline}
+use Rattle.input_source.specs.Bytes.{newline}
 use Rattle.tbl_text.specs.BlockWords.{Word, Part, EmptyLine, OneWord, behind_line, is_empty_line, is_request, joined_to, joined_words, parts_behind, parts_of, parts_of_line, words_of}
 use Rattle.tbl_text.specs.BlockLaws.{KeepWords, LieJoined, texts, texts_of_line}
 use Rattle.tbl_text.proofs.Filling.{fills_block}

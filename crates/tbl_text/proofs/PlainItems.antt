@@ -4,7 +4,7 @@ use Rattle.std.specs.Prelude.{nat_lt}
 use Rattle.std.specs.List.{list_all}
 use Rattle.std.proofs.lemmas.Bool.{ne_eqb, ltb-true, lt-leb, le-ltb}
 use Rattle.roff_num.specs.Widths.{byte_width}
-use Rattle.roff_source.specs.Bytes.{blank, tab, newline, backslash, is_dropped, is_silent}
+use Rattle.input_source.specs.Bytes.{blank, tab, newline, backslash, is_dropped, is_silent}
 use Rattle.tbl_text.specs.Items.{Item, items, first_items, item_read, whole, begun, byte_what}
 use Rattle.tbl_text.specs.declared.items.What.{What}
 use Rattle.tbl_text.specs.declared.items.What.TheVariants.{Blank, Byte, NotMeasured, Nothing, Dropped}

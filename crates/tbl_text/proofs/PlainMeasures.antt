@@ -2,7 +2,7 @@
 use Rattle.std.proofs.Common.{◌≡◌, ℕ, Bool, true, false, List, [], ◌∷◌, length, map, refl, ap, ◌∙◌}
 use Rattle.std.specs.Prelude.{◌==◌, None, not, sum_by, if◌then◌else◌}
 use Rattle.roff_num.specs.Widths.{byte_width}
-use Rattle.roff_source.specs.Bytes.{blank, is_text_byte}
+use Rattle.input_source.specs.Bytes.{blank, is_text_byte}
 use Rattle.tbl_text.specs.Items.{items}
 use Rattle.tbl_text.specs.Laws.{ArePlain, before_blanks, byte_item, plain_measured, without_last_blanks}
 use Rattle.tbl_text.specs.Measuring.{before_glyphs, has_notes, len_of, text_measured, up_to_last_glyph}

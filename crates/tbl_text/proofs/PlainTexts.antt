@@ -8,8 +8,8 @@ use Rattle.std.proofs.lemmas.List.{length-take-le, map-append, take_more}
 use Rattle.std.proofs.lemmas.List.Folds.{length-prefix_len}
 use Rattle.std.proofs.lemmas.List.Sums.{sum_by-append, sum_by-cons}
 use Rattle.roff_num.specs.Widths.{byte_width}
-use Rattle.roff_source.specs.Bytes.{blank, is_dropped, is_silent, is_text_byte, tab}
-use Rattle.roff_source.proofs.PlainBytes.{take_while-plain}
+use Rattle.input_source.specs.Bytes.{blank, is_dropped, is_silent, is_text_byte, tab}
+use Rattle.input_source.proofs.PlainBytes.{take_while-plain}
 use Rattle.tbl_text.specs.Items.{Item, byte_what, columns, is_glyph, note}
 use Rattle.tbl_text.specs.Laws.{ArePlain, byte_item}
 use Rattle.tbl_text.specs.Measuring.{before_glyphs, has_notes, len_of, up_to_last_glyph, width_of}

@@ -4,7 +4,7 @@ use Rattle.std.specs.List.{slice_range, list_all}
 use Rattle.std.proofs.lemmas.List.{append-nil, drop-drop, take_rest}
 use Rattle.std.proofs.lemmas.List.Folds.{drop_split}
 use Rattle.std.proofs.Math.Seq.{drop-append_seam}
-use Rattle.roff_layout.specs.Words.{ends_sentence_behind}
+use Rattle.page_model.specs.Words.{ends_sentence_behind}
 use Rattle.tbl_text.specs.Items.{Item, items, columns, is_blank, is_glyph}
 use Rattle.tbl_text.specs.declared.items.What.{What}
 use Rattle.tbl_text.specs.declared.items.What.TheVariants.{Blank, Byte, Glyph, Ampersand, NotMeasured, Nothing, Dropped}

@@ -3,7 +3,7 @@ use Rattle.std.proofs.Common.{◌≡◌, ℕ, ◌+◌, Bool, true, false, List, 
 use Rattle.std.specs.Prelude.{◌==◌, ◌&&◌, ◌||◌, cond, not, filter, Option, Some, None, option_map, slice_index, if◌then◌else◌}
 use Rattle.std.specs.Option.{option_or}
 use Rattle.std.proofs.lemmas.Bool.Decides.{nat_tests}
-use Rattle.roff_source.specs.Bytes.{dot, is_digit, is_dropped}
+use Rattle.input_source.specs.Bytes.{dot, is_digit, is_dropped}
 use Rattle.tbl_text.specs.Items.{Item, columns, is_ampersand}
 use Rattle.tbl_text.specs.Measuring.{Place, adjoins_digit, begins_with, is_before_ampersand, is_before_digit, is_before_dot, is_digit_itself, is_dot_itself, leftmost, len_of, place_if, rightmost, split_around, split_before, split_behind, split_of, stands_for, width_of}
 use Rattle.tbl_text.specs.MeasuredSoFar.{ampersand_split, byte_split, dot_before, is_digit_before, item_split, split_between}

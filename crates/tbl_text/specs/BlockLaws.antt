@@ -1,7 +1,7 @@
 -- Words for the laws and the worked rows of text blocks.
 use Rattle.std.specs.Prelude.{◌≡◌, ℕ, ◌==◌, false, List, [], ◌∷◌, map, if◌then◌else◌}
 use Rattle.std.specs.List.{All, flat_map, join_with_byte}
-use Rattle.roff_source.specs.Bytes.{newline}
+use Rattle.input_source.specs.Bytes.{newline}
 use Rattle.tbl_text.specs.BlockWords.{Part, EmptyLine, OneWord, is_empty_line, is_request, lines_in, parts_of, words_of}
 use Rattle.tbl_text.specs.BlockLines.{line_text, lines_of}
 

@@ -3,7 +3,7 @@ use Rattle.std.specs.Prelude.{◌≡◌, ℕ, zero, suc, ◌+◌, ◌<◌, ◌�
 use Rattle.std.specs.List.{flat_map}
 use Rattle.roff_lines.specs.declared.fill.Word.{Word as MeasuredWord}
 use Rattle.roff_lines.specs.FirstLine.{count_joining, first_line_count}
-use Rattle.roff_source.specs.Bytes.{blank}
+use Rattle.input_source.specs.Bytes.{blank}
 use Rattle.tbl_text.specs.BlockWords.{Word, Part, EmptyLine, OneWord}
 
 -- the blanks that stand in front of a word where it begins a line of the picture: those of its own line, if it breaks

@@ -1,6 +1,6 @@
 -- What stands between blanks on a line of a block, as far as it is read.
 use Rattle.std.specs.Prelude.{ℕ, ◌+◌, Bool, true, false, List, length, Option, Some, None, if◌then◌else◌, ◌==◌}
-use Rattle.roff_layout.specs.Words.{ends_sentence_behind}
+use Rattle.page_model.specs.Words.{ends_sentence_behind}
 use Rattle.tbl_text.specs.Items.{columns, is_glyph}
 use Rattle.tbl_text.specs.BlockWords.{ends_behind}
 use Rattle.tbl_text.specs.declared.items.What.{What}

@@ -2,8 +2,8 @@
 -- Manual", sections 1.1 and 4.1).
 use Rattle.std.specs.Prelude.{ℕ, ◌+◌, Bool, true, false, not, ◌&&◌, ◌||◌, List, [], ◌∷◌, ◌++◌, fold, map, nat_lt, Option, Some, None, if◌then◌else◌, ◌==◌}
 use Rattle.std.specs.List.{list_any, list_all, slice_split}
-use Rattle.roff_layout.specs.Words.{ends_sentence_behind}
-use Rattle.roff_source.specs.Bytes.{blank, newline, dot, backslash, is_dropped}
+use Rattle.page_model.specs.Words.{ends_sentence_behind}
+use Rattle.input_source.specs.Bytes.{blank, newline, dot, backslash, is_dropped}
 use Rattle.tbl_text.specs.Items.{Item, items, is_blank, is_glyph}
 use Rattle.tbl_text.specs.Measuring.{bytes_of, width_of, up_to_last_glyph}
 use Rattle.tbl_text.specs.declared.items.What.{What}

@@ -6,22 +6,22 @@
 -- their own between items. At the text's end every reading ends.
 use Rattle.std.specs.Prelude.{ℕ, zero, suc, pos, ◌+◌, Bool, true, false, not, List, [], ◌∷◌, fold, length, take, drop, Option, Some, None, if◌then◌else◌, ◌==◌}
 use Rattle.roff_num.specs.Widths.{byte_width}
-use Rattle.roff_source.specs.Bytes.{blank, tab, backslash, is_dropped, is_silent}
-use Rattle.roff_escape.specs.Characters.{character}
-use Rattle.roff_escape.specs.Escapes.{escape_of}
-use Rattle.roff_escape.specs.Nesting.{is_nothing}
-use Rattle.roff_escape.specs.OpenEscape.{OpenEscape, Reads}
-use Rattle.roff_escape.specs.OpenEscapes.{byte_read, reading_ended}
-use Rattle.roff_escape.specs.Waiting.{is_ended_by}
-use Rattle.roff_escape.specs.declared.escapes.Escape.{Escape as Kind}
-use Rattle.roff_escape.specs.declared.escapes.Escape.TheVariants.{Prints, Blank as PrintsBlank, NoWidth, Tab, Interrupts, Brace, LeftOut, Text as BeginsText}
-use Rattle.roff_escape.specs.declared.escapes.NameUse.{NameUse}
-use Rattle.roff_escape.specs.declared.escapes.NameUse.TheVariants.{Register, Text as ReadsText, Argument, Character, Font, LeftOut as LeftOutName}
-use Rattle.roff_escape.specs.declared.escapes.TextUse.TheVariants.{LeftOut as LeftOutText}
-use Rattle.roff_escape.specs.declared.open_escape.Found.{Found}
-use Rattle.roff_escape.specs.declared.open_escape.Found.TheVariants.{Escape, Asks, Motion, Measures}
-use Rattle.roff_escape.specs.declared.open_escape.Surroundings.{Surroundings}
-use Rattle.roff_escape.specs.declared.open_escape.Surroundings.TheVariants.{Text as InText}
+use Rattle.input_source.specs.Bytes.{blank, tab, backslash, is_dropped, is_silent}
+use Rattle.input_escapes.specs.Characters.{character}
+use Rattle.input_escapes.specs.Escapes.{escape_of}
+use Rattle.input_escapes.specs.Nesting.{is_nothing}
+use Rattle.input_escapes.specs.OpenEscape.{OpenEscape, Reads}
+use Rattle.input_escapes.specs.OpenEscapes.{byte_read, reading_ended}
+use Rattle.input_escapes.specs.Waiting.{is_ended_by}
+use Rattle.input_escapes.specs.declared.escapes.Escape.{Escape as Kind}
+use Rattle.input_escapes.specs.declared.escapes.Escape.TheVariants.{Prints, Blank as PrintsBlank, NoWidth, Tab, Interrupts, Brace, LeftOut, Text as BeginsText}
+use Rattle.input_escapes.specs.declared.escapes.NameUse.{NameUse}
+use Rattle.input_escapes.specs.declared.escapes.NameUse.TheVariants.{Register, Text as ReadsText, Argument, Character, Font, LeftOut as LeftOutName}
+use Rattle.input_escapes.specs.declared.escapes.TextUse.TheVariants.{LeftOut as LeftOutText}
+use Rattle.input_escapes.specs.declared.open_escape.Found.{Found}
+use Rattle.input_escapes.specs.declared.open_escape.Found.TheVariants.{Escape, Asks, Motion, Measures}
+use Rattle.input_escapes.specs.declared.open_escape.Surroundings.{Surroundings}
+use Rattle.input_escapes.specs.declared.open_escape.Surroundings.TheVariants.{Text as InText}
 use Rattle.tbl_text.specs.declared.items.What.{What}
 use Rattle.tbl_text.specs.declared.items.What.TheVariants.{Blank, Byte, Glyph, Ampersand, NotMeasured, Nothing, Dropped}
 

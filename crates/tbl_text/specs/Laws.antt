@@ -2,7 +2,7 @@
 use Rattle.std.specs.Prelude.{◌≡◌, ◌==◌, ℕ, true, false, List, [], ◌∷◌, length, map, sum_by, None, if◌then◌else◌}
 use Rattle.std.specs.List.{AllByRecursion}
 use Rattle.roff_num.specs.Widths.{byte_width}
-use Rattle.roff_source.specs.Bytes.{blank, is_text_byte}
+use Rattle.input_source.specs.Bytes.{blank, is_text_byte}
 use Rattle.tbl_text.specs.Items.{Item, byte_what, items}
 use Rattle.tbl_text.specs.declared.items.What.{What}
 use Rattle.tbl_text.specs.declared.measure.Measured.{Measured}

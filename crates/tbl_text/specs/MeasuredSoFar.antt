@@ -1,7 +1,7 @@
 -- What the code keeps of a text whose items are being measured.
 use Rattle.std.specs.Prelude.{ℕ, ◌+◌, ◌==◌, Bool, true, false, ◌||◌, ◌&&◌, nat_lt, Option, Some, None, is_some, List, [], ◌∷◌, if◌then◌else◌}
 use Rattle.std.specs.Option.{option_or}
-use Rattle.roff_source.specs.Bytes.{dot, is_digit, is_dropped, is_text_byte}
+use Rattle.input_source.specs.Bytes.{dot, is_digit, is_dropped, is_text_byte}
 use Rattle.tbl_text.specs.Items.{Item, columns, is_glyph, note}
 use Rattle.tbl_text.specs.Measuring.{len_of}
 use Rattle.tbl_text.specs.declared.items.What.{What}

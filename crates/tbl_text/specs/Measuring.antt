@@ -3,7 +3,7 @@
 use Rattle.std.specs.Prelude.{ℕ, ◌+◌, ◌≤◌, ◌==◌, Bool, true, false, not, ◌&&◌, ◌||◌, List, [], ◌∷◌, ◌++◌, filter, flat_map, length, sum_by, Option, Some, None, is_some, option_map, option_to_list, if◌then◌else◌}
 use Rattle.std.specs.List.{list_any}
 use Rattle.std.specs.Option.{option_or}
-use Rattle.roff_source.specs.Bytes.{dot, is_digit, is_dropped}
+use Rattle.input_source.specs.Bytes.{dot, is_digit, is_dropped}
 use Rattle.tbl_text.specs.Items.{Item, columns, is_ampersand, is_glyph, items, note}
 use Rattle.tbl_text.specs.declared.items.What.TheVariants.{Nothing}
 use Rattle.tbl_text.specs.declared.measure.Measured.{Measured}

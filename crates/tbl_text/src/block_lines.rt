@@ -14,7 +14,7 @@ ghost use Rattle.tbl_text.specs.FilledLines.{word_on_line};
 
 use crate::block_parts::{BlockPart, BlockPlace, next_part, word_behind};
 use crate::block_words::BlockWord;
-use roff_escape::OpenEscapes;
+use input_escapes::OpenEscapes;
 use roff_lines::{Word, width_of_line};
 
 /// What comes next on a line of a block.

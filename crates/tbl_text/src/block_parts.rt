@@ -14,9 +14,9 @@ ghost use Rattle.tbl_text.specs.FittedWords.{word_fitted};
 
 use crate::block_words::{BlockWord, next_word};
 use crate::fitted::cut_word;
+use input_escapes::OpenEscapes;
+use input_source::is_dropped;
 use memchr::memchr;
-use roff_escape::OpenEscapes;
-use roff_source::is_dropped;
 
 /// Where a text block is read, in its bytes.
 #[derive(Clone, Copy)]

@@ -9,7 +9,7 @@ ghost use Rattle.tbl_text.specs.BlockWords.{ends_behind, is_plain, words_of};
 ghost use Rattle.tbl_text.specs.Items.{columns};
 
 use crate::items::{What, next_item};
-use roff_escape::OpenEscapes;
+use input_escapes::OpenEscapes;
 use roff_lines::ends_sentence_behind;
 
 /// A word of a text block.

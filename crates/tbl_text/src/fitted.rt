@@ -11,7 +11,7 @@ use crate::block_parts::{BlockPlace, next_part};
 use crate::block_words::{BlockWord, next_word};
 use crate::items::next_item;
 use crate::measure::behind;
-use roff_escape::OpenEscapes;
+use input_escapes::OpenEscapes;
 
 /// How many bytes of a text fit in so many columns: whole items of it, and behind the last of them
 /// those without width.

@@ -7,17 +7,17 @@
 
 ghost use Rattle.std.specs.Prelude.{◌≡◌, ◌+◌, ◌<◌, ◌≤◌, ◌^◌, ◌∷◌, [], false, drop, fold, length};
 ghost use Rattle.std.specs.Prelude.{slice_index, take, Some};
-ghost use Rattle.roff_source.specs.Bytes.{backslash};
-ghost use Rattle.roff_escape.specs.Nesting.{is_nothing};
+ghost use Rattle.input_source.specs.Bytes.{backslash};
+ghost use Rattle.input_escapes.specs.Nesting.{is_nothing};
 ghost use Rattle.tbl_text.specs.Items.{all_ended, begun, byte_what, character_what, columns};
 ghost use Rattle.tbl_text.specs.Items.{found_what, is_ended, is_glyph, items, met, name_what, note};
 ghost use Rattle.tbl_text.specs.Items.{printed, reading};
 
-use roff_escape::{
+use input_escapes::{
     Escape, Found, NameUse, OpenEscapes, Surroundings, TextUse, character, escape_of,
 };
+use input_source::{is_dropped, is_silent};
 use roff_num::{Name, width_of_byte};
-use roff_source::{is_dropped, is_silent};
 
 /// What an item of a text is.
 #[derive(Clone, Copy)]

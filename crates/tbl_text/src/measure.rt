@@ -12,8 +12,8 @@ ghost use Rattle.tbl_text.specs.Measuring.{up_to_last_glyph, width_of};
 
 use crate::items::{Item, What, next_item};
 use crate::plain::{plain_glyphs, plain_in_front};
-use roff_escape::OpenEscapes;
-use roff_source::is_dropped;
+use input_escapes::OpenEscapes;
+use input_source::is_dropped;
 
 /// Where a number is split in two.
 #[derive(Clone, Copy)]

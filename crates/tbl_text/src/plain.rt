@@ -7,8 +7,8 @@ ghost use Rattle.tbl_text.specs.Laws.{ArePlain, byte_item};
 ghost use Rattle.tbl_text.specs.MeasuredSoFar.{is_ascii_text};
 ghost use Rattle.tbl_text.specs.Measuring.{len_of, up_to_last_glyph, width_of};
 
+use input_source::text_in_front;
 use roff_num::width_of_byte;
-use roff_source::text_in_front;
 
 /// Texts of fewer bytes are looked at byte by byte.
 const SHORT: usize = 16;

@@ -1,6 +1,6 @@
 -- What an engine is made with.
 use Rattle.roff_num.specs.declared.limits.Limits.{Limits}
-use Rattle.roff_run.specs.declared.start.Start.{Start}
+use Rattle.run_model.specs.declared.start.Start.{Start}
 
 -- its limits, and what is given to its run
 pub record Setup : Type 0 where

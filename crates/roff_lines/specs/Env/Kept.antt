@@ -1,16 +1,16 @@
 -- What an environment keeps of its history.
 use Rattle.std.specs.Prelude.{◌≡◌, ℕ, ◌+◌, ◌-◌, ◌/◌, ◌<◌, ◌≤◌, ◌^◌, min, Bool, true, false, ◌&&◌, ◌||◌, not, List, [], ◌++◌, length, replicate, Option, Some, None, if◌then◌else◌, ◌==◌}
 use Rattle.roff_lines.specs.declared.env.Env.TheInside.{Inside}
-use Rattle.roff_layout.specs.declared.settings.Settings.{Settings}
-use Rattle.roff_layout.specs.declared.glyph.Glyph.{Glyph}
-use Rattle.roff_layout.specs.Glyphs.{glyph_blank, glyph_text, glyph_width, text_width}
-use Rattle.roff_layout.specs.Settings.{fills, counted}
-use Rattle.roff_layout.specs.TabStops.{TabStops}
-use Rattle.roff_layout.specs.Places.{most_place, moved}
-use Rattle.roff_layout.specs.Fitting.{gap_text, may_be_wide}
-use Rattle.roff_layout.specs.Words.{is_closer, is_sentence_mark, ends_sentence_behind, indent_by}
-use Rattle.roff_layout.specs.Lines.{Finished, laid_out, empty_line}
-use Rattle.roff_layout.specs.LastLine.{line_width}
+use Rattle.page_model.specs.declared.settings.Settings.{Settings}
+use Rattle.page_model.specs.declared.glyph.Glyph.{Glyph}
+use Rattle.page_model.specs.Glyphs.{glyph_blank, glyph_text, glyph_width, text_width}
+use Rattle.page_model.specs.Settings.{fills, counted}
+use Rattle.page_model.specs.TabStops.{TabStops}
+use Rattle.page_model.specs.Places.{most_place, moved}
+use Rattle.page_model.specs.Fitting.{gap_text, may_be_wide}
+use Rattle.page_model.specs.Words.{is_closer, is_sentence_mark, ends_sentence_behind, indent_by}
+use Rattle.page_model.specs.Lines.{Finished, laid_out, empty_line}
+use Rattle.page_model.specs.LastLine.{line_width}
 
 -- an open field: the columns from its tab to its stop, and whether its text has its middle there; its text, and the blanks before
 -- the word that its tab stands in

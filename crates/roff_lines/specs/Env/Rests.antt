@@ -4,7 +4,7 @@ use Rattle.std.specs.Borrow.{MutBor, Fml, follows_so}
 use mathlib.Core.Option.{none}
 use Rattle.roff_lines.specs.declared.env.Env.{Env}
 use Rattle.roff_lines.specs.contracts.env.Env.{the_row}
-use Rattle.roff_layout.specs.declared.event.Event.{Event}
+use Rattle.page_model.specs.declared.event.Event.{Event}
 use Rattle.roff_lines.specs.Env.Stands.{StandsBehind}
 
 -- P holds of the environment then

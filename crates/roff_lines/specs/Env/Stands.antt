@@ -2,17 +2,17 @@
 --
 -- Where no field is open, it stands for the plain history that tells its history without fields.
 use Rattle.std.specs.Prelude.{◌≡◌, ℕ, ◌<◌, ◌≤◌, ◌^◌, min, true, false, not, ◌∷◌, Option, Some, None}
-use Rattle.roff_layout.specs.declared.event.Event.{Event}
-use Rattle.roff_layout.specs.Events.{History, settings_after, stops_after, is_interrupted}
-use Rattle.roff_layout.specs.Places.{has_line_glyph, input_place}
-use Rattle.roff_layout.specs.TabStops.{way_to_next}
-use Rattle.roff_layout.specs.Fitting.{word_text, line_text, line_indent}
-use Rattle.roff_layout.specs.Words.{is_empty, has_open_word, last_word_glyphs, ends_sentence, blanks, open_word, words, temporary_indent}
-use Rattle.roff_layout.specs.Lines.{Finished, pending_line, pending_length, pending_length as length_plainly, finished as finished_plainly}
-use Rattle.roff_layout.specs.Fields.{Field, Told, field_text, field_told, so_far, tab_told, told}
-use Rattle.roff_layout.specs.Behind.{finished}
+use Rattle.page_model.specs.declared.event.Event.{Event}
+use Rattle.page_model.specs.Events.{History, settings_after, stops_after, is_interrupted}
+use Rattle.page_model.specs.Places.{has_line_glyph, input_place}
+use Rattle.page_model.specs.TabStops.{way_to_next}
+use Rattle.page_model.specs.Fitting.{word_text, line_text, line_indent}
+use Rattle.page_model.specs.Words.{is_empty, has_open_word, last_word_glyphs, ends_sentence, blanks, open_word, words, temporary_indent}
+use Rattle.page_model.specs.Lines.{Finished, pending_line, pending_length, pending_length as length_plainly, finished as finished_plainly}
+use Rattle.page_model.specs.Fields.{Field, Told, field_text, field_told, so_far, tab_told, told}
+use Rattle.page_model.specs.Behind.{finished}
 use Rattle.roff_lines.specs.Env.Kept.{Kept, KeptField, with_field_left}
-use Rattle.roff_layout.specs.LastLine.{last_text, last_width}
+use Rattle.page_model.specs.LastLine.{last_text, last_width}
 
 -- an environment of this limit, in which no field is open, keeps k behind the plain history h
 pub record StandsPlain (line_cap : ℕ) (h : History) (k : Kept) : Type 0 where

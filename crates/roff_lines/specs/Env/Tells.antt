@@ -1,13 +1,13 @@
 -- Bytes of a text line that an environment is told at once.
 use Rattle.std.specs.Prelude.{◌≡◌, ℕ, ◌+◌, ◌-◌, ◌<◌, ◌≤◌, true, List, [], ◌∷◌, ◌++◌, length, take, drop, slice_index_or, Option, None, if◌then◌else◌, ◌==◌}
 use Rattle.std.specs.List.{AllByRecursion}
-use Rattle.roff_layout.specs.Glyphs.{gaps_in, text_width}
-use Rattle.roff_layout.specs.Events.{History}
-use Rattle.roff_layout.specs.Fitting.{may_be_wide}
-use Rattle.roff_layout.specs.declared.event.Event.TheVariants.{WordEnd}
-use Rattle.roff_layout.specs.declared.glyph.Glyph.TheVariants.{Printed}
-use Rattle.roff_layout.specs.Lines.{Finished, finished, pending_length}
-use Rattle.roff_layout.specs.Telling.{bytes_told, QuietlyTold}
+use Rattle.page_model.specs.Glyphs.{gaps_in, text_width}
+use Rattle.page_model.specs.Events.{History}
+use Rattle.page_model.specs.Fitting.{may_be_wide}
+use Rattle.page_model.specs.declared.event.Event.TheVariants.{WordEnd}
+use Rattle.page_model.specs.declared.glyph.Glyph.TheVariants.{Printed}
+use Rattle.page_model.specs.Lines.{Finished, finished, pending_length}
+use Rattle.page_model.specs.Telling.{bytes_told, QuietlyTold}
 use Rattle.roff_lines.specs.Env.Kept.{Kept, glyph_room, length_told, word_finishes}
 use Rattle.roff_lines.specs.Env.Stands.{Stands, StandsPlain}
 

@@ -1,11 +1,11 @@
 -- Text lines that are finished as they stand, where words aren't measured.
 use Rattle.std.specs.Prelude.{◌≡◌, ℕ, ◌+◌, ◌-◌, ◌<◌, ◌≤◌, false, List, [], ◌++◌, length, take, None, slice_index_or, Some}
-use Rattle.roff_layout.specs.declared.event.Event.TheVariants.{LineEnd, WordEnd}
-use Rattle.roff_layout.specs.Glyphs.{gaps_in}
-use Rattle.roff_layout.specs.Settings.{fills, counted}
-use Rattle.roff_layout.specs.Words.{indent_by}
-use Rattle.roff_layout.specs.Lines.{Finished, laid_out}
-use Rattle.roff_layout.specs.LastLine.{line_width}
+use Rattle.page_model.specs.declared.event.Event.TheVariants.{LineEnd, WordEnd}
+use Rattle.page_model.specs.Glyphs.{gaps_in}
+use Rattle.page_model.specs.Settings.{fills, counted}
+use Rattle.page_model.specs.Words.{indent_by}
+use Rattle.page_model.specs.Lines.{Finished, laid_out}
+use Rattle.page_model.specs.LastLine.{line_width}
 use Rattle.roff_lines.specs.Env.Kept.{Kept}
 use Rattle.roff_lines.specs.Env.Stands.{Finishes, StandsBehind}
 use Rattle.roff_lines.specs.Env.Tells.{IsRun, Tells}

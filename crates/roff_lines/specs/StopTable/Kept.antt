@@ -1,7 +1,7 @@
 -- What the table of tab stops keeps.
 use Rattle.std.specs.Prelude.{◌≤◌, Some, None, if◌then◌else◌, vec_len, vec_capacity}
 use Rattle.roff_lines.specs.declared.stops.StopTable.TheInside.{Inside}
-use Rattle.roff_layout.specs.TabStops.{TabStops}
+use Rattle.page_model.specs.TabStops.{TabStops}
 
 -- the stops that were set, if any were
 abbrev pub stops_kept : Inside → TabStops

@@ -1,6 +1,6 @@
 -- Ways to tab stops, as they are told.
 use Rattle.std.specs.Prelude.{Option, Some, None, if◌then◌else◌, ◌==◌}
-use Rattle.roff_layout.specs.TabStops as tab_stops
+use Rattle.page_model.specs.TabStops as tab_stops
 use Rattle.roff_lines.specs.declared.stops.Way.{Way}
 
 -- the way that was told, if one was

@@ -1,7 +1,7 @@
 -- What a buffer of the environment holds.
 use Rattle.std.specs.Prelude.{◌≡◌, ℕ, ◌+◌, ◌≤◌, List, length, take, vec_capacity}
 use Rattle.roff_lines.specs.declared.stretch.Stretch.TheInside.{Inside}
-use Rattle.roff_layout.specs.Glyphs.{text_width, gaps_in}
+use Rattle.page_model.specs.Glyphs.{text_width, gaps_in}
 
 -- a part of a line's text, and how many bytes it has room for
 pub record Held : Type 0 where

@@ -15,7 +15,7 @@ use super::words::{fits, moved};
 use crate::glyph::{ends_sentence_behind, ends_sentence_behind_glyph, kept_byte};
 use crate::shape::Shape;
 use crate::words::measured_glyphs;
-use roff_layout::{Glyph, Line, StopKind, UNPADDABLE};
+use page_model::{Glyph, Line, StopKind, UNPADDABLE};
 use roff_num::Limit;
 
 impl Env {

@@ -7,7 +7,7 @@ ghost use Rattle.roff_lines.specs.Clauses.{shaped};
 
 use super::{Env, counted};
 use crate::shape::Shape;
-use roff_layout::{Event, Line};
+use page_model::{Event, Line};
 use std::mem;
 
 impl Env {

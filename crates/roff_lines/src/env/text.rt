@@ -13,7 +13,7 @@ use super::words::moved;
 use crate::glyph::ends_sentence_behind;
 use crate::stretch::Stretch;
 use crate::words::{measured_glyphs, whole_words};
-use roff_layout::Settings;
+use page_model::Settings;
 
 /// More columns than the pending line has, its indent among them.
 const MOST_COLUMNS: u64 = 1 << 35;

@@ -9,7 +9,7 @@ ghost use Rattle.roff_lines.specs.Env.Unfilled.{AreWords};
 use super::{Env, counted};
 use crate::lanes::{gaps_of_step, run_of_step};
 use crate::shape::Shape;
-use roff_layout::Line;
+use page_model::Line;
 use roff_num::lanes::STEP;
 use std::mem;
 

@@ -11,7 +11,7 @@ use super::Env;
 use crate::glyph::{ends_sentence_behind_glyph, kept_byte};
 use crate::shape::Shape;
 use crate::stretch::Stretch;
-use roff_layout::{FURTHER_BLANK, GAP, Glyph, Settings, UNPADDABLE};
+use page_model::{FURTHER_BLANK, GAP, Glyph, Settings, UNPADDABLE};
 use roff_num::Limit;
 use std::mem;
 

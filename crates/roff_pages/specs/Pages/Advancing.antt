@@ -1,12 +1,12 @@
 -- A page with more boxes: it may end, and something may spring. A diversion with more boxes.
 use Rattle.std.specs.Prelude.{◌-◌, ℕ, ◌+◌, not, List, ◌++◌, length, Option, None, if◌then◌else◌, ◌==◌}
 use Rattle.roff_num.specs.declared.short_name.ShortName.{ShortName}
-use Rattle.roff_layout.specs.Layout.{Box, Layout, page_place}
-use Rattle.roff_layout.specs.Turning.{in_innermost, turned_if_full}
-use Rattle.roff_layout.specs.Stops.{next_stop}
+use Rattle.page_model.specs.Layout.{Box, Layout, page_place}
+use Rattle.page_model.specs.Turning.{in_innermost, turned_if_full}
+use Rattle.page_model.specs.Stops.{next_stop}
 use Rattle.roff_pages.specs.Pages.Kept.{Kept}
-use Rattle.roff_layout.specs.Springs.{first_met, is_on_top, is_passed, passed_in}
-use Rattle.roff_layout.specs.Queries.{place_now}
+use Rattle.page_model.specs.Springs.{first_met, is_on_top, is_passed, passed_in}
+use Rattle.page_model.specs.Queries.{place_now}
 
 -- the page with boxes more, before it ends
 abbrev pub with_lines : List Box → Layout → Layout

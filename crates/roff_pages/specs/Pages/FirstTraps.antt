@@ -3,9 +3,9 @@ use Rattle.std.specs.Prelude.{◌≡◌, ℕ, suc, Bool, false, List, [], ◌∷
 use Rattle.std.specs.List.{list_any}
 use Rattle.roff_pages.specs.declared.sought.Sought.{Sought}
 use Rattle.roff_pages.specs.declared.sought.Sought.TheVariants.{Given, Named, Lying}
-use Rattle.roff_layout.specs.declared.trap.Trap.{Trap}
-use Rattle.roff_layout.specs.Stops.{place_of}
-use Rattle.roff_layout.specs.Turning.{is_given, is_named}
+use Rattle.page_model.specs.declared.trap.Trap.{Trap}
+use Rattle.page_model.specs.Stops.{place_of}
+use Rattle.page_model.specs.Turning.{is_given, is_named}
 
 -- its place in turn, or how many traps there are
 abbrev pub first_index : (Trap → Bool) → List Trap → ℕ

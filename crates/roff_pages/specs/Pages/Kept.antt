@@ -1,10 +1,10 @@
 -- What the code keeps of a layout: boxes are counted.
 use Rattle.std.specs.Prelude.{◌≡◌, ℕ, ◌+◌, ◌-◌, ◌*◌, ◌<◌, ◌≤◌, ◌^◌, Bool, true, false, List, [], ◌∷◌, reverse, length, Option, Some, None, vec_capacity}
 use Rattle.roff_num.specs.declared.num.Num.{Num}
-use Rattle.roff_layout.specs.declared.trap.Trap.{Trap}
+use Rattle.page_model.specs.declared.trap.Trap.{Trap}
 use Rattle.roff_pages.specs.declared.open_diversion.OpenDiversion.{OpenDiversion}
 use Rattle.roff_pages.specs.declared.pages.Pages.TheInside.{Inside}
-use Rattle.roff_layout.specs.Stops.{next_stop}
+use Rattle.page_model.specs.Stops.{next_stop}
 use Rattle.roff_pages.specs.Pages.KnownStops.{AreKnown}
 
 -- as in a layout, but for the place on the page and the open diversions, in which boxes are counted; and how many traps there

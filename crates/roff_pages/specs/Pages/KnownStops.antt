@@ -2,9 +2,9 @@
 use Rattle.std.specs.Prelude.{◌≡◌, ℕ, ◌<◌, ◌≤◌, List, length, Option, Some, None, slice_get, option_map, ◌==◌, if◌then◌else◌}
 use Rattle.std.specs.List.{AllByRecursion}
 use Rattle.roff_num.specs.declared.short_name.ShortName.{ShortName}
-use Rattle.roff_layout.specs.declared.trap.Trap.{Trap}
-use Rattle.roff_layout.specs.Stops.{next_stop}
-use Rattle.roff_layout.specs.Springs.{first_met, is_on_top}
+use Rattle.page_model.specs.declared.trap.Trap.{Trap}
+use Rattle.page_model.specs.Stops.{next_stop}
+use Rattle.page_model.specs.Springs.{first_met, is_on_top}
 use Rattle.roff_pages.specs.declared.stops.Stop.{Stop}
 use Rattle.roff_pages.specs.declared.stops.Beyond.{Beyond}
 use Rattle.roff_pages.specs.declared.stops.Top.{Top}

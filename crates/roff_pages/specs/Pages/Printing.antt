@@ -1,14 +1,14 @@
 -- What a call that writes makes of pages and of a sink.
 use Rattle.std.specs.Prelude.{◌≡◌, ℕ, ◌+◌, ◌<◌, ◌≤◌, Bool, List, [], length, Option, Result, Ok, Err, if◌then◌else◌}
 use Rattle.roff_num.specs.declared.short_name.ShortName.{ShortName}
-use Rattle.roff_sinks.specs.declared.page_fault.PageFault.{PageFault}
-use Rattle.roff_sinks.specs.declared.page_fault.PageFault.TheVariants.{Output, Sink}
-use Rattle.roff_sinks.specs.Sinks.{Sunk, Writes, Fails}
-use Rattle.roff_layout.specs.Layout.{Box, Layout}
-use Rattle.roff_layout.specs.Happenings.{Happening}
-use Rattle.roff_layout.specs.Turning.{turned_if_full, with_event}
-use Rattle.roff_layout.specs.Springs.{springs}
-use Rattle.roff_layout.specs.DeviceText.{device_lines, device_text}
+use Rattle.page_bytes.specs.declared.page_fault.PageFault.{PageFault}
+use Rattle.page_bytes.specs.declared.page_fault.PageFault.TheVariants.{Output, Sink}
+use Rattle.page_bytes.specs.Sinks.{Sunk, Writes, Fails}
+use Rattle.page_model.specs.Layout.{Box, Layout}
+use Rattle.page_model.specs.Happenings.{Happening}
+use Rattle.page_model.specs.Turning.{turned_if_full, with_event}
+use Rattle.page_model.specs.Springs.{springs}
+use Rattle.page_model.specs.DeviceText.{device_lines, device_text}
 use Rattle.roff_pages.specs.Pages.Kept.{Kept}
 use Rattle.roff_pages.specs.Pages.Stands.{StandsAs, SameLimits}
 use Rattle.roff_pages.specs.Pages.Advancing.{sprung_by, with_lines}

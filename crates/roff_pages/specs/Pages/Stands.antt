@@ -1,9 +1,9 @@
 -- When pages stand for a layout, and what a call makes of them.
 use Rattle.std.specs.Prelude.{◌≡◌, ◌^◌, min, length, map}
 use Rattle.roff_pages.specs.declared.open_diversion.OpenDiversion.{OpenDiversion}
-use Rattle.roff_layout.specs.Layout.{Layout, Diversion, page_place}
-use Rattle.roff_layout.specs.Happenings.{Happening}
-use Rattle.roff_layout.specs.Turning.{greatest_width, with_event}
+use Rattle.page_model.specs.Layout.{Layout, Diversion, page_place}
+use Rattle.page_model.specs.Happenings.{Happening}
+use Rattle.page_model.specs.Turning.{greatest_width, with_event}
 use Rattle.roff_pages.specs.Pages.Kept.{Kept}
 use Rattle.roff_pages.specs.Pages.Counted.{counted}
 

@@ -5,17 +5,17 @@
 
 ghost use Rattle.std.specs.Prelude.{◌≡◌, ℕ, ◌+◌, ◌<◌, ◌^◌, length, List, None, Option};
 ghost use Rattle.std.specs.Prelude.{if◌then◌else◌};
-ghost use Rattle.roff_layout.specs.Columns.{finished_of, printed};
-ghost use Rattle.roff_layout.specs.Glyphs.{text_width};
-ghost use Rattle.roff_layout.specs.Titles.{part_text};
-ghost use Rattle.roff_sinks.specs.TitleLeft.{title_of};
-ghost use Rattle.roff_layout.specs.Layout.{Box, Diversion, Layout};
-ghost use Rattle.roff_layout.specs.declared.layout_event.LayoutEvent.TheVariants.{Need, Space};
-ghost use Rattle.roff_layout.specs.Happenings.{Does, Places, Titles};
-ghost use Rattle.roff_layout.specs.Puts.{needed, within_stop};
-ghost use Rattle.roff_layout.specs.Turning.{greatest_width, in_diversion};
-ghost use Rattle.roff_layout.specs.Springs.{springs};
-ghost use Rattle.roff_layout.specs.Queries.{text_target, way_from};
+ghost use Rattle.page_model.specs.Columns.{finished_of, printed};
+ghost use Rattle.page_model.specs.Glyphs.{text_width};
+ghost use Rattle.page_model.specs.Titles.{part_text};
+ghost use Rattle.page_bytes.specs.TitleLeft.{title_of};
+ghost use Rattle.page_model.specs.Layout.{Box, Diversion, Layout};
+ghost use Rattle.page_model.specs.declared.layout_event.LayoutEvent.TheVariants.{Need, Space};
+ghost use Rattle.page_model.specs.Happenings.{Does, Places, Titles};
+ghost use Rattle.page_model.specs.Puts.{needed, within_stop};
+ghost use Rattle.page_model.specs.Turning.{greatest_width, in_diversion};
+ghost use Rattle.page_model.specs.Springs.{springs};
+ghost use Rattle.page_model.specs.Queries.{text_target, way_from};
 ghost use Rattle.roff_pages.specs.Pages.Advancing.{sprung_diverted, with_diverted};
 ghost use Rattle.roff_pages.specs.Pages.Counted.{counted};
 ghost use Rattle.roff_pages.specs.Pages.Stands.{kept_diversion};
@@ -25,9 +25,9 @@ use super::{MOST_COUNTED, Pages};
 use crate::line_width::width_of_line;
 use crate::open_diversion::OpenDiversion;
 use crate::traps::passed_in_diversion;
-use roff_layout::Line;
+use page_bytes::{TitleLine, width_of_title};
+use page_model::Line;
 use roff_num::ShortName;
-use roff_sinks::{TitleLine, width_of_title};
 
 impl Pages {
     ghost use Rattle.roff_pages.specs.Pages.Stands.{StandsAs, Happens, SameLimits};

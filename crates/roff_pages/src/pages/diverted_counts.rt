@@ -2,9 +2,9 @@
 //! is counted up to a bound.
 
 ghost use Rattle.std.specs.Prelude.{◌≡◌, ◌+◌, if◌then◌else◌};
-ghost use Rattle.roff_layout.specs.Layout.{Layout};
-ghost use Rattle.roff_layout.specs.Puts.{needed, within_stop};
-ghost use Rattle.roff_layout.specs.Queries.{text_target};
+ghost use Rattle.page_model.specs.Layout.{Layout};
+ghost use Rattle.page_model.specs.Puts.{needed, within_stop};
+ghost use Rattle.page_model.specs.Queries.{text_target};
 
 use super::Pages;
 use super::diverted::{behind_text, needed_up_to, up_to_trap};

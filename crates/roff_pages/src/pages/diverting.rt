@@ -1,14 +1,14 @@
 //! Opening and ending diversions (manual, section 7.3).
 
 ghost use Rattle.std.specs.Prelude.{◌≡◌, ◌+◌, ◌≤◌, length, OnOk, IfErr};
-ghost use Rattle.roff_layout.specs.declared.layout_event.LayoutEvent.TheVariants.{Close, Divert};
-ghost use Rattle.roff_layout.specs.declared.layout_event.LayoutEvent.TheVariants.{EndDivert};
-ghost use Rattle.roff_layout.specs.Happenings.{Does, trapping};
+ghost use Rattle.page_model.specs.declared.layout_event.LayoutEvent.TheVariants.{Close, Divert};
+ghost use Rattle.page_model.specs.declared.layout_event.LayoutEvent.TheVariants.{EndDivert};
+ghost use Rattle.page_model.specs.Happenings.{Does, trapping};
 ghost use Rattle.roff_num.specs.declared.limit.Limit.TheVariants.{Diversions};
 
 use super::Pages;
 use crate::open_diversion::OpenDiversion;
-use roff_layout::Trap;
+use page_model::Trap;
 use roff_num::{Limit, ShortName};
 
 impl Pages {

@@ -1,18 +1,18 @@
 //! Lines and titles that are placed on a page.
 
 ghost use Rattle.std.specs.Prelude.{◌≡◌, ◌+◌, ◌<◌, ◌^◌, ◌++◌, [], OnOk, IfErr, length, replicate};
-ghost use Rattle.roff_layout.specs.Columns.{device_line, finished_of, printed};
-ghost use Rattle.roff_layout.specs.Glyphs.{text_width};
-ghost use Rattle.roff_layout.specs.Happenings.{Places, Titles};
-ghost use Rattle.roff_sinks.specs.TitleLeft.{title_of};
-ghost use Rattle.roff_sinks.specs.TitleParts.{HasNoBlank};
-ghost use Rattle.roff_layout.specs.Titles.{part_text, title_text};
+ghost use Rattle.page_model.specs.Columns.{device_line, finished_of, printed};
+ghost use Rattle.page_model.specs.Glyphs.{text_width};
+ghost use Rattle.page_model.specs.Happenings.{Places, Titles};
+ghost use Rattle.page_bytes.specs.TitleLeft.{title_of};
+ghost use Rattle.page_bytes.specs.TitleParts.{HasNoBlank};
+ghost use Rattle.page_model.specs.Titles.{part_text, title_text};
 ghost use Rattle.roff_pages.specs.Pages.Printing.{HappensWriting, IsUnprinted, Printed, if_listed};
 
 use super::Pages;
-use roff_layout::Line;
+use page_bytes::{BLOCK, ByteSink, PageFault, TitleLine};
+use page_model::Line;
 use roff_num::ShortName;
-use roff_sinks::{BLOCK, ByteSink, PageFault, TitleLine};
 
 impl Pages {
     /// Places a line on the page, and behind it its blank lines, up to the next trap or the page's

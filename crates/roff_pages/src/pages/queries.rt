@@ -1,9 +1,9 @@
 //! What may be asked of pages (manual, section 8). Lengths are in lines, widths in columns.
 
 ghost use Rattle.std.specs.Prelude.{◌≡◌, ◌<◌, ◌^◌, [], true, false, length, min, option_map};
-ghost use Rattle.roff_layout.specs.Layout.{Layout};
-ghost use Rattle.roff_layout.specs.Queries.{nl, place_now, way_to_trap, diversion_name};
-ghost use Rattle.roff_layout.specs.Queries.{is_diverting, takes_text};
+ghost use Rattle.page_model.specs.Layout.{Layout};
+ghost use Rattle.page_model.specs.Queries.{nl, place_now, way_to_trap, diversion_name};
+ghost use Rattle.page_model.specs.Queries.{is_diverting, takes_text};
 ghost use Rattle.roff_pages.specs.Pages.Innermost.{name_and_way};
 
 use super::Pages;

@@ -1,21 +1,21 @@
 //! What is set: the page's length, offset and number, no-space mode, and the traps.
 
 ghost use Rattle.std.specs.Prelude.{◌≡◌, ◌≤◌, ◌<◌, length, OnOk, IfErr};
-ghost use Rattle.roff_layout.specs.declared.layout_event.LayoutEvent.TheVariants.{Length};
-ghost use Rattle.roff_layout.specs.declared.layout_event.LayoutEvent.TheVariants.{ListPages};
-ghost use Rattle.roff_layout.specs.declared.layout_event.LayoutEvent.TheVariants.{Offset, Next};
-ghost use Rattle.roff_layout.specs.declared.layout_event.LayoutEvent.TheVariants.{Number};
-ghost use Rattle.roff_layout.specs.Happenings.{Does};
-ghost use Rattle.roff_layout.specs.declared.layout_event.LayoutEvent.TheVariants.{NoSpace, Plant};
-ghost use Rattle.roff_layout.specs.declared.layout_event.LayoutEvent.TheVariants.{Uproot, MoveTrap};
-ghost use Rattle.roff_layout.specs.declared.layout_event.LayoutEvent.TheVariants.{RemoveTrap};
-ghost use Rattle.roff_layout.specs.Turning.{with_trap};
+ghost use Rattle.page_model.specs.declared.layout_event.LayoutEvent.TheVariants.{Length};
+ghost use Rattle.page_model.specs.declared.layout_event.LayoutEvent.TheVariants.{ListPages};
+ghost use Rattle.page_model.specs.declared.layout_event.LayoutEvent.TheVariants.{Offset, Next};
+ghost use Rattle.page_model.specs.declared.layout_event.LayoutEvent.TheVariants.{Number};
+ghost use Rattle.page_model.specs.Happenings.{Does};
+ghost use Rattle.page_model.specs.declared.layout_event.LayoutEvent.TheVariants.{NoSpace, Plant};
+ghost use Rattle.page_model.specs.declared.layout_event.LayoutEvent.TheVariants.{Uproot, MoveTrap};
+ghost use Rattle.page_model.specs.declared.layout_event.LayoutEvent.TheVariants.{RemoveTrap};
+ghost use Rattle.page_model.specs.Turning.{with_trap};
 ghost use Rattle.roff_num.specs.declared.limit.Limit.TheVariants.{Traps};
 
 use super::Pages;
 use crate::sought::Sought;
 use crate::traps::{move_named, plant_among, remove_first};
-use roff_layout::Trap;
+use page_model::Trap;
 use roff_num::{Limit, Num, ShortName};
 
 impl Pages {

@@ -2,18 +2,18 @@
 
 ghost use Rattle.std.specs.Prelude.{◌≡◌, ◌<◌, ◌≤◌, ◌^◌, [], OnOk, IfErr, nat_lt, ◌&&◌, ◌==◌};
 ghost use Rattle.std.specs.Prelude.{if◌then◌else◌, replicate};
-ghost use Rattle.roff_layout.specs.Layout.{Empty, Layout};
-ghost use Rattle.roff_layout.specs.declared.layout_event.LayoutEvent.TheVariants.{EjectLast};
-ghost use Rattle.roff_layout.specs.declared.layout_event.LayoutEvent.TheVariants.{EjectOn, Need};
-ghost use Rattle.roff_layout.specs.declared.layout_event.LayoutEvent.TheVariants.{Space};
-ghost use Rattle.roff_layout.specs.Happenings.{Does, ejecting};
+ghost use Rattle.page_model.specs.Layout.{Empty, Layout};
+ghost use Rattle.page_model.specs.declared.layout_event.LayoutEvent.TheVariants.{EjectLast};
+ghost use Rattle.page_model.specs.declared.layout_event.LayoutEvent.TheVariants.{EjectOn, Need};
+ghost use Rattle.page_model.specs.declared.layout_event.LayoutEvent.TheVariants.{Space};
+ghost use Rattle.page_model.specs.Happenings.{Does, ejecting};
 ghost use Rattle.roff_pages.specs.Pages.Printing.{BoxedTo, HappensWriting, IsUnprinted, Printed};
 ghost use Rattle.roff_pages.specs.Pages.Printing.{if_listed};
 ghost use Rattle.roff_pages.specs.Pages.Advancing.{way_on};
 
 use super::Pages;
+use page_bytes::{ByteSink, PageFault};
 use roff_num::{Num, ShortName};
-use roff_sinks::{ByteSink, PageFault};
 
 impl Pages {
     ghost use Rattle.roff_pages.specs.Pages.Stands.{StandsAs, SameLimits};

@@ -2,12 +2,12 @@
 
 ghost use Rattle.std.specs.Prelude.{◌≡◌, ◌+◌, ◌^◌, List, length, None, min, false};
 ghost use Rattle.std.specs.Prelude.{if◌then◌else◌};
-ghost use Rattle.roff_layout.specs.Layout.{Box, Layout};
-ghost use Rattle.roff_layout.specs.declared.layout_event.LayoutEvent.TheVariants.{Begin};
-ghost use Rattle.roff_layout.specs.Happenings.{Does};
-ghost use Rattle.roff_layout.specs.Turning.{is_in_ranges, number_behind, one_more};
-ghost use Rattle.roff_layout.specs.Turning.{page_begun, turned, turned_if_full};
-ghost use Rattle.roff_layout.specs.Springs.{first_met, is_on_top, is_passed, springs};
+ghost use Rattle.page_model.specs.Layout.{Box, Layout};
+ghost use Rattle.page_model.specs.declared.layout_event.LayoutEvent.TheVariants.{Begin};
+ghost use Rattle.page_model.specs.Happenings.{Does};
+ghost use Rattle.page_model.specs.Turning.{is_in_ranges, number_behind, one_more};
+ghost use Rattle.page_model.specs.Turning.{page_begun, turned, turned_if_full};
+ghost use Rattle.page_model.specs.Springs.{first_met, is_on_top, is_passed, springs};
 ghost use Rattle.roff_pages.specs.Pages.Advancing.{sprung_by, way_on, with_lines};
 ghost use Rattle.roff_pages.specs.Pages.KnownStops.{name_at};
 

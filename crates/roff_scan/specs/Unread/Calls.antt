@@ -1,14 +1,14 @@
 -- What calls tell that take, see or pass over what is unread.
 use Rattle.std.specs.Prelude.{◌≡◌, ℕ, ◌+◌, ◌≤◌, ◌==◌, false, List, [], ◌∷◌, ◌++◌, length, map, take}
 use Rattle.std.specs.List.{AllByRecursion}
-use Rattle.roff_source.specs.Bytes.{newline}
-use Rattle.roff_escape.specs.ConditionFronts.{HalvesTaken}
-use Rattle.roff_input.specs.Input.{Ahead, ByteAhead, EndAhead, ReturnAhead, bytes_taken, item_taken, leading, lines_taken}
-use Rattle.roff_source.specs.Tape.{Tape, Answer, OneByte, items_then}
-use Rattle.roff_input.specs.declared.looked.Looked.{Looked}
-use Rattle.roff_input.specs.declared.looked.Looked.TheVariants.{Nothing, Byte, Closed}
-use Rattle.roff_input.specs.Unread.{Unread, Asked, Stays, asks_to_take, asks_to_look, taking, looking}
-use Rattle.roff_input.specs.Shown.{Shown, Sighted}
+use Rattle.input_source.specs.Bytes.{newline}
+use Rattle.input_escapes.specs.ConditionFronts.{HalvesTaken}
+use Rattle.input_model.specs.Input.{Ahead, ByteAhead, EndAhead, ReturnAhead, bytes_taken, item_taken, leading, lines_taken}
+use Rattle.input_source.specs.Tape.{Tape, Answer, OneByte, items_then}
+use Rattle.input_model.specs.declared.looked.Looked.{Looked}
+use Rattle.input_model.specs.declared.looked.Looked.TheVariants.{Nothing, Byte, Closed}
+use Rattle.input_model.specs.Unread.{Unread, Asked, Stays, asks_to_take, asks_to_look, taking, looking}
+use Rattle.input_model.specs.Shown.{Shown, Sighted}
 
 -- the front item was taken and shown, by the source's answer if it was asked
 pub record Takes {E : Type 0} (old new : Tape → Type 0) (before after : Unread E) (item : Shown E) : Type 0 where

@@ -1,13 +1,13 @@
 -- The first argument of a line, as far as it is read and isn't whole.
 use Rattle.std.specs.Prelude.{◌≡◌, ◌⊎◌, ℕ, ◌==◌, ◌||◌, Bool, true, false, not, List, [], ◌∷◌, ⊤, ◌+◌, ◌-◌, drop, length, min, take, take_while, Some}
-use Rattle.roff_input.specs.Arguments.{is_behind_quote}
-use Rattle.roff_input.specs.declared.place.Place.{Place}
-use Rattle.roff_input.specs.declared.place.Place.TheVariants.{Between}
-use Rattle.roff_arguments.specs.ArgumentTexts.Kept.{StopsAt}
-use Rattle.roff_source.specs.Bytes.{blank, quote}
-use Rattle.roff_source.specs.Tape.{Tape}
-use Rattle.roff_input.specs.Input.{pushed}
-use Rattle.roff_input.specs.Unread.{Unread, asks_to_take}
+use Rattle.input_model.specs.Arguments.{is_behind_quote}
+use Rattle.input_model.specs.declared.place.Place.{Place}
+use Rattle.input_model.specs.declared.place.Place.TheVariants.{Between}
+use Rattle.input_arguments.specs.ArgumentTexts.Kept.{StopsAt}
+use Rattle.input_source.specs.Bytes.{blank, quote}
+use Rattle.input_source.specs.Tape.{Tape}
+use Rattle.input_model.specs.Input.{pushed}
+use Rattle.input_model.specs.Unread.{Unread, asks_to_take}
 use Rattle.roff_scan.specs.Unread.Runs.{TakesRun}
 use Rattle.roff_scan.specs.declared.run_kind.RunKind.TheVariants.{CallArguments}
 

@@ -1,9 +1,9 @@
 -- What the unread input keeps.
 use Rattle.std.specs.Prelude.{◌≡◌, ◌≤◌, ◌<◌, ◌^◌, [], length, reverse, vec_capacity}
-use Rattle.roff_input.specs.Arguments.{Arguments}
-use Rattle.roff_input.specs.Input.{returns_ahead}
-use Rattle.roff_input.specs.Unread.{Unread, IsWithin, texts_within}
-use Rattle.roff_input.specs.declared.place.Place.TheVariants.{Between}
+use Rattle.input_model.specs.Arguments.{Arguments}
+use Rattle.input_model.specs.Input.{returns_ahead}
+use Rattle.input_model.specs.Unread.{Unread, IsWithin, texts_within}
+use Rattle.input_model.specs.declared.place.Place.TheVariants.{Between}
 use Rattle.roff_scan.specs.declared.unread.Unread.TheInside.{Inside}
 use Rattle.roff_store.specs.Named.{EachOnce}
 

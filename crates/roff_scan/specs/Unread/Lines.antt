@@ -1,15 +1,15 @@
 -- Bytes of a control line that are taken together, and the newline that ends it (manual, section 7).
 use Rattle.std.specs.Prelude.{◌≡◌, ℕ, ◌+◌, ◌-◌, ◌==◌, Bool, true, false, ◌&&◌, ◌||◌, Option, List, [], ◌∷◌, ◌++◌, length, min, drop, take}
 use Rattle.std.specs.List.{AllByRecursion}
-use Rattle.roff_arguments.specs.ArgumentTexts.Kept.{StopsAt}
-use Rattle.roff_input.specs.Arguments.{Arguments, HeldFewer, bytes_held}
-use Rattle.roff_input.specs.Input.{pushed}
-use Rattle.roff_input.specs.Unread.{IsWithin, Unread, asks_to_take}
+use Rattle.input_arguments.specs.ArgumentTexts.Kept.{StopsAt}
+use Rattle.input_model.specs.Arguments.{Arguments, HeldFewer, bytes_held}
+use Rattle.input_model.specs.Input.{pushed}
+use Rattle.input_model.specs.Unread.{IsWithin, Unread, asks_to_take}
 use Rattle.roff_scan.specs.Unread.Calls.{IsFront, PassesFront, front_bytes}
 use Rattle.roff_scan.specs.declared.unread.lines.BehindHeld.{BehindHeld}
 use Rattle.roff_scan.specs.declared.unread.lines.BehindHeld.TheVariants.{Newline, Named, Other}
-use Rattle.roff_source.specs.Bytes.{is_argument_byte, newline}
-use Rattle.roff_source.specs.Tape.{Tape}
+use Rattle.input_source.specs.Bytes.{is_argument_byte, newline}
+use Rattle.input_source.specs.Tape.{Tape}
 
 -- a newline stands behind so many bytes that come next, and the limit on bytes allows it
 pub record StandsNewline {E : Type 0} (count : ℕ) (ready : List ℕ) (u : Unread E) : Type 0 where

@@ -1,18 +1,18 @@
 -- Runs: bytes that stand in front and do alike, and what changes where they are taken together.
 use Rattle.std.specs.Prelude.{◌≡◌, ℕ, ◌-◌, ◌≤◌, true, List, length, min, take, take_while}
 use Rattle.std.specs.List.{AllByRecursion}
-use Rattle.roff_source.specs.Tape.{Tape}
-use Rattle.roff_escape.specs.ConditionFronts.{HalvesTaken}
-use Rattle.roff_escape.specs.EscapeFronts.{HalvesRead}
-use Rattle.roff_escape.specs.EscapeTexts.{KeptEscapes}
-use Rattle.roff_escape.specs.OpenEscape.{OpenEscape}
-use Rattle.roff_input.specs.Arguments.{HeldFewer, bytes_held}
-use Rattle.roff_input.specs.Arguments.{Arguments as LineArguments}
-use Rattle.roff_arguments.specs.ArgumentTexts.Kept.{KeptArguments}
-use Rattle.roff_input.specs.Input.{Input}
-use Rattle.roff_input.specs.Input.Names.{adding, stored}
+use Rattle.input_source.specs.Tape.{Tape}
+use Rattle.input_escapes.specs.ConditionFronts.{HalvesTaken}
+use Rattle.input_escapes.specs.EscapeFronts.{HalvesRead}
+use Rattle.input_escapes.specs.EscapeTexts.{KeptEscapes}
+use Rattle.input_escapes.specs.OpenEscape.{OpenEscape}
+use Rattle.input_model.specs.Arguments.{HeldFewer, bytes_held}
+use Rattle.input_model.specs.Arguments.{Arguments as LineArguments}
+use Rattle.input_arguments.specs.ArgumentTexts.Kept.{KeptArguments}
+use Rattle.input_model.specs.Input.{Input}
+use Rattle.input_model.specs.Input.Names.{adding, stored}
 use Rattle.roff_scan.specs.RunKinds.{goes_by_bytes, is_of, most_whole}
-use Rattle.roff_input.specs.Unread.{Unread, asks_to_take}
+use Rattle.input_model.specs.Unread.{Unread, asks_to_take}
 use Rattle.roff_scan.specs.Unread.Calls.{PassesFront}
 use Rattle.roff_scan.specs.declared.run_kind.RunKind.{RunKind}
 use Rattle.roff_scan.specs.declared.run_kind.RunKind.TheVariants.{Arguments, CallArguments, Name, Condition, Definition}

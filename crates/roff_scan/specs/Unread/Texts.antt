@@ -1,7 +1,7 @@
 -- Texts that are counted as if they had been put in front and read.
 use Rattle.std.specs.Prelude.{◌≡◌, ◌<◌, ◌≤◌, ℕ, ◌+◌}
-use Rattle.roff_input.specs.Input.{depth, pushed}
-use Rattle.roff_input.specs.Unread.{Unread}
+use Rattle.input_model.specs.Input.{depth, pushed}
+use Rattle.input_model.specs.Unread.{Unread}
 
 -- the limits have room for a text of so many bytes in front and its end, and for so many bytes more behind it
 pub record HasRoomFor {E : Type 0} (len more : ℕ) (u : Unread E) : Type 0 where

@@ -1,22 +1,22 @@
 //! The arguments of the line that is being read.
 
-ghost use Rattle.roff_input.specs.Arguments.{HeldFewer, bytes_held, is_behind_quote, settled};
-ghost use Rattle.roff_input.specs.Arguments.{with_unit};
-ghost use Rattle.roff_input.specs.Arguments.{finished};
-ghost use Rattle.roff_arguments.specs.ArgumentList.{listed};
-ghost use Rattle.roff_source.specs.Bytes.{is_argument_byte};
+ghost use Rattle.input_model.specs.Arguments.{HeldFewer, bytes_held, is_behind_quote, settled};
+ghost use Rattle.input_model.specs.Arguments.{with_unit};
+ghost use Rattle.input_model.specs.Arguments.{finished};
+ghost use Rattle.input_arguments.specs.ArgumentList.{listed};
+ghost use Rattle.input_source.specs.Bytes.{is_argument_byte};
 ghost use Rattle.std.specs.List.{AllByRecursion};
 ghost use Rattle.std.specs.Prelude.{reverse, ◌≡◌, ◌+◌, ◌≤◌, length, take, true};
-ghost use Rattle.roff_input.specs.Input.{holding_plain, pushed, with_arguments};
-ghost use Rattle.roff_input.specs.Input.{beginning_line, without_arguments};
+ghost use Rattle.input_model.specs.Input.{holding_plain, pushed, with_arguments};
+ghost use Rattle.input_model.specs.Input.{beginning_line, without_arguments};
 
 use super::Unread;
-use roff_arguments::{ArgumentList, bytes_of};
-use roff_escape::CopyUnit;
+use input_arguments::{ArgumentList, bytes_of};
+use input_escapes::CopyUnit;
 use roff_num::Limit;
 
 impl<E: Copy> Unread<E> {
-    ghost use Rattle.roff_input.specs.Unread.{changing};
+    ghost use Rattle.input_model.specs.Unread.{changing};
 
     /// A line is read of which nothing was read.
     pub fn begin_line(&mut self)

@@ -1,19 +1,19 @@
 //! Lines that call bodies, bodies that spring, and the arguments of calls.
 
-ghost use Rattle.roff_arguments.specs.ArgumentList.{listed};
+ghost use Rattle.input_arguments.specs.ArgumentList.{listed};
 ghost use Rattle.std.specs.Prelude.{vec_capacity, reverse, ◌≡◌, ◌<◌, ◌^◌, [], drop, get_or, length};
-ghost use Rattle.roff_input.specs.Input.{pushing, results_below};
-ghost use Rattle.roff_input.specs.Input.Calls.{arguments_live, argument_live, calling_body};
-ghost use Rattle.roff_input.specs.Input.Calls.{springing};
-ghost use Rattle.roff_input.specs.Input.Names.{body_named};
+ghost use Rattle.input_model.specs.Input.{pushing, results_below};
+ghost use Rattle.input_model.specs.Input.Calls.{arguments_live, argument_live, calling_body};
+ghost use Rattle.input_model.specs.Input.Calls.{springing};
+ghost use Rattle.input_model.specs.Input.Names.{body_named};
 
 use super::Unread;
 use super::results::drop_results;
-use roff_arguments::{ArgumentList, Calls};
+use input_arguments::{ArgumentList, Calls};
 use roff_num::{Limit, Name};
 
 impl<E: Copy> Unread<E> {
-    ghost use Rattle.roff_input.specs.Unread.{changing};
+    ghost use Rattle.input_model.specs.Unread.{changing};
 
     /// A line calls the body of a name: it is put in front, as it is now, with a newline behind it
     /// if it has bytes and none at its end, and the end of the call. The arguments of the line are

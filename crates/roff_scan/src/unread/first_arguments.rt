@@ -1,17 +1,17 @@
 //! The first argument of a line, taken as far as it isn't whole.
 
 ghost use Rattle.std.specs.Prelude.{◌≡◌, ◌≤◌, drop, length, take, take_while, false, true};
-ghost use Rattle.roff_input.specs.Arguments.{is_behind_quote};
-ghost use Rattle.roff_input.specs.declared.place.Place.TheVariants.{Between};
+ghost use Rattle.input_model.specs.Arguments.{is_behind_quote};
+ghost use Rattle.input_model.specs.declared.place.Place.TheVariants.{Between};
 ghost use Rattle.roff_scan.specs.Unread.FirstArguments.{Unended, is_inside, first_argument};
 
 use super::Unread;
 use super::fronts::front_of;
 use super::runs::{blanks_in_front, take_part};
 use crate::run_kind::RunKind;
-use roff_arguments::ArgumentTexts;
-use roff_escape::CopyUnit;
-use roff_source::{ByteSource, at_most};
+use input_arguments::ArgumentTexts;
+use input_escapes::CopyUnit;
+use input_source::{ByteSource, at_most};
 
 impl<E: Copy> Unread<E> {
     ghost use Rattle.roff_scan.specs.Unread.FirstArguments.{TakesFirst};

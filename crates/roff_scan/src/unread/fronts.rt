@@ -1,19 +1,19 @@
 //! Bytes that stand in front, as they lie together.
 
 ghost use Rattle.std.specs.Prelude.{true, false, ◌≡◌, ◌≤◌, ◌-◌, length, take};
-ghost use Rattle.roff_input.specs.declared.looked.Looked.TheVariants.{Nothing};
+ghost use Rattle.input_model.specs.declared.looked.Looked.TheVariants.{Nothing};
 ghost use Rattle.roff_scan.specs.Unread.Calls.{next_bytes};
-ghost use Rattle.roff_input.specs.Input.{is_none_ahead};
+ghost use Rattle.input_model.specs.Input.{is_none_ahead};
 
 use super::Unread;
-use roff_ahead::InputAhead;
-use roff_input::Looked;
-use roff_source::{ByteSource, at_most, newlines_among};
+use input_ahead::InputAhead;
+use input_model::Looked;
+use input_source::{ByteSource, at_most, newlines_among};
 
 impl<E: Copy> Unread<E> {
     ghost use Rattle.roff_scan.specs.Unread.Calls.{front_bytes, IsFront, NoNewline, PassesFront};
     ghost use Rattle.roff_scan.specs.Unread.Calls.{PassesSource};
-    ghost use Rattle.roff_input.specs.Unread.{asks_to_take};
+    ghost use Rattle.input_model.specs.Unread.{asks_to_take};
 
     /// Bytes that stand in front, as they lie together: of a body ahead, one of a text ahead, or
     /// where nothing is ahead and no byte was looked at, those of the source that stand ready; no

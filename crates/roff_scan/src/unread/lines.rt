@@ -2,13 +2,13 @@
 //! that ends it.
 
 ghost use Rattle.std.specs.Prelude.{◌≡◌, ◌≤◌, ◌+◌, ◌-◌, ◌++◌, ◌∷◌, [], drop, None, Some, true};
-ghost use Rattle.roff_input.specs.Input.{is_none_ahead, pushed};
+ghost use Rattle.input_model.specs.Input.{is_none_ahead, pushed};
 ghost use Rattle.roff_scan.specs.Unread.Lines.{begins_named, begins_with_newline, is_ended};
-ghost use Rattle.roff_source.specs.Bytes.{newline};
+ghost use Rattle.input_source.specs.Bytes.{newline};
 
 use super::Unread;
 use super::fronts::front_of;
-use roff_source::ByteSource;
+use input_source::ByteSource;
 
 /// What stands behind the bytes that were held of a control line.
 #[derive(Clone, Copy)]

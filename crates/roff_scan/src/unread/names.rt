@@ -3,16 +3,16 @@
 ghost use Rattle.roff_store.specs.Named.{entry_of};
 ghost use Rattle.roff_store.specs.Texts.{entry_given, kind_given, kind_of};
 ghost use Rattle.std.specs.Prelude.{true, false, ◌+◌, ◌<◌, ◌≡◌, ◌≤◌, length, nat_lt, option_map};
-ghost use Rattle.roff_input.specs.Input.Names.{adding, calling, dropping, entering, stored};
-ghost use Rattle.roff_input.specs.Input.Names.{adding_to, dropping_all, entering_open};
+ghost use Rattle.input_model.specs.Input.Names.{adding, calling, dropping, entering, stored};
+ghost use Rattle.input_model.specs.Input.Names.{adding_to, dropping_all, entering_open};
 
 use super::Unread;
 use roff_num::{Limit, Name};
 use roff_store::{Entry, Kind};
 
 impl<E: Copy> Unread<E> {
-    ghost use Rattle.roff_input.specs.declared.looked.Looked.TheVariants.{Nothing};
-    ghost use Rattle.roff_input.specs.Unread.{changing};
+    ghost use Rattle.input_model.specs.declared.looked.Looked.TheVariants.{Nothing};
+    ghost use Rattle.input_model.specs.Unread.{changing};
     ghost use Rattle.roff_store.specs.TextCalls.{Open, Remove, Rename, Set};
 
     /// What a name stands for: a request, or a body with so many bytes.

@@ -1,17 +1,17 @@
 //! What is half read.
 
-ghost use Rattle.roff_escape.specs.OpenEscapes.{byte_read, reading_ended};
-ghost use Rattle.roff_escape.specs.Waiting.{decided_on_top, decides, is_ended_by};
-ghost use Rattle.roff_escape.specs.Waiting.{is_number_on_top, waiting_of};
+ghost use Rattle.input_escapes.specs.OpenEscapes.{byte_read, reading_ended};
+ghost use Rattle.input_escapes.specs.Waiting.{decided_on_top, decides, is_ended_by};
+ghost use Rattle.input_escapes.specs.Waiting.{is_number_on_top, waiting_of};
 ghost use Rattle.std.specs.Prelude.{true, false, not, ◌≡◌, ◌==◌, length};
-ghost use Rattle.roff_input.specs.Input.{choosing, holding_text};
+ghost use Rattle.input_model.specs.Input.{choosing, holding_text};
 
 use super::Unread;
-use roff_escape::{CopyUnit, Found, Surroundings, Waiting};
+use input_escapes::{CopyUnit, Found, Surroundings, Waiting};
 use roff_num::Limit;
 
 impl<E: Copy> Unread<E> {
-    ghost use Rattle.roff_input.specs.Unread.{changing, reading, EndsDecided};
+    ghost use Rattle.input_model.specs.Unread.{changing, reading, EndsDecided};
     ghost use Rattle.roff_scan.specs.Unread.Calls.{TakesPushed};
 
     /// Whether something is half read.

@@ -1,22 +1,22 @@
 //! Texts, bodies and events that are put in front.
 
 ghost use Rattle.std.specs.Prelude.{true, false, ◌≡◌, ◌+◌, ◌<◌, ◌≤◌, [], drop, length};
-ghost use Rattle.roff_input.specs.Arguments.{is_behind_quote};
-ghost use Rattle.roff_input.specs.Input.{leaving, outermost_back, events_ahead, frees_ahead};
-ghost use Rattle.roff_input.specs.Input.{most_events, most_frees, depth, pushed, pushing};
-ghost use Rattle.roff_input.specs.Input.{putting_back};
-ghost use Rattle.roff_input.specs.Input.{freeing};
-ghost use Rattle.roff_input.specs.Input.Names.{body_named};
+ghost use Rattle.input_model.specs.Arguments.{is_behind_quote};
+ghost use Rattle.input_model.specs.Input.{leaving, outermost_back, events_ahead, frees_ahead};
+ghost use Rattle.input_model.specs.Input.{most_events, most_frees, depth, pushed, pushing};
+ghost use Rattle.input_model.specs.Input.{putting_back};
+ghost use Rattle.input_model.specs.Input.{freeing};
+ghost use Rattle.input_model.specs.Input.Names.{body_named};
 ghost use Rattle.roff_num.specs.ShortNames.{name_bytes};
 
 use super::Unread;
 use super::results::drop_results;
-use roff_arguments::ArgumentTexts;
+use input_arguments::ArgumentTexts;
 use roff_num::{Limit, Name, ShortName};
 
 impl<E: Copy> Unread<E> {
-    ghost use Rattle.roff_input.specs.Looking.{closing};
-    ghost use Rattle.roff_input.specs.Unread.{changing};
+    ghost use Rattle.input_model.specs.Looking.{closing};
+    ghost use Rattle.input_model.specs.Unread.{changing};
     ghost use Rattle.roff_scan.specs.Unread.Texts.{CountsText, HasRoomFor};
 
     /// Whether as many pushed texts haven't ended as may be.

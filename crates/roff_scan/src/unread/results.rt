@@ -1,14 +1,14 @@
 //! The results of conditions that are kept for their other branch.
 
 ghost use Rattle.std.specs.Prelude.{vec_capacity, reverse, ◌≡◌};
-ghost use Rattle.roff_input.specs.Input.{results_below};
-ghost use Rattle.roff_input.specs.Input.Calls.{with_result, last_result, without_last};
+ghost use Rattle.input_model.specs.Input.{results_below};
+ghost use Rattle.input_model.specs.Input.Calls.{with_result, last_result, without_last};
 
 use super::Unread;
 use roff_num::Limit;
 
 impl<E: Copy> Unread<E> {
-    ghost use Rattle.roff_input.specs.Unread.{changing};
+    ghost use Rattle.input_model.specs.Unread.{changing};
 
     /// Keeps the result of a condition for its other branch.
     ///

@@ -3,11 +3,11 @@
 ghost use Rattle.std.specs.Prelude.{false, ◌≡◌, ◌≤◌, ◌+◌, length, true};
 ghost use Rattle.std.specs.Prelude.{ℕ, Some, take, take_while, ◌==◌};
 ghost use Rattle.std.specs.List.{AllByRecursion};
-ghost use Rattle.roff_input.specs.Arguments.{held};
-ghost use Rattle.roff_arguments.specs.ArgumentTexts.Kept.{StopsAt};
-ghost use Rattle.roff_escape.specs.OpenEscape.{texts_held};
-ghost use Rattle.roff_source.specs.Bytes.{blank, is_text_byte};
-ghost use Rattle.roff_input.specs.Input.{is_none_ahead, pushed};
+ghost use Rattle.input_model.specs.Arguments.{held};
+ghost use Rattle.input_arguments.specs.ArgumentTexts.Kept.{StopsAt};
+ghost use Rattle.input_escapes.specs.OpenEscape.{texts_held};
+ghost use Rattle.input_source.specs.Bytes.{blank, is_text_byte};
+ghost use Rattle.input_model.specs.Input.{is_none_ahead, pushed};
 ghost use Rattle.roff_scan.specs.RunKinds.{is_held};
 ghost use Rattle.roff_scan.specs.Unread.Runs.{TakesPart};
 ghost use Rattle.roff_scan.specs.declared.run_kind.RunKind.TheVariants.{Arguments, Blanks};
@@ -18,9 +18,9 @@ use super::Unread;
 use super::fronts::front_of;
 use super::lines::begins_named;
 use crate::run_kind::RunKind;
-use roff_arguments::ArgumentTexts;
-use roff_escape::OpenEscapes;
-use roff_source::{ByteSource, at_most, passed_len, text_in_front};
+use input_arguments::ArgumentTexts;
+use input_escapes::OpenEscapes;
+use input_source::{ByteSource, at_most, passed_len, text_in_front};
 
 /// How many bytes of a body are put behind a text at once.
 const COPIED: usize = 64;

@@ -1,12 +1,12 @@
 //! What is taken at once and read no further: newlines, and ends.
 
 ghost use Rattle.std.specs.Prelude.{true, false, ◌≡◌, ◌≤◌, ◌<◌, [], ◌∷◌};
-ghost use Rattle.roff_source.specs.Bytes.{newline};
-ghost use Rattle.roff_input.specs.Input.{is_none_ahead};
+ghost use Rattle.input_source.specs.Bytes.{newline};
+ghost use Rattle.input_model.specs.Input.{is_none_ahead};
 
 use super::Unread;
 use super::calls::end_call;
-use roff_source::ByteSource;
+use input_source::ByteSource;
 
 impl<E: Copy> Unread<E> {
     ghost use Rattle.roff_scan.specs.Unread.Calls.{PassesEnd, PassesFront, PassesNewline};

@@ -1,24 +1,24 @@
 //! Items that are taken from the front one at a time, and bytes that are looked at.
 
 ghost use Rattle.std.specs.Prelude.{true, false, ◌≡◌, ◌<◌, ◌≤◌, None, Some, IfSome};
-ghost use Rattle.roff_escape.specs.Waiting.{is_ended_by};
-ghost use Rattle.roff_source.specs.Tape.{Answer, OneByte, Gives, Failed};
+ghost use Rattle.input_escapes.specs.Waiting.{is_ended_by};
+ghost use Rattle.input_source.specs.Tape.{Answer, OneByte, Gives, Failed};
 ghost use Rattle.roff_num.specs.Faults.{Rises};
-ghost use Rattle.roff_input.specs.Input.{is_none_ahead, counting};
+ghost use Rattle.input_model.specs.Input.{is_none_ahead, counting};
 
 use super::Unread;
 use super::calls::end_call;
-use roff_input::{Item, Looked, Sight};
+use input_model::{Item, Looked, Sight};
+use input_source::{ByteSource, Taken};
 use roff_num::Limit;
-use roff_source::{ByteSource, Taken};
 
 impl<E: Copy> Unread<E> {
-    ghost use Rattle.roff_input.specs.Shown.{shown, ShowsByte, ShowsNote, ShowsEnding};
-    ghost use Rattle.roff_input.specs.Looking.{is_closed};
-    ghost use Rattle.roff_input.specs.declared.looked.Looked.TheVariants.{Nothing};
-    ghost use Rattle.roff_input.specs.Unread.{taking, taking_answer};
-    ghost use Rattle.roff_input.specs.Shown.{sighted, SeesByte, SeesNote, SeesEnding};
-    ghost use Rattle.roff_input.specs.Shown.{byte_seen, seen_ahead};
+    ghost use Rattle.input_model.specs.Shown.{shown, ShowsByte, ShowsNote, ShowsEnding};
+    ghost use Rattle.input_model.specs.Looking.{is_closed};
+    ghost use Rattle.input_model.specs.declared.looked.Looked.TheVariants.{Nothing};
+    ghost use Rattle.input_model.specs.Unread.{taking, taking_answer};
+    ghost use Rattle.input_model.specs.Shown.{sighted, SeesByte, SeesNote, SeesEnding};
+    ghost use Rattle.input_model.specs.Shown.{byte_seen, seen_ahead};
     ghost use Rattle.roff_scan.specs.Unread.Calls.{Takes, Looks};
 
     /// Takes the item in front. The source is asked where nothing is ahead and no byte was looked

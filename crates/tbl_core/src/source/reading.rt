@@ -3,7 +3,7 @@
 ghost use Rattle.std.specs.Prelude.{◌≡◌, ◌+◌, ◌<◌, ◌≤◌, [], false, true, None};
 
 use super::TblSource;
-use roff_source::{ByteSource, at_most};
+use input_source::{ByteSource, at_most};
 
 impl<S: ByteSource> TblSource<S> {
     ghost use Rattle.tbl_core.specs.NotesLeft.{bytes_left, notes_left};

@@ -7,8 +7,8 @@ ghost use Rattle.tbl_core.specs.Passing.{front_over, is_of_line, passed, passes_
 
 use super::Tables;
 use crate::place::{Front, Position, ends_name};
+use input_source::at_most;
 use memchr::memchr;
-use roff_source::at_most;
 
 /// As many bytes are looked at, so that long lines aren't searched again and again.
 const MOST_LOOKED_AT: usize = 256;

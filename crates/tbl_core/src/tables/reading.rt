@@ -8,7 +8,7 @@ ghost use Rattle.tbl_core.specs.Tables.{ReadsAny, byte_step};
 use super::passing::line_front;
 use super::{Tables, read_on};
 use crate::place::{Front, Position};
-use roff_source::at_most;
+use input_source::at_most;
 use tbl_format::limits::TblLimits;
 use tbl_table::table::Table;
 

@@ -4,7 +4,7 @@ ghost use Rattle.std.specs.Prelude.{◌≡◌, false, true};
 ghost use Rattle.tbl_giving.specs.declared.giving.Rest.TheVariants.{Lines};
 
 use super::Giving;
-use roff_escape::OpenEscapes;
+use input_escapes::OpenEscapes;
 use tbl_format::format_rows::FormatRows;
 use tbl_kept::rows::TableRows;
 use tbl_kept::table_text::TableText;

@@ -4,7 +4,7 @@ ghost use Rattle.std.specs.Prelude.{◌≡◌, ℕ, ◌+◌, ◌<◌, ◌≤◌,
 ghost use Rattle.tbl_format.specs.RowsServed.{all_rows};
 
 use super::{LineByLine, Place, RuleAt};
-use roff_escape::OpenEscapes;
+use input_escapes::OpenEscapes;
 use tbl_format::format_rows::FormatRows;
 use tbl_kept::rows::TableRows;
 use tbl_layout::bars::Bars;

@@ -19,7 +19,7 @@ ghost use Rattle.tbl_layout.specs.Spans.{all_fitted, columns_laid, filled};
 use super::heights::{Fields, set_heights, with_height};
 use super::{Element, TableRows};
 use crate::held_columns::{fill_fields, fit_fields};
-use roff_escape::OpenEscapes;
+use input_escapes::OpenEscapes;
 use tbl_format::cells::columns_of;
 use tbl_format::format::{Asked, FormatKey, Key};
 use tbl_format::format_rows::FormatRows;

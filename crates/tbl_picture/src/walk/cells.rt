@@ -11,7 +11,7 @@ ghost use Rattle.tbl_picture.specs.Nexts.{AtCell, AtLine};
 
 use super::fronts::{count_given, next_column};
 use super::{Next, Walk};
-use roff_escape::OpenEscapes;
+use input_escapes::OpenEscapes;
 use tbl_layout::entry::{EntryKind, SplitEntry};
 use tbl_lines::row_columns::{RowColumn, block_bytes, column_at};
 use tbl_lines::row_lent::RowLent;

@@ -9,7 +9,7 @@ ghost use Rattle.tbl_picture.specs.RulesWalked.{AreServed, IsRowThere};
 use super::beside::{Beside, RuleRows};
 use super::rules::{frame_sign, give_rule, next_behind_rule};
 use super::{Next, Walk};
-use roff_escape::OpenEscapes;
+use input_escapes::OpenEscapes;
 use tbl_format::cells::columns_of;
 use tbl_format::format_rows::FormatRows;
 use tbl_kept::rows::{Lent, TableRows};

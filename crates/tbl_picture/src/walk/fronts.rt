@@ -15,7 +15,7 @@ ghost use Rattle.tbl_picture.specs.Walks.{next_behind, next_column};
 
 use super::cells::give;
 use super::{Next, Walk};
-use roff_escape::OpenEscapes;
+use input_escapes::OpenEscapes;
 use tbl_layout::data_lines::{RuleSign, sign_byte};
 use tbl_lines::fronts::{Front, front_at};
 use tbl_lines::row_columns::{count_to_glyph, has_glyph_at};

@@ -6,7 +6,7 @@ ghost use Rattle.tbl_picture.specs.Nexts.{AtCell, AtLine, AtWord};
 
 use super::cells::{end_given, give};
 use super::{Next, Walk};
-use roff_escape::OpenEscapes;
+use input_escapes::OpenEscapes;
 use tbl_lines::row_columns::block_bytes;
 use tbl_lines::row_lent::RowLent;
 use tbl_pieces::piece_queue::PieceQueue;

@@ -3,7 +3,7 @@
 
 ghost use Rattle.std.specs.Prelude.{◌≡◌, ℕ, ◌+◌, ◌-◌, ◌<◌, ◌≤◌, ◌^◌, max, ◌&&◌};
 ghost use Rattle.std.specs.Prelude.{List, codes, drop, length, replicate, ◌++◌, [], ◌∷◌, ◌==◌};
-ghost use Rattle.roff_source.specs.Bytes.{newline};
+ghost use Rattle.input_source.specs.Bytes.{newline};
 ghost use Rattle.tbl_format.specs.RowsServed.{all_rows};
 ghost use Rattle.tbl_layout.specs.DataLines.{sign_byte};
 ghost use Rattle.tbl_picture.specs.ElementsWalked.{FirstFits};

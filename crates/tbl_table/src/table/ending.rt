@@ -2,7 +2,7 @@
 
 ghost use Rattle.std.specs.Prelude.{◌≡◌, ◌≤◌, ◌<◌, ◌++◌, [], true, nat_lt, None, is_some};
 ghost use Rattle.tbl_data.specs.declared.phase.Phase.TheVariants.{InData};
-ghost use Rattle.roff_source.specs.Bytes.{newline};
+ghost use Rattle.input_source.specs.Bytes.{newline};
 ghost use Rattle.tbl_giving.specs.Giving.{with_newline};
 ghost use Rattle.tbl_table.specs.Reading.{byte_read, bytes_read, given_at_end, limit_at_end};
 ghost use Rattle.tbl_table.specs.Reading.{output_or_read};

@@ -2,7 +2,7 @@
 
 ghost use Rattle.std.specs.Prelude.{◌≡◌, ◌+◌, ◌-◌, ◌<◌, ◌≤◌, suc, ◌++◌, [], ◌∷◌, length, drop};
 ghost use Rattle.std.specs.Prelude.{take, true, None};
-ghost use Rattle.roff_source.specs.Bytes.{newline};
+ghost use Rattle.input_source.specs.Bytes.{newline};
 ghost use Rattle.tbl_format.specs.Format.{format_read, no_format};
 ghost use Rattle.tbl_kept.specs.Joined.{behind_joined, ends_joined};
 ghost use Rattle.tbl_options.specs.Options.{options_end};

@@ -22,7 +22,7 @@ ghost use Rattle.tbl_line_cells.specs.declared.cells.CellLeft.{CellLeft as OneCe
 
 use super::TallRow;
 use crate::band::Band;
-use roff_escape::OpenEscapes;
+use input_escapes::OpenEscapes;
 use tbl_format::format_rows::FormatRows;
 use tbl_layout::bars::Bars;
 use tbl_layout::columns::Column;

@@ -3,8 +3,8 @@ use Rattle.std.specs.Prelude.{ℕ}
 use Rattle.roff_num.specs.declared.num.Num.{Num}
 use Rattle.roff_engine.specs.Starting.{Begins, IsRefused}
 use Rattle.roff_engine.proofs.RegistersGiven.{begin_refused}
-use Rattle.roff_run.proofs.GivenPages.{written-given_pages}
-use Rattle.roff_run.specs.Starts.{pages_given}
+use Rattle.run_model.proofs.GivenPages.{written-given_pages}
+use Rattle.run_model.specs.Starts.{pages_given}
 use Rattle.roff_engine.proofs.starting.begin.Goals as goal
 
 pub returns-in-Ok-clause-begins : goal.returns-in-Ok-clause-begins

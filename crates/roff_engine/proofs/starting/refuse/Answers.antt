@@ -1,7 +1,7 @@
 use Rattle.std.proofs.Common.{inr}
-use Rattle.roff_interpreter.specs.Outcome.{seen}
+use Rattle.run_items.specs.Outcome.{seen}
 use Rattle.roff_engine.proofs.RegistersGiven.{stops_at_start}
-use Rattle.roff_sinks.specs.Told.{told_by}
+use Rattle.page_bytes.specs.Told.{told_by}
 use Rattle.roff_engine.proofs.starting.refuse.Goals as goal
 
 pub returns : goal.returns

@@ -1,5 +1,5 @@
 use Rattle.std.proofs.Common.{◌≡◌, [], length}
-use Rattle.roff_run.specs.Output.{PageHistory, written}
+use Rattle.run_model.specs.Output.{PageHistory, written}
 use Rattle.roff_engine.proofs.RegistersGiven.{SetSoFar}
 use Rattle.roff_engine.proofs.starting.set_registers.Given as goal
 

@@ -1,5 +1,5 @@
 use Rattle.std.proofs.Common.{◌≡◌, length}
-use Rattle.roff_layout.specs.Words.{ends_sentence_behind}
+use Rattle.page_model.specs.Words.{ends_sentence_behind}
 use Rattle.roff_lines.proofs.glyph.ends_sentence_behind.Given as goal
 
 abbrev pub invariant-loop-last : goal.invariant-loop-last

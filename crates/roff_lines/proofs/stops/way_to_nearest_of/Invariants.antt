@@ -1,5 +1,5 @@
 use Rattle.std.proofs.Common.{◌≡◌, length}
-use Rattle.roff_layout.specs.TabStops.{way_to_nearest, shorter_way}
+use Rattle.page_model.specs.TabStops.{way_to_nearest, shorter_way}
 use Rattle.roff_lines.specs.StopTable.Ways.{way_of}
 use Rattle.roff_lines.proofs.stops.way_to_nearest_of.Given as goal
 

@@ -1,5 +1,5 @@
 use Rattle.std.proofs.Common.{◌≡◌, ◌≤◌, ◌-◌, ◌++◌, length, take, drop}
-use Rattle.roff_layout.specs.Glyphs.{text_width}
+use Rattle.page_model.specs.Glyphs.{text_width}
 use Rattle.roff_lines.specs.GlyphsInFront.{glyphs_in_front}
 use Rattle.roff_lines.proofs.words.measured_singly.Given as goal
 

@@ -1,5 +1,5 @@
 use Rattle.std.proofs.Common.{◌≡◌, ◌≤◌, take}
-use Rattle.roff_layout.specs.Glyphs.{text_width}
+use Rattle.page_model.specs.Glyphs.{text_width}
 use Rattle.roff_lines.proofs.words.width_of_bytes.Given as goal
 
 abbrev pub invariant-loop-byte : goal.invariant-loop-byte

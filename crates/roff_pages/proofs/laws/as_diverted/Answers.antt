@@ -1,9 +1,9 @@
 use Rattle.std.proofs.Common.{◌+◌, [], ◌∷◌}
-use Rattle.roff_layout.specs.Layout.{Lined}
-use Rattle.roff_layout.specs.Happenings.{Places}
-use Rattle.roff_layout.specs.Stops.{target}
-use Rattle.roff_layout.specs.Columns.{printed}
-use Rattle.roff_layout.specs.Puts.{within_stop}
+use Rattle.page_model.specs.Layout.{Lined}
+use Rattle.page_model.specs.Happenings.{Places}
+use Rattle.page_model.specs.Stops.{target}
+use Rattle.page_model.specs.Columns.{printed}
+use Rattle.page_model.specs.Puts.{within_stop}
 use Rattle.roff_pages.proofs.WholePages.{texts-blank}
 use Rattle.roff_pages.proofs.laws.as_diverted.Goals as goal
 

@@ -1,6 +1,6 @@
-use Rattle.roff_layout.specs.Happenings.{is_eject}
-use Rattle.roff_layout.specs.Stops.{page_target, target}
-use Rattle.roff_layout.specs.Puts.{puts}
+use Rattle.page_model.specs.Happenings.{is_eject}
+use Rattle.page_model.specs.Stops.{page_target, target}
+use Rattle.page_model.specs.Puts.{puts}
 use Rattle.roff_pages.proofs.NextStop.{on_the_page, page_met}
 use Rattle.roff_pages.proofs.laws.one_spring.Goals as goal
 

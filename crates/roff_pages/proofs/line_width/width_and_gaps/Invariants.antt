@@ -1,5 +1,5 @@
 use Rattle.std.proofs.Common.{◌≡◌, ◌≤◌, take}
-use Rattle.roff_layout.specs.Glyphs.{gaps_in, text_width}
+use Rattle.page_model.specs.Glyphs.{gaps_in, text_width}
 use Rattle.roff_pages.proofs.line_width.width_and_gaps.Given as goal
 
 abbrev pub invariant-loop-byte : goal.invariant-loop-byte

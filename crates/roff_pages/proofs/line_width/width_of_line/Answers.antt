@@ -1,6 +1,6 @@
 use Rattle.std.proofs.Common.{◌≡◌, ap, ◌∙◌, arith}
-use Rattle.roff_layout.specs.Columns.{added_columns, finished_of}
-use Rattle.roff_layout.specs.Glyphs.{gaps_in}
+use Rattle.page_model.specs.Columns.{added_columns, finished_of}
+use Rattle.page_model.specs.Glyphs.{gaps_in}
 use Rattle.roff_pages.proofs.Diverting.{text_width-printed}
 use Rattle.roff_pages.proofs.line_width.width_of_line.Goals as goal
 

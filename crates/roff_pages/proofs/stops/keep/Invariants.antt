@@ -1,5 +1,5 @@
 use Rattle.std.proofs.Common.{ℕ, ◌-◌, ◌≤◌, List, length, vec_capacity}
-use Rattle.roff_layout.specs.declared.trap.Trap.{Trap}
+use Rattle.page_model.specs.declared.trap.Trap.{Trap}
 use Rattle.roff_pages.specs.Pages.KnownStops.{IsNext, AreNext}
 use Rattle.roff_pages.proofs.stops.keep.Given as goal
 

@@ -1,5 +1,5 @@
 use Rattle.std.proofs.Common.{◌≡◌, length}
-use Rattle.roff_layout.specs.Springs.{first_met, is_on_top}
+use Rattle.page_model.specs.Springs.{first_met, is_on_top}
 use Rattle.roff_pages.proofs.traps.first_on_top.Given as goal
 
 abbrev pub invariant-loop-trap : goal.invariant-loop-trap

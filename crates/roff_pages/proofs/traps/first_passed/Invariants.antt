@@ -1,5 +1,5 @@
 use Rattle.std.proofs.Common.{◌≡◌, length}
-use Rattle.roff_layout.specs.Springs.{first_met, is_passed}
+use Rattle.page_model.specs.Springs.{first_met, is_passed}
 use Rattle.roff_pages.proofs.traps.first_passed.Given as goal
 
 abbrev pub invariant-loop-trap : goal.invariant-loop-trap

@@ -1,4 +1,4 @@
-use Rattle.roff_layout.specs.Turning.{is_given}
+use Rattle.page_model.specs.Turning.{is_given}
 use Rattle.std.proofs.Common.{w32, to_z, of_z, sym, ◌∙◌}
 use Rattle.roff_pages.proofs.FirstTraps.{none_before-more}
 use Rattle.roff_pages.proofs.traps.from_given.Goals as goal

@@ -1,5 +1,5 @@
 use Rattle.std.proofs.Common.{length}
-use Rattle.roff_layout.specs.Turning.{is_given}
+use Rattle.page_model.specs.Turning.{is_given}
 use Rattle.roff_pages.specs.Pages.FirstTraps.{NoneBefore}
 use Rattle.roff_pages.proofs.traps.from_given.Given as goal
 

@@ -1,7 +1,7 @@
 use Rattle.std.proofs.Common.{◌≡◌, length}
 use Rattle.std.specs.Prelude.{◌||◌}
 use Rattle.std.specs.List.{list_any}
-use Rattle.roff_layout.specs.Turning.{is_given}
+use Rattle.page_model.specs.Turning.{is_given}
 use Rattle.roff_pages.proofs.traps.is_any_given.Given as goal
 
 abbrev pub invariant-loop-trap : goal.invariant-loop-trap

@@ -1,7 +1,7 @@
 use Rattle.std.proofs.Common.{◌≡◌, ℕ, ℤ, List, length, set, ap, ◌∙◌, arith, w32, to_z, of_z}
 use Rattle.std.proofs.lemmas.Int.{ints}
-use Rattle.roff_layout.specs.declared.trap.Trap.{Trap}
-use Rattle.roff_layout.specs.Turning.{is_named, moved_to}
+use Rattle.page_model.specs.declared.trap.Trap.{Trap}
+use Rattle.page_model.specs.Turning.{is_named, moved_to}
 use Rattle.roff_pages.specs.Pages.FirstTraps.{first_index}
 use Rattle.roff_pages.proofs.FirstTraps.{changed_there, nothing_changed}
 use Rattle.roff_pages.proofs.traps.move_named.Goals as goal

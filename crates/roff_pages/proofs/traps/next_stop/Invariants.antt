@@ -1,5 +1,5 @@
 use Rattle.std.proofs.Common.{◌≡◌, ◌≤◌, min, length}
-use Rattle.roff_layout.specs.Stops.{next_stop}
+use Rattle.page_model.specs.Stops.{next_stop}
 use Rattle.roff_pages.proofs.traps.next_stop.Given as goal
 
 abbrev pub invariant-loop-trap : goal.invariant-loop-trap

@@ -1,8 +1,8 @@
 use Rattle.std.proofs.Common.{◌≡◌, ℕ, ℤ, List, [], ◌∷◌, ◌++◌, length, set, ap, ◌∙◌, arith, rules, w32, to_z, of_z}
 use Rattle.std.proofs.lemmas.List.{length-append, length-set}
 use Rattle.std.proofs.lemmas.Int.{ints}
-use Rattle.roff_layout.specs.declared.trap.Trap.{Trap}
-use Rattle.roff_layout.specs.Turning.{is_given, with_trap}
+use Rattle.page_model.specs.declared.trap.Trap.{Trap}
+use Rattle.page_model.specs.Turning.{is_given, with_trap}
 use Rattle.roff_pages.specs.Pages.FirstTraps.{first_index}
 use Rattle.roff_pages.proofs.FirstTraps.{found_there, not_found, planted_there, planted_last}
 use Rattle.roff_pages.proofs.traps.plant_among.Goals as goal

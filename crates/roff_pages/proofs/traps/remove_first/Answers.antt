@@ -1,5 +1,5 @@
 use Rattle.std.proofs.Common.{◌≡◌, ℕ, List, length, ap, ◌∙◌, arith}
-use Rattle.roff_layout.specs.declared.trap.Trap.{Trap}
+use Rattle.page_model.specs.declared.trap.Trap.{Trap}
 use Rattle.roff_pages.specs.Pages.FirstTraps.{first_index, is_sought}
 use Rattle.roff_pages.proofs.FirstTraps.{removed_there, nothing_removed}
 use Rattle.roff_pages.proofs.traps.remove_first.Goals as goal

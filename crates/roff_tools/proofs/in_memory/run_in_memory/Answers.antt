@@ -1,7 +1,7 @@
 use Rattle.std.proofs.lemmas.Result.{IfOk-at_ok}
-use Rattle.roff_devices.specs.Memory.{faults_of_source, tape_of, tape_of_bytes}
-use Rattle.roff_devices.specs.WatchedSink.Telling.{told_by}
-use Rattle.roff_sinks.specs.Devices.{seen}
+use Rattle.cli_devices.specs.Memory.{faults_of_source, tape_of, tape_of_bytes}
+use Rattle.cli_devices.specs.WatchedSink.Telling.{told_by}
+use Rattle.page_bytes.specs.Devices.{seen}
 use Rattle.roff_tools.proofs.InMemory.{RunsJob-told}
 use Rattle.roff_tools.proofs.in_memory.run_in_memory.Goals as goal
 

@@ -1,4 +1,4 @@
-use Rattle.roff_sinks.specs.Devices.{seen}
+use Rattle.page_bytes.specs.Devices.{seen}
 use Rattle.tbl_core.specs.Gathered.{gathered_gives, inner_of, tables_of}
 use Rattle.tbl_core.specs.Yields.{at_start}
 use Rattle.roff_tools.proofs.Both.{Runs-RunsBoth, Runs-at}

@@ -1,7 +1,7 @@
 use Rattle.std.proofs.Common.{ap, inl, inr, map, subst}
 use Rattle.clap.specs.Words.{subcommand_of}
-use Rattle.roff_command.specs.CommandLine.{roff_app}
-use Rattle.roff_sinks.specs.Sinks.{Sunk}
+use Rattle.cli_words.specs.CommandLine.{roff_app}
+use Rattle.page_bytes.specs.Sinks.{Sunk}
 use Rattle.roff_tools.specs.StartFault.{fault_line}
 use Rattle.roff_tools.specs.Told.{Tells}
 use Rattle.roff_tools.proofs.Refusing.{no_memory_names, request_names}

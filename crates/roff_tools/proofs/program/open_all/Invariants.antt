@@ -1,5 +1,5 @@
 use Rattle.std.proofs.Common.{map, take}
-use Rattle.roff_devices.specs.Inputs.Part.{AreNamed}
+use Rattle.cli_devices.specs.Inputs.Part.{AreNamed}
 use Rattle.roff_tools.proofs.program.open_all.Given as goal
 
 -- the parts so far are those of the names so far

@@ -1,5 +1,5 @@
 use Rattle.std.proofs.lemmas.Result.{IfOk-at_ok}
-use Rattle.roff_devices.specs.Inputs.Giving.{inputs_give}
+use Rattle.cli_devices.specs.Inputs.Giving.{inputs_give}
 use Rattle.roff_tools.proofs.RunOver.{RunsJob-wider, behind_nothing}
 use Rattle.roff_tools.proofs.program.run_over.Goals as goal
 

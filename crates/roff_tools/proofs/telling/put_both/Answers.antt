@@ -1,4 +1,4 @@
-use Rattle.roff_sinks.proofs.Appending.{Fails-front, Puts-behind}
+use Rattle.page_bytes.proofs.Appending.{Fails-front, Puts-behind}
 use Rattle.roff_tools.proofs.telling.put_both.Goals as goal
 
 pub returns-in-Ok : goal.returns-in-Ok

@@ -1,5 +1,5 @@
 use Rattle.std.proofs.Common.{[], ◌∷◌, ◌++◌}
-use Rattle.roff_sinks.proofs.Appending.{Fails-front, Puts-behind}
+use Rattle.page_bytes.proofs.Appending.{Fails-front, Puts-behind}
 use Rattle.roff_tools.proofs.telling.put_rest.Goals as goal
 
 pub returns-in-Ok : goal.returns-in-Ok

@@ -1,6 +1,6 @@
 use Rattle.std.proofs.Common.{rules, ◌≡◌, ◌∙◌, ◌-◌, ◌≤◌, ap, arith, length, refl}
 use Rattle.std.proofs.lemmas.Bool.Decides.{nat_tests}
-use Rattle.roff_sinks.specs.Devices.{seen}
+use Rattle.page_bytes.specs.Devices.{seen}
 use Rattle.tbl_format.specs.declared.limits.TblLimits.{TblLimits}
 use Rattle.tbl_core.specs.NotesLeft.{notes_left}
 use Rattle.tbl_core.proofs.Given.{front-pending, front_some, given_fewer}

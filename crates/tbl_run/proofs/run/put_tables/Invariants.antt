@@ -1,5 +1,5 @@
 use Rattle.std.proofs.Common.{◌≡◌, ◌+◌, ◌-◌}
-use Rattle.roff_sinks.specs.Devices.{seen}
+use Rattle.page_bytes.specs.Devices.{seen}
 use Rattle.tbl_core.specs.NotesLeft.{notes_left}
 use Rattle.tbl_run.specs.Coming.{HasCome}
 use Rattle.tbl_run.proofs.run.put_tables.Given as goal

@@ -1,5 +1,5 @@
 use Rattle.std.proofs.Common.{rules, ◌≡◌, true, refl, sym, ◌∙◌, ◌==◌}
-use Rattle.roff_source.specs.Bytes.{newline}
+use Rattle.input_source.specs.Bytes.{newline}
 use Rattle.tbl_table.proofs.BegunLines.{columns-none, columns-whole, newline-goes_on}
 use Rattle.tbl_table.proofs.begun.front_columns.Goals as goal
 

@@ -1,5 +1,5 @@
 use Rattle.std.proofs.Common.{sym, subst}
-use Rattle.roff_source.specs.Bytes.{newline}
+use Rattle.input_source.specs.Bytes.{newline}
 use Rattle.tbl_format.specs.Format.{Format, format_read, no_format}
 use Rattle.tbl_format.specs.FormatLaws.{NoByte}
 use Rattle.tbl_format.specs.KeyCounts.{Counts}

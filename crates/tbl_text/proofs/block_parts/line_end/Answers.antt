@@ -1,7 +1,7 @@
 use Rattle.std.proofs.Common.{ℕ, List, None, Some, subst}
 use Rattle.std.proofs.lemmas.List.{take_rest}
 use Rattle.memchr.specs.Find.{IsFirstByte, is_byte}
-use Rattle.roff_source.specs.Bytes.{newline}
+use Rattle.input_source.specs.Bytes.{newline}
 use Rattle.tbl_text.proofs.BlockParts.{lines_from-last, lines_from-first}
 use Rattle.tbl_text.proofs.block_parts.line_end.Goals as goal
 

@@ -1,14 +1,14 @@
 use Rattle.std.proofs.Common.{◌≡◌, ap, sym, subst, ◌∙◌}
 use Rattle.std.specs.Prelude.{IsSome}
-use Rattle.roff_interpreter.specs.Outcome.{Runs, seen}
+use Rattle.run_items.specs.Outcome.{Runs, seen}
 use Rattle.roff_engine.specs.Engine.Setup.{Setup}
-use Rattle.roff_running.specs.Running.Turning.{HasCome}
-use Rattle.roff_running.specs.declared.running.Running.{Running as Coded}
-use Rattle.roff_run.specs.Reading.Items.{PageUnread}
-use Rattle.roff_run.specs.Run.{initial}
-use Rattle.roff_input.specs.declared.looked.Looked.TheVariants.{Nothing}
+use Rattle.run_turns.specs.Running.Turning.{HasCome}
+use Rattle.run_turns.specs.declared.running.Running.{Running as Coded}
+use Rattle.run_model.specs.Reading.Items.{PageUnread}
+use Rattle.run_model.specs.Run.{initial}
+use Rattle.input_model.specs.declared.looked.Looked.TheVariants.{Nothing}
 use Rattle.roff_engine.proofs.WholeRuns.{HasRoom-fresh, come_further, come_left, come_to_end, ends_unread, initial-fresh, not_refused, started, told-fewer}
-use Rattle.roff_sinks.specs.Told.{told_by}
+use Rattle.page_bytes.specs.Told.{told_by}
 use Rattle.roff_engine.proofs.engine.Engine.format_within.Goals as goal
 
 pub returns-in-Err-clause-runs : goal.returns-in-Err-clause-runs

@@ -1,8 +1,8 @@
 use Rattle.std.proofs.Common.{◌≡◌}
-use Rattle.roff_interpreter.specs.Outcome.{seen}
-use Rattle.roff_running.specs.Running.Turning.{HasCome, turns_with}
+use Rattle.run_items.specs.Outcome.{seen}
+use Rattle.run_turns.specs.Running.Turning.{HasCome, turns_with}
 use Rattle.roff_engine.proofs.WholeRuns.{turns_told}
-use Rattle.roff_sinks.specs.Told.{told_by}
+use Rattle.page_bytes.specs.Told.{told_by}
 use Rattle.roff_engine.proofs.engine.Engine.format_within.Given as goal
 
 abbrev pub invariant-loop-told : goal.invariant-loop-told

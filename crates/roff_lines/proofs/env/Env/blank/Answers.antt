@@ -1,7 +1,7 @@
 use Rattle.std.proofs.Common.{◌≡◌, true, rules, sym, ap, subst, ◌∙◌, arith}
 use Rattle.std.specs.Prelude.{if◌then◌else◌}
 use Rattle.std.proofs.lemmas.Bool.{not-true}
-use Rattle.roff_layout.specs.declared.event.Event.TheVariants.{Gap}
+use Rattle.page_model.specs.declared.event.Event.TheVariants.{Gap}
 use Rattle.roff_lines.specs.Env.Kept.{Kept, with_word_ended, word_finishes}
 use Rattle.roff_lines.specs.Env.Stands.{StandsPlainBehind}
 use Rattle.roff_lines.proofs.GapsTold.{Stands-with_gap, field-gap}

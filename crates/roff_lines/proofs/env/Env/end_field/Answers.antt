@@ -1,5 +1,5 @@
 use Rattle.std.proofs.Common.{◌≡◌, subst, sym}
-use Rattle.roff_layout.specs.declared.event.Event.TheVariants.{FieldEnd}
+use Rattle.page_model.specs.declared.event.Event.TheVariants.{FieldEnd}
 use Rattle.roff_lines.specs.Env.Kept.{Kept, length_ended, with_field_ended}
 use Rattle.roff_lines.specs.Env.Stands.{StandsBehind}
 use Rattle.roff_lines.proofs.TabsTold.{StandsBehind-field_end, limit-field_end, ok_in_room}

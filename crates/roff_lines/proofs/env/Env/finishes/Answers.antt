@@ -1,8 +1,8 @@
 use Rattle.std.proofs.Common.{Option, sym, ap, ◌∙◌}
 use Rattle.std.specs.Prelude.{is_some}
-use Rattle.roff_layout.specs.declared.event.Event.{Event}
-use Rattle.roff_layout.specs.Behind.{finished}
-use Rattle.roff_layout.specs.Lines.{Finished}
+use Rattle.page_model.specs.declared.event.Event.{Event}
+use Rattle.page_model.specs.Behind.{finished}
+use Rattle.page_model.specs.Lines.{Finished}
 use Rattle.roff_lines.proofs.TabEnds.{finished_at_tab-stands}
 use Rattle.roff_lines.proofs.env.Env.finishes.Goals as goal
 

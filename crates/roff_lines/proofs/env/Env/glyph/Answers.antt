@@ -2,8 +2,8 @@ use Rattle.std.proofs.lemmas.Bool.{true≢false}
 use Rattle.std.proofs.lemmas.Grind.{common_steps}
 use Rattle.std.proofs.lemmas.Int.{ints}
 use Rattle.std.proofs.Common.{◌≡◌, ◌≤◌, ◌∷◌, None, rules, sym, subst, arith, ◌∙◌}
-use Rattle.roff_layout.specs.declared.event.Event.TheVariants.{Print}
-use Rattle.roff_layout.specs.declared.glyph.Glyph.{Glyph}
+use Rattle.page_model.specs.declared.event.Event.TheVariants.{Print}
+use Rattle.page_model.specs.declared.glyph.Glyph.{Glyph}
 use Rattle.roff_lines.specs.Env.Kept.{Kept, length_with, with_glyph_told}
 use Rattle.roff_lines.specs.Env.Stands.{Stands}
 use Rattle.roff_lines.proofs.GlyphTold.{StandsBehind-glyph, Stands-glyph_told, length_told-none, limit-glyph_told, with_glyph_told-none}

@@ -1,7 +1,7 @@
 use Rattle.std.proofs.Common.{◌≡◌, Some, false, true, refl, rules}
-use Rattle.roff_layout.specs.TabStops.{way_to_next}
-use Rattle.roff_layout.specs.declared.stop.StopKind.TheVariants.{Right, Centred}
-use Rattle.roff_layout.specs.declared.glyph.Glyph.TheVariants.{Blanks}
+use Rattle.page_model.specs.TabStops.{way_to_next}
+use Rattle.page_model.specs.declared.stop.StopKind.TheVariants.{Right, Centred}
+use Rattle.page_model.specs.declared.glyph.Glyph.TheVariants.{Blanks}
 use Rattle.roff_lines.specs.Env.Kept.{Kept, length_with, with_field_opened, with_glyph}
 use Rattle.roff_lines.specs.Env.Stands.{StandsBehindTab}
 use Rattle.roff_lines.proofs.TabsTold.{StandsBehindTab-opened, ok_in_room}

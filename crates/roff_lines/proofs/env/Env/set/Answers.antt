@@ -1,6 +1,6 @@
 use Rattle.std.proofs.Common.{sym, ap, subst}
-use Rattle.roff_layout.specs.declared.settings.Param.{Param}
-use Rattle.roff_layout.specs.Settings.{temporary_with}
+use Rattle.page_model.specs.declared.settings.Param.{Param}
+use Rattle.page_model.specs.Settings.{temporary_with}
 use Rattle.roff_lines.specs.Env.Kept.{Kept, kept_by}
 use Rattle.roff_lines.specs.Env.Stands.{Stands}
 use Rattle.roff_lines.proofs.SameText.{Stands-set_as, temporary_with-other}

@@ -1,8 +1,8 @@
 use Rattle.std.proofs.Common.{◌≤◌, ◌<◌, ◌∷◌, ◌∙◌, refl, sym, ap, subst, arith}
 use Rattle.std.specs.Prelude.{option_map}
-use Rattle.roff_layout.specs.declared.event.Event.TheVariants.{FieldEnd, Tab}
-use Rattle.roff_layout.specs.Fields.{tab_reached, told}
-use Rattle.roff_layout.specs.Behind.{pending_length}
+use Rattle.page_model.specs.declared.event.Event.TheVariants.{FieldEnd, Tab}
+use Rattle.page_model.specs.Fields.{tab_reached, told}
+use Rattle.page_model.specs.Behind.{pending_length}
 use Rattle.roff_lines.specs.Env.Kept.{Kept, length_ended}
 use Rattle.roff_lines.specs.Env.Stands.{StandsPlain}
 use Rattle.roff_lines.specs.Shape.Shaped.{shaped}

@@ -1,5 +1,5 @@
 use Rattle.std.proofs.Common.{◌≡◌, ℕ, List, arith, subst, take}
-use Rattle.roff_layout.specs.Glyphs.{gaps_in}
+use Rattle.page_model.specs.Glyphs.{gaps_in}
 use Rattle.roff_lines.specs.Env.Tells.{IsRun}
 use Rattle.roff_lines.proofs.env.unfilled.gaps_of_words.Goals as goal
 

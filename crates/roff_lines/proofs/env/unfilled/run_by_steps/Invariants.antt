@@ -1,5 +1,5 @@
 use Rattle.std.proofs.Common.{◌≡◌, ◌-◌, ◌<◌, ◌≤◌, take}
-use Rattle.roff_layout.specs.Glyphs.{gaps_in}
+use Rattle.page_model.specs.Glyphs.{gaps_in}
 use Rattle.roff_lines.specs.Env.Tells.{IsRun}
 use Rattle.roff_lines.proofs.env.unfilled.run_by_steps.Given as goal
 

@@ -1,6 +1,6 @@
 use Rattle.std.proofs.Common.{◌≡◌, ◌+◌, ◌-◌, ◌<◌, ap, subst, sym, ◌∙◌, arith}
 use Rattle.std.specs.Prelude.{◌^◌}
-use Rattle.roff_layout.specs.Stops.{next_stop}
+use Rattle.page_model.specs.Stops.{next_stop}
 use Rattle.roff_pages.specs.Pages.Kept.{Kept}
 use Rattle.roff_pages.specs.Pages.Advancing.{way_on}
 use Rattle.roff_pages.proofs.NextStop.{next_stop-stays, next_stop_le}

@@ -1,6 +1,6 @@
 use Rattle.std.proofs.Common.{◌≡◌, List, ap, subst, sym, ◌∙◌, vec_capacity, arith}
-use Rattle.roff_layout.specs.declared.trap.Trap.{Trap}
-use Rattle.roff_layout.specs.Springs.{first_met, is_on_top}
+use Rattle.page_model.specs.declared.trap.Trap.{Trap}
+use Rattle.page_model.specs.Springs.{first_met, is_on_top}
 use Rattle.roff_pages.specs.declared.stops.Stops.{Stops}
 use Rattle.roff_pages.specs.Pages.Kept.{Kept}
 use Rattle.roff_pages.specs.Pages.KnownStops.{AreKnown, BeginsWith}

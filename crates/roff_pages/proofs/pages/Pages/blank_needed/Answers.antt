@@ -1,4 +1,4 @@
-use Rattle.roff_layout.specs.Queries.{text_target}
+use Rattle.page_model.specs.Queries.{text_target}
 use Rattle.roff_pages.proofs.pages.Pages.blank_needed.Goals as goal
 
 pub returns : goal.returns

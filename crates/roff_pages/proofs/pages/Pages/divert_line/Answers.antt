@@ -1,9 +1,9 @@
 use Rattle.std.proofs.Common.{◌≡◌, List, length, ap, ◌∙◌, arith, subst, sym}
-use Rattle.roff_layout.specs.Columns.{finished_of, printed}
-use Rattle.roff_layout.specs.Layout.{Box, Layout}
-use Rattle.roff_layout.specs.Happenings.{Happening, Places}
-use Rattle.roff_layout.specs.Turning.{greatest_width}
-use Rattle.roff_layout.specs.Queries.{text_target}
+use Rattle.page_model.specs.Columns.{finished_of, printed}
+use Rattle.page_model.specs.Layout.{Box, Layout}
+use Rattle.page_model.specs.Happenings.{Happening, Places}
+use Rattle.page_model.specs.Turning.{greatest_width}
+use Rattle.page_model.specs.Queries.{text_target}
 use Rattle.roff_pages.specs.Pages.Counted.{counted}
 use Rattle.roff_pages.specs.Pages.Kept.{Kept}
 use Rattle.roff_pages.specs.Pages.Stands.{StandsAs}

@@ -1,10 +1,10 @@
 use Rattle.std.proofs.Common.{◌≡◌, List, length, replicate, ap, ◌∙◌, subst, sym}
 use Rattle.std.proofs.lemmas.List.{length-replicate}
-use Rattle.roff_layout.specs.Layout.{Box, Empty, Layout}
-use Rattle.roff_layout.specs.declared.layout_event.LayoutEvent.TheVariants.{Need}
-use Rattle.roff_layout.specs.Happenings.{Happening, Does}
-use Rattle.roff_layout.specs.Turning.{greatest_width}
-use Rattle.roff_layout.specs.Queries.{text_target}
+use Rattle.page_model.specs.Layout.{Box, Empty, Layout}
+use Rattle.page_model.specs.declared.layout_event.LayoutEvent.TheVariants.{Need}
+use Rattle.page_model.specs.Happenings.{Happening, Does}
+use Rattle.page_model.specs.Turning.{greatest_width}
+use Rattle.page_model.specs.Queries.{text_target}
 use Rattle.roff_pages.specs.Pages.Counted.{counted}
 use Rattle.roff_pages.specs.Pages.Kept.{Kept}
 use Rattle.roff_pages.specs.Pages.Stands.{StandsAs}

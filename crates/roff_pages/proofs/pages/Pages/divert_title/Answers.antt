@@ -1,9 +1,9 @@
 use Rattle.std.proofs.Common.{◌≡◌, List, length, ap, ◌∙◌, subst, sym}
-use Rattle.roff_layout.specs.Titles.{title_text}
-use Rattle.roff_sinks.specs.TitleLeft.{title_of}
-use Rattle.roff_layout.specs.Layout.{Box, Layout}
-use Rattle.roff_layout.specs.Happenings.{Happening, Titles}
-use Rattle.roff_layout.specs.Turning.{greatest_width}
+use Rattle.page_model.specs.Titles.{title_text}
+use Rattle.page_bytes.specs.TitleLeft.{title_of}
+use Rattle.page_model.specs.Layout.{Box, Layout}
+use Rattle.page_model.specs.Happenings.{Happening, Titles}
+use Rattle.page_model.specs.Turning.{greatest_width}
 use Rattle.roff_pages.specs.Pages.Counted.{counted}
 use Rattle.roff_pages.specs.Pages.Kept.{Kept}
 use Rattle.roff_pages.specs.Pages.Stands.{StandsAs}

@@ -1,7 +1,7 @@
 use Rattle.std.proofs.Common.{◌≡◌, ◌≤◌, ◌<◌, ◌∙◌, false, true, Option, None, Ok, refl, ap, arith, sym, subst}
 use Rattle.std.specs.Prelude.{◌^◌}
 use Rattle.roff_num.specs.declared.num.Num.{Num}
-use Rattle.roff_layout.specs.Happenings.{Does, ejecting}
+use Rattle.page_model.specs.Happenings.{Does, ejecting}
 use Rattle.roff_pages.specs.Pages.Kept.{Kept}
 use Rattle.roff_pages.specs.Pages.Advancing.{way_on}
 use Rattle.roff_pages.specs.Pages.Printing.{DidTo}

@@ -1,6 +1,6 @@
 use Rattle.std.proofs.Common.{◌≡◌, ◌≤◌, ◌∙◌, not, ◌&&◌, ap, arith, false, subst, sym, true}
 use Rattle.std.specs.Prelude.{◌==◌}
-use Rattle.roff_layout.specs.Layout.{Layout, page_place}
+use Rattle.page_model.specs.Layout.{Layout, page_place}
 use Rattle.roff_pages.specs.Pages.Stands.{StandsAs}
 use Rattle.roff_pages.specs.Pages.Kept.{Kept}
 use Rattle.roff_pages.specs.Pages.Advancing.{way_on}

@@ -1,13 +1,13 @@
 use Rattle.std.proofs.Common.{◌≡◌, ◌+◌, ◌<◌, ◌≤◌, ◌++◌, ◌∙◌, ℕ, true, false, List, None, Ok, Err, ap, arith, length, refl, replicate, subst, sym}
 use Rattle.std.specs.Prelude.{◌^◌}
-use Rattle.roff_layout.specs.Columns.{device_line, finished_of, printed}
-use Rattle.roff_layout.specs.Lines.{Finished}
-use Rattle.roff_sinks.specs.declared.page_fault.PageFault.TheVariants.{Sink}
-use Rattle.roff_sinks.specs.Sinks.{Fails, Writes}
-use Rattle.roff_layout.specs.Layout.{Box, Lined}
-use Rattle.roff_layout.specs.Happenings.{Places}
-use Rattle.roff_layout.specs.Stops.{next_stop}
-use Rattle.roff_layout.specs.DeviceText.{device_lines}
+use Rattle.page_model.specs.Columns.{device_line, finished_of, printed}
+use Rattle.page_model.specs.Lines.{Finished}
+use Rattle.page_bytes.specs.declared.page_fault.PageFault.TheVariants.{Sink}
+use Rattle.page_bytes.specs.Sinks.{Fails, Writes}
+use Rattle.page_model.specs.Layout.{Box, Lined}
+use Rattle.page_model.specs.Happenings.{Places}
+use Rattle.page_model.specs.Stops.{next_stop}
+use Rattle.page_model.specs.DeviceText.{device_lines}
 use Rattle.roff_pages.specs.Pages.Kept.{Kept}
 use Rattle.roff_pages.specs.Pages.Printing.{DidTo}
 use Rattle.roff_pages.proofs.NextStop.{next_stop-stays, next_stop_le}

@@ -1,8 +1,8 @@
 use Rattle.std.proofs.Common.{◌≡◌, ◌∙◌, ◌+◌, ◌++◌, ℕ, false, List, Ok, Err, ap, arith, replicate, subst, sym}
-use Rattle.roff_layout.specs.Columns.{device_line, finished_of, printed}
-use Rattle.roff_layout.specs.Layout.{Box, Lined}
-use Rattle.roff_layout.specs.Happenings.{Happening, Places}
-use Rattle.roff_layout.specs.DeviceText.{device_lines}
+use Rattle.page_model.specs.Columns.{device_line, finished_of, printed}
+use Rattle.page_model.specs.Layout.{Box, Lined}
+use Rattle.page_model.specs.Happenings.{Happening, Places}
+use Rattle.page_model.specs.DeviceText.{device_lines}
 use Rattle.roff_pages.specs.Pages.Kept.{Kept}
 use Rattle.roff_pages.specs.Pages.Printing.{HappensWriting}
 use Rattle.roff_pages.proofs.PageBoxes.{SameLimits-behind, SameLimits-written, boxed, device_lines-behind, did_boxes, unboxed}

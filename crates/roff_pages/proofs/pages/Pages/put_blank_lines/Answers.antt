@@ -1,6 +1,6 @@
 use Rattle.std.proofs.Common.{List, replicate, sym}
 use Rattle.std.proofs.lemmas.List.{length-replicate}
-use Rattle.roff_layout.specs.Layout.{Box, Empty}
+use Rattle.page_model.specs.Layout.{Box, Empty}
 use Rattle.roff_pages.specs.Pages.Kept.{Kept}
 use Rattle.roff_pages.proofs.PageBoxes.{boxed, unboxed, device_lines-blank}
 use Rattle.roff_pages.proofs.pages.Pages.put_blank_lines.Goals as goal

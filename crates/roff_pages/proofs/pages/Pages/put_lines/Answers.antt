@@ -1,7 +1,7 @@
 use Rattle.std.proofs.Common.{ap, subst, sym}
 use Rattle.roff_pages.specs.Pages.Kept.{Kept}
 use Rattle.roff_pages.specs.Pages.Stands.{StandsAs}
-use Rattle.roff_layout.specs.Layout.{Layout}
+use Rattle.page_model.specs.Layout.{Layout}
 use Rattle.roff_pages.proofs.PageBoxes.{set_standing}
 use Rattle.roff_pages.proofs.pages.Pages.put_lines.Goals as goal
 

@@ -1,10 +1,10 @@
 use Rattle.std.proofs.Common.{◌≡◌, ◌∙◌, ℕ, false, List, Ok, ap, refl}
-use Rattle.roff_layout.specs.Columns.{device_line}
-use Rattle.roff_layout.specs.Layout.{Box}
-use Rattle.roff_layout.specs.Happenings.{Happening, Titles}
-use Rattle.roff_layout.specs.Titles.{title_text}
-use Rattle.roff_sinks.specs.TitleLeft.{title_of}
-use Rattle.roff_layout.specs.DeviceText.{device_lines}
+use Rattle.page_model.specs.Columns.{device_line}
+use Rattle.page_model.specs.Layout.{Box}
+use Rattle.page_model.specs.Happenings.{Happening, Titles}
+use Rattle.page_model.specs.Titles.{title_text}
+use Rattle.page_bytes.specs.TitleLeft.{title_of}
+use Rattle.page_model.specs.DeviceText.{device_lines}
 use Rattle.roff_pages.specs.Pages.Kept.{Kept}
 use Rattle.roff_pages.proofs.PageBoxes.{SameLimits-behind, boxed, did_boxes}
 use Rattle.roff_pages.proofs.Placing.{length-text_boxes, text_boxes, title_puts}

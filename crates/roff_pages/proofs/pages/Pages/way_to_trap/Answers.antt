@@ -1,7 +1,7 @@
 use Rattle.std.proofs.Common.{◌≡◌, [], ◌∙◌, Option, Some, ap, sym}
 use Rattle.roff_pages.specs.declared.open_diversion.OpenDiversion.{OpenDiversion}
-use Rattle.roff_layout.specs.Stops.{Target}
-use Rattle.roff_layout.specs.Queries.{way_from}
+use Rattle.page_model.specs.Stops.{Target}
+use Rattle.page_model.specs.Queries.{way_from}
 use Rattle.roff_pages.specs.Pages.Kept.{Kept, open_diversions}
 use Rattle.roff_pages.proofs.Blanking.{closed_target, none_open, way_is}
 use Rattle.roff_pages.proofs.pages.Pages.way_to_trap.Goals as goal

@@ -1,6 +1,6 @@
 use Rattle.std.proofs.Common.{◌≡◌, length}
 use Rattle.std.specs.List.{list_any}
-use Rattle.roff_layout.specs.Turning.{is_in_range}
+use Rattle.page_model.specs.Turning.{is_in_range}
 use Rattle.roff_pages.proofs.pages.turning.is_in_ranges.Given as goal
 
 abbrev pub invariant-loop-range : goal.invariant-loop-range

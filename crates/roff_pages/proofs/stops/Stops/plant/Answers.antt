@@ -1,6 +1,6 @@
 use Rattle.std.proofs.Common.{◌≡◌, ◌<◌, ℕ, Option, None, ◌∷◌, [], ◌++◌, refl, ap, subst, sym, ◌∙◌, arith, w32, to_z, of_z}
 use Rattle.std.proofs.lemmas.Int.{ints}
-use Rattle.roff_layout.specs.Stops.{nearer_stop, place_of}
+use Rattle.page_model.specs.Stops.{nearer_stop, place_of}
 use Rattle.roff_pages.specs.Pages.KnownStops.{IsFirstAt}
 use Rattle.roff_pages.proofs.KnownStops.{all_forgotten, planted_further, planted_nearer, planted_stop}
 use Rattle.roff_pages.proofs.NextStop.{nearer_le}

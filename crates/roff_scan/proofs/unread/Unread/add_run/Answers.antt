@@ -1,8 +1,8 @@
 use Rattle.std.proofs.Common.{◌≡◌, ◌+◌, ◌≤◌, [], true, ap, rules, sym, take, take_while, length, ◌∙◌, arith}
-use Rattle.roff_input.specs.Input.{is_none_ahead}
-use Rattle.roff_input.specs.Input.Names.{stored}
-use Rattle.roff_source.specs.Bytes.{is_text_byte}
-use Rattle.roff_input.specs.declared.looked.Looked.TheVariants.{Nothing}
+use Rattle.input_model.specs.Input.{is_none_ahead}
+use Rattle.input_model.specs.Input.Names.{stored}
+use Rattle.input_source.specs.Bytes.{is_text_byte}
+use Rattle.input_model.specs.declared.looked.Looked.TheVariants.{Nothing}
 use Rattle.roff_scan.specs.Unread.Kept.{kept_by}
 use Rattle.roff_scan.specs.Unread.Runs.{room_for}
 use Rattle.roff_scan.specs.declared.run_kind.RunKind.TheVariants.{Definition}

@@ -2,8 +2,8 @@ use Rattle.std.proofs.lemmas.Int.{ints}
 use Rattle.std.proofs.lemmas.Grind.{common_steps}
 use Rattle.std.proofs.Common.{◌≡◌, ◌+◌, ◌≤◌, length, take, ap, ◌∙◌, arith}
 use Rattle.std.proofs.lemmas.List.{length-take-le}
-use Rattle.roff_input.specs.Input.Names.{stored}
-use Rattle.roff_source.specs.Bytes.{is_text_byte}
+use Rattle.input_model.specs.Input.Names.{stored}
+use Rattle.input_source.specs.Bytes.{is_text_byte}
 use Rattle.roff_scan.specs.Unread.Calls.{next_bytes}
 use Rattle.roff_scan.specs.Unread.Kept.{kept_by}
 use Rattle.roff_scan.proofs.AddedBodies.{adds_body, body_no_newline, copy-first}

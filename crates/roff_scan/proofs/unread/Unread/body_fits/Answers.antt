@@ -1,5 +1,5 @@
 use Rattle.std.proofs.Common.{arith}
-use Rattle.roff_ahead.proofs.NamedTexts.{body_within}
+use Rattle.input_ahead.proofs.NamedTexts.{body_within}
 use Rattle.roff_num.specs.ShortNames.{name_bytes}
 use Rattle.roff_scan.specs.Unread.Kept.{kept_by}
 use Rattle.roff_scan.proofs.unread.Unread.body_fits.Goals as goal

@@ -1,10 +1,10 @@
 use Rattle.std.proofs.Common.{◌≡◌, ◌≤◌, ◌<◌, ◌-◌, length, refl, sym, arith}
-use Rattle.roff_input.specs.Arguments.{held, total_length}
-use Rattle.roff_input.specs.Input.{depth}
-use Rattle.roff_input.specs.Input.Calls.{arguments_given, called_text}
-use Rattle.roff_input.specs.Input.Names.{body_named}
+use Rattle.input_model.specs.Arguments.{held, total_length}
+use Rattle.input_model.specs.Input.{depth}
+use Rattle.input_model.specs.Input.Calls.{arguments_given, called_text}
+use Rattle.input_model.specs.Input.Names.{body_named}
 use Rattle.roff_scan.specs.Unread.Kept.{kept_by}
-use Rattle.roff_input.proofs.Counts.{returns-few}
+use Rattle.input_model.proofs.Counts.{returns-few}
 use Rattle.roff_scan.proofs.LineCalls.{IsWithin-calling, call_past_depth, call_past_stack, call_within, length-given, returns-calling}
 use Rattle.roff_scan.proofs.unread.Unread.call.Goals as goal
 

@@ -1,10 +1,10 @@
 use Rattle.std.proofs.Common.{◌≡◌, Bool, true, false, refl}
-use Rattle.roff_escape.specs.EscapeTexts.{KeptEscapes, leaving}
-use Rattle.roff_escape.specs.OpenEscapes.{reading_ended}
-use Rattle.roff_escape.specs.declared.open_escape.Found.TheVariants.{GoesOn}
-use Rattle.roff_escape.specs.declared.open_escape.Surroundings.{Surroundings}
-use Rattle.roff_escape.specs.declared.open_escape.Surroundings.TheVariants.{Arguments as AboveArguments}
-use Rattle.roff_escape.proofs.TextsHeld.{texts_held-reading_ended}
+use Rattle.input_escapes.specs.EscapeTexts.{KeptEscapes, leaving}
+use Rattle.input_escapes.specs.OpenEscapes.{reading_ended}
+use Rattle.input_escapes.specs.declared.open_escape.Found.TheVariants.{GoesOn}
+use Rattle.input_escapes.specs.declared.open_escape.Surroundings.{Surroundings}
+use Rattle.input_escapes.specs.declared.open_escape.Surroundings.TheVariants.{Arguments as AboveArguments}
+use Rattle.input_escapes.proofs.TextsHeld.{texts_held-reading_ended}
 use Rattle.roff_scan.proofs.Sound.{HoldsFewer, fewer-left, fewer-same, sound-escapes}
 use Rattle.roff_scan.proofs.unread.Unread.decide_expression.Goals as goal
 

@@ -1,11 +1,11 @@
 use Rattle.std.proofs.Common.{◌≡◌, Bool, Option, Some, None, IfSome, refl}
-use Rattle.roff_escape.specs.EscapeTexts.{KeptEscapes, leaving}
-use Rattle.roff_escape.specs.OpenEscapes.{reading_ended}
-use Rattle.roff_escape.specs.declared.open_escape.Decision.TheVariants.{Is}
-use Rattle.roff_escape.specs.declared.open_escape.Found.TheVariants.{Decides}
-use Rattle.roff_escape.specs.declared.open_escape.Surroundings.{Surroundings}
-use Rattle.roff_escape.specs.declared.open_escape.Surroundings.TheVariants.{Arguments as AboveArguments}
-use Rattle.roff_escape.proofs.TextsHeld.{texts_held-reading_ended}
+use Rattle.input_escapes.specs.EscapeTexts.{KeptEscapes, leaving}
+use Rattle.input_escapes.specs.OpenEscapes.{reading_ended}
+use Rattle.input_escapes.specs.declared.open_escape.Decision.TheVariants.{Is}
+use Rattle.input_escapes.specs.declared.open_escape.Found.TheVariants.{Decides}
+use Rattle.input_escapes.specs.declared.open_escape.Surroundings.{Surroundings}
+use Rattle.input_escapes.specs.declared.open_escape.Surroundings.TheVariants.{Arguments as AboveArguments}
+use Rattle.input_escapes.proofs.TextsHeld.{texts_held-reading_ended}
 use Rattle.roff_scan.proofs.Sound.{HoldsFewer, fewer-left, fewer-same, sound-escapes}
 use Rattle.roff_scan.proofs.unread.Unread.end_decided.Goals as goal
 

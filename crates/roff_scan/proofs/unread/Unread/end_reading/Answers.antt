@@ -1,4 +1,4 @@
-use Rattle.roff_escape.proofs.TextsHeld.{texts_held-reading_ended}
+use Rattle.input_escapes.proofs.TextsHeld.{texts_held-reading_ended}
 use Rattle.roff_scan.proofs.Sound.{fewer-left, sound-escapes}
 use Rattle.roff_scan.proofs.unread.Unread.end_reading.Goals as goal
 

@@ -1,7 +1,7 @@
 use Rattle.std.proofs.Common.{◌≡◌, ◌+◌, ℕ, Some, refl, sym, ◌∙◌, ap}
 use Rattle.std.specs.Prelude.{Option}
-use Rattle.roff_input.specs.Input.Names.{calling_on, open_numbered}
-use Rattle.roff_input.specs.Unread.{changing, texts_within}
+use Rattle.input_model.specs.Input.Names.{calling_on, open_numbered}
+use Rattle.input_model.specs.Unread.{changing, texts_within}
 use Rattle.roff_scan.specs.Unread.Kept.{kept_by}
 use Rattle.roff_scan.proofs.Calling.{IsWithin-called, changing_called, counted_within, making_unless, removed_few, same_store}
 use Rattle.roff_scan.proofs.unread.Unread.enter_open.Goals as goal

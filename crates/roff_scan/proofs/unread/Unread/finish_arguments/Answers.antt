@@ -1,7 +1,7 @@
-use Rattle.roff_input.specs.Arguments.{finished}
+use Rattle.input_model.specs.Arguments.{finished}
 use Rattle.roff_scan.specs.Unread.Kept.{kept_by}
 use Rattle.roff_scan.proofs.Changing.{IsWithin-same_held}
-use Rattle.roff_input.proofs.KeptArguments.{held-finished}
+use Rattle.input_model.proofs.KeptArguments.{held-finished}
 use Rattle.roff_scan.proofs.LineCalls.{begun-finished}
 use Rattle.roff_scan.proofs.Sound.{sound-arguments}
 use Rattle.roff_scan.proofs.unread.Unread.finish_arguments.Goals as goal

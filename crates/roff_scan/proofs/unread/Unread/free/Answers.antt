@@ -1,7 +1,7 @@
 use Rattle.std.proofs.Common.{◌∙◌}
 use Rattle.roff_scan.specs.Unread.Kept.{kept_by}
 use Rattle.roff_scan.proofs.Changing.{IsWithin-freeing}
-use Rattle.roff_input.proofs.Counts.{returns_ahead-frees}
+use Rattle.input_model.proofs.Counts.{returns_ahead-frees}
 use Rattle.roff_scan.proofs.unread.Unread.free.Goals as goal
 
 pub invariant_of-self : goal.invariant_of-self

@@ -1,8 +1,8 @@
 use Rattle.std.proofs.Common.{◌≡◌, Ok, Err, sym, subst}
 use Rattle.roff_num.specs.declared.limit.Limit.TheVariants.{Stack}
-use Rattle.roff_input.specs.Input.{with_arguments}
-use Rattle.roff_input.specs.Unread.{Unread, changing}
-use Rattle.roff_input.specs.Arguments.{with_unit}
+use Rattle.input_model.specs.Input.{with_arguments}
+use Rattle.input_model.specs.Unread.{Unread, changing}
+use Rattle.input_model.specs.Arguments.{with_unit}
 use Rattle.roff_scan.specs.Unread.Kept.{kept_by}
 use Rattle.roff_scan.proofs.Changing.{hold_past_stack, hold_within, IsWithin-holding}
 use Rattle.roff_scan.proofs.LineCalls.{NoneBegun-with_unit}

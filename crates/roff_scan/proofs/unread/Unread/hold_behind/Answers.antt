@@ -1,8 +1,8 @@
 use Rattle.std.proofs.lemmas.Int.{ints}
 use Rattle.std.proofs.lemmas.Grind.{common_steps}
 use Rattle.std.proofs.Common.{◌≡◌, ◌+◌, take, ap, subst, arith}
-use Rattle.roff_arguments.specs.ArgumentTexts.Kept.{KeptArguments, StopsAt}
-use Rattle.roff_input.specs.Arguments.{Arguments, bytes_held}
+use Rattle.input_arguments.specs.ArgumentTexts.Kept.{KeptArguments, StopsAt}
+use Rattle.input_model.specs.Arguments.{Arguments, bytes_held}
 use Rattle.roff_scan.specs.Unread.Calls.{NoNewline, PassesFront, front_bytes}
 use Rattle.roff_scan.specs.Unread.Kept.{kept_by}
 use Rattle.roff_scan.specs.Unread.Lines.{ended_by, with_held}

@@ -1,7 +1,7 @@
 use Rattle.std.proofs.Common.{◌+◌, ◌≤◌, length, take, refl, arith}
 use Rattle.std.proofs.lemmas.List.{length-take-le}
-use Rattle.roff_input.specs.Arguments.{bytes_held}
-use Rattle.roff_input.specs.Input.{pushed}
+use Rattle.input_model.specs.Arguments.{bytes_held}
+use Rattle.input_model.specs.Input.{pushed}
 use Rattle.roff_scan.specs.Unread.Kept.{kept_by}
 use Rattle.roff_scan.specs.declared.run_kind.RunKind.TheVariants.{Arguments}
 use Rattle.roff_scan.proofs.RunKinds.{run-begun, run-held}

@@ -1,8 +1,8 @@
 use Rattle.std.proofs.Common.{◌≡◌, Ok, Err, sym, subst}
 use Rattle.roff_num.specs.declared.limit.Limit.TheVariants.{Stack}
-use Rattle.roff_input.specs.Arguments.{with_plain}
-use Rattle.roff_input.specs.Input.{holding_plain}
-use Rattle.roff_input.specs.Unread.{Unread, changing}
+use Rattle.input_model.specs.Arguments.{with_plain}
+use Rattle.input_model.specs.Input.{holding_plain}
+use Rattle.input_model.specs.Unread.{Unread, changing}
 use Rattle.roff_scan.specs.Unread.Kept.{kept_by}
 use Rattle.roff_scan.proofs.Changing.{plain_past_stack, plain_within, IsWithin-plain}
 use Rattle.roff_scan.proofs.LineCalls.{NoneBegun-with_plain}

@@ -1,8 +1,8 @@
 use Rattle.std.proofs.Common.{Some, refl, sym, ap, ◌∙◌}
-use Rattle.roff_source.specs.Tape.{Gives, Ends, OneByte, OneNote, Ended, Failed, Stopped}
-use Rattle.roff_input.specs.declared.looked.Looked.TheVariants.{Byte}
-use Rattle.roff_input.specs.Unread.{Unread}
-use Rattle.roff_input.specs.Shown.{SeesByte}
+use Rattle.input_source.specs.Tape.{Gives, Ends, OneByte, OneNote, Ended, Failed, Stopped}
+use Rattle.input_model.specs.declared.looked.Looked.TheVariants.{Byte}
+use Rattle.input_model.specs.Unread.{Unread}
+use Rattle.input_model.specs.Shown.{SeesByte}
 use Rattle.roff_scan.proofs.Asking.{looks_ahead, looks_looked, looks_asked, looks_closed, no_note_ahead, no_ending_ahead}
 use Rattle.roff_scan.proofs.unread.Unread.look.Goals as goal
 

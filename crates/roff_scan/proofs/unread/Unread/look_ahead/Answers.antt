@@ -1,6 +1,6 @@
 use Rattle.std.proofs.Common.{◌≡◌, Some, rules, sym, ap, ◌∙◌}
-use Rattle.roff_input.specs.Shown.{SeesByte, sighted}
-use Rattle.roff_input.specs.declared.item.Sight.TheVariants.{Byte}
+use Rattle.input_model.specs.Shown.{SeesByte, sighted}
+use Rattle.input_model.specs.declared.item.Sight.TheVariants.{Byte}
 use Rattle.roff_scan.proofs.Asking.{looks_ahead}
 use Rattle.roff_scan.proofs.unread.Unread.look_ahead.Goals as goal
 

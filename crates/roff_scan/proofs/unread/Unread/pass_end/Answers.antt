@@ -1,6 +1,6 @@
 use Rattle.std.proofs.Common.{◌≡◌, ◌+◌, ◌∷◌, ◌<◌, subst, ap, arith}
-use Rattle.roff_ahead.specs.InputAhead.Kept.{AheadAndTexts}
-use Rattle.roff_input.specs.Input.{EndAhead}
+use Rattle.input_ahead.specs.InputAhead.Kept.{AheadAndTexts}
+use Rattle.input_model.specs.Input.{EndAhead}
 use Rattle.roff_scan.specs.Unread.Calls.{PassesEnd}
 use Rattle.roff_scan.specs.Unread.Kept.{kept_by}
 use Rattle.roff_scan.proofs.TextEnds.{takes_end}

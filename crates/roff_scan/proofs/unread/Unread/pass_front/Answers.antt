@@ -1,5 +1,5 @@
 use Rattle.std.proofs.Common.{◌≡◌, false, sym, ◌∙◌}
-use Rattle.roff_input.specs.Input.{is_none_ahead}
+use Rattle.input_model.specs.Input.{is_none_ahead}
 use Rattle.roff_scan.specs.Unread.Calls.{IsFront, OfSource}
 use Rattle.roff_scan.specs.Unread.Kept.{kept_by}
 use Rattle.roff_scan.proofs.Fronts.{IsWithin-texts, among-ahead, passes_none, passes_texts, returns-behind}

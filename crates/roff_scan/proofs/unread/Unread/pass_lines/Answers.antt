@@ -2,9 +2,9 @@ use Rattle.std.proofs.Common.{arith}
 use Rattle.std.proofs.lemmas.Int.{ints}
 use Rattle.std.proofs.lemmas.Grind.{common_steps}
 use Rattle.std.proofs.Common.{◌≡◌, true, length, ap, sym, subst, ◌∙◌, take}
-use Rattle.roff_input.specs.Input.{counting, is_none_ahead}
-use Rattle.roff_input.specs.declared.looked.Looked.TheVariants.{Nothing}
-use Rattle.roff_input.specs.Unread.{Unread}
+use Rattle.input_model.specs.Input.{counting, is_none_ahead}
+use Rattle.input_model.specs.declared.looked.Looked.TheVariants.{Nothing}
+use Rattle.input_model.specs.Unread.{Unread}
 use Rattle.roff_scan.specs.Unread.Calls.{IsFront, PassesSource, front_bytes}
 use Rattle.roff_scan.specs.Unread.Kept.{kept_by}
 use Rattle.roff_scan.proofs.Fronts.{among-ready, passes_lines}

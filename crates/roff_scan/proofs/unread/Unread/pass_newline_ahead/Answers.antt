@@ -1,7 +1,7 @@
 use Rattle.std.proofs.Common.{◌≡◌, ◌∷◌, ◌<◌, subst, ap}
-use Rattle.roff_source.specs.Bytes.{newline}
-use Rattle.roff_ahead.specs.InputAhead.Kept.{AheadAndTexts}
-use Rattle.roff_input.specs.Input.{ByteAhead}
+use Rattle.input_source.specs.Bytes.{newline}
+use Rattle.input_ahead.specs.InputAhead.Kept.{AheadAndTexts}
+use Rattle.input_model.specs.Input.{ByteAhead}
 use Rattle.roff_scan.specs.Unread.Calls.{PassesNewline}
 use Rattle.roff_scan.specs.Unread.Kept.{kept_by}
 use Rattle.roff_scan.proofs.Newlines.{takes_newline}

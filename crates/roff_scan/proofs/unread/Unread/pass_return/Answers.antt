@@ -1,7 +1,7 @@
 use Rattle.std.proofs.Common.{◌≡◌, ◌∙◌, ◌+◌, ◌≤◌, ◌<◌, ◌∷◌, sym, subst, ap, arith}
-use Rattle.roff_ahead.specs.InputAhead.Kept.{AheadAndTexts}
-use Rattle.roff_input.specs.Input.{ReturnAhead, item_taken}
-use Rattle.roff_input.specs.Unread.{IsWithin, texts_within}
+use Rattle.input_ahead.specs.InputAhead.Kept.{AheadAndTexts}
+use Rattle.input_model.specs.Input.{ReturnAhead, item_taken}
+use Rattle.input_model.specs.Unread.{IsWithin, texts_within}
 use Rattle.roff_scan.specs.Unread.Calls.{PassesReturn}
 use Rattle.roff_scan.specs.Unread.Kept.{kept_by}
 use Rattle.roff_scan.proofs.CallsOver.{IsWithin-over, returns-over}

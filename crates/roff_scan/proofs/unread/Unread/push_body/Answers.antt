@@ -1,9 +1,9 @@
 use Rattle.std.proofs.Common.{◌≤◌, ◌<◌, ◌-◌, ◌∷◌, length, sym, ◌∙◌}
-use Rattle.roff_input.specs.Input.{EndAhead, depth}
-use Rattle.roff_input.specs.Input.Names.{body_named}
+use Rattle.input_model.specs.Input.{EndAhead, depth}
+use Rattle.input_model.specs.Input.Names.{body_named}
 use Rattle.roff_scan.specs.Unread.Kept.{kept_by}
 use Rattle.roff_scan.proofs.Changing.{push_past_stack, push_past_depth, push_within, IsWithin-pushing}
-use Rattle.roff_input.proofs.Counts.{returns_ahead-bytes}
+use Rattle.input_model.proofs.Counts.{returns_ahead-bytes}
 use Rattle.roff_scan.proofs.unread.Unread.push_body.Goals as goal
 
 pub returns-then-body_len-room : goal.returns-then-body_len-room

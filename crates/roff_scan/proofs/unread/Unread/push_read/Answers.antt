@@ -1,6 +1,6 @@
 use Rattle.std.proofs.Common.{◌+◌, ◌<◌, ◌≤◌, ℕ, List, drop, length, ap, refl, ◌∙◌, arith}
-use Rattle.roff_input.specs.Input.{depth, pushed, pushing}
-use Rattle.roff_input.specs.Unread.{IsWithin, Unread, changing}
+use Rattle.input_model.specs.Input.{depth, pushed, pushing}
+use Rattle.input_model.specs.Unread.{IsWithin, Unread, changing}
 use Rattle.roff_scan.specs.Unread.Kept.{kept_by}
 use Rattle.roff_scan.proofs.Changing.{push_within}
 use Rattle.roff_scan.proofs.unread.Unread.push_read.Goals as goal

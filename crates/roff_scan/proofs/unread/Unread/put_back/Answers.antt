@@ -1,6 +1,6 @@
 use Rattle.std.proofs.Common.{◌<◌, rules, inl, inr, arith, refl}
 use Rattle.std.proofs.lemmas.Bool.{cases_Bool}
-use Rattle.roff_input.specs.Input.{events_ahead, most_events}
+use Rattle.input_model.specs.Input.{events_ahead, most_events}
 use Rattle.roff_scan.proofs.unread.Unread.put_back.Goals as goal
 
 pub invariant_of-self : goal.invariant_of-self

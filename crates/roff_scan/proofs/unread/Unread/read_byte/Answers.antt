@@ -1,4 +1,4 @@
-use Rattle.roff_escape.proofs.TextsHeld.{texts_held-byte_read}
+use Rattle.input_escapes.proofs.TextsHeld.{texts_held-byte_read}
 use Rattle.roff_scan.proofs.Sound.{fewer-left, sound-escapes}
 use Rattle.roff_scan.proofs.unread.Unread.read_byte.Goals as goal
 

@@ -1,5 +1,5 @@
 use Rattle.std.proofs.Common.{◌+◌, refl, sym}
-use Rattle.roff_input.specs.Unread.{texts_within}
+use Rattle.input_model.specs.Unread.{texts_within}
 use Rattle.roff_scan.specs.Unread.Kept.{kept_by}
 use Rattle.roff_scan.proofs.Calling.{IsWithin-called, changing_called, counted_within, making_unless, same_store}
 use Rattle.roff_scan.proofs.unread.Unread.set.Goals as goal

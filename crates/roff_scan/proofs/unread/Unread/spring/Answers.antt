@@ -1,9 +1,9 @@
 use Rattle.std.proofs.Common.{◌≤◌, ◌<◌, ◌-◌, length, sym, arith}
-use Rattle.roff_input.specs.Input.{depth}
-use Rattle.roff_input.specs.Input.Calls.{called_text}
-use Rattle.roff_input.specs.Input.Names.{body_named}
+use Rattle.input_model.specs.Input.{depth}
+use Rattle.input_model.specs.Input.Calls.{called_text}
+use Rattle.input_model.specs.Input.Names.{body_named}
 use Rattle.roff_scan.specs.Unread.Kept.{kept_by}
-use Rattle.roff_input.proofs.Counts.{returns-few}
+use Rattle.input_model.proofs.Counts.{returns-few}
 use Rattle.roff_scan.proofs.LineCalls.{IsWithin-springing, returns-springing, spring_past_depth, spring_past_stack, spring_within}
 use Rattle.roff_scan.proofs.unread.Unread.spring.Goals as goal
 

@@ -1,5 +1,5 @@
 use Rattle.std.proofs.Common.{refl, sym, ◌∙◌}
-use Rattle.roff_source.specs.Tape.{Gives, Ends, OneByte, OneNote, Ended, Failed, Stopped}
+use Rattle.input_source.specs.Tape.{Gives, Ends, OneByte, OneNote, Ended, Failed, Stopped}
 use Rattle.roff_scan.proofs.Asking.{takes_ahead, takes_looked, takes_asked, takes_closed}
 use Rattle.roff_scan.proofs.unread.Unread.take.Goals as goal
 

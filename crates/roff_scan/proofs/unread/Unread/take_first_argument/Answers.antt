@@ -1,6 +1,6 @@
 use Rattle.std.proofs.Common.{◌≡◌, ℕ, List, [], Some, length, take, ap, refl, rules, subst, sym, ◌∙◌, arith}
-use Rattle.roff_input.specs.Arguments.{Arguments}
-use Rattle.roff_arguments.specs.ArgumentTexts.Kept.{KeptArguments, NoMore, StopsAt}
+use Rattle.input_model.specs.Arguments.{Arguments}
+use Rattle.input_arguments.specs.ArgumentTexts.Kept.{KeptArguments, NoMore, StopsAt}
 use Rattle.roff_scan.specs.Unread.Calls.{next_bytes}
 use Rattle.roff_scan.specs.Unread.Kept.{kept_by}
 use Rattle.roff_scan.specs.declared.run_kind.RunKind.TheVariants.{CallArguments}

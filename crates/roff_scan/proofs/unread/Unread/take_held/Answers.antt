@@ -1,5 +1,5 @@
 use Rattle.std.proofs.Common.{◌≡◌, [], ap, rules, sym, ◌∙◌, arith}
-use Rattle.roff_arguments.specs.ArgumentTexts.Kept.{KeptArguments}
+use Rattle.input_arguments.specs.ArgumentTexts.Kept.{KeptArguments}
 use Rattle.roff_scan.specs.Unread.Kept.{kept_by}
 use Rattle.roff_scan.proofs.RunKinds.{run-room}
 use Rattle.roff_scan.proofs.Runs.{none-whole, run_in_front, run_no_newline, takes_none, takes_run}

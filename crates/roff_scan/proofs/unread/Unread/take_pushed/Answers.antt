@@ -1,7 +1,7 @@
 use Rattle.std.proofs.Common.{◌+◌, ◌≤◌, sym, ap, ◌∙◌, arith}
-use Rattle.roff_input.specs.Input.{returns_ahead}
+use Rattle.input_model.specs.Input.{returns_ahead}
 use Rattle.roff_scan.specs.Unread.Kept.{kept_by}
-use Rattle.roff_input.proofs.Counts.{returns_ahead-bytes}
+use Rattle.input_model.proofs.Counts.{returns_ahead-bytes}
 use Rattle.roff_scan.proofs.PushedFronts.{IsWithin-given}
 use Rattle.roff_scan.proofs.unread.Unread.take_pushed.Goals as goal
 

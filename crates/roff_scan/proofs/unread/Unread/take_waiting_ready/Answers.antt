@@ -1,9 +1,9 @@
 use Rattle.std.proofs.Common.{◌≡◌, ◌∙◌, ℕ, ◌+◌, List, false, true, arith, map, take, refl, subst, sym}
 use Rattle.std.specs.Prelude.{get_or, nat_lt}
 use Rattle.std.proofs.lemmas.Bool.{le-ltb}
-use Rattle.roff_input.specs.Input.{is_none_ahead}
-use Rattle.roff_source.specs.Tape.{Gives, OneByte, Took}
-use Rattle.roff_input.specs.declared.looked.Looked.TheVariants.{Nothing}
+use Rattle.input_model.specs.Input.{is_none_ahead}
+use Rattle.input_source.specs.Tape.{Gives, OneByte, Took}
+use Rattle.input_model.specs.declared.looked.Looked.TheVariants.{Nothing}
 use Rattle.roff_scan.proofs.Asking.{answers_first, takes_asked}
 use Rattle.roff_scan.proofs.Fronts.{nothing_looked}
 use Rattle.roff_scan.proofs.unread.Unread.take_waiting_ready.Goals as goal

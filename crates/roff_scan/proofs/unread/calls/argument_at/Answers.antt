@@ -1,7 +1,7 @@
 use Rattle.std.proofs.Common.{[], ap, ◌∙◌}
 use Rattle.std.specs.Option.{unwrap_or}
 use Rattle.std.proofs.lemmas.Option.{unwrap_or-slice_get}
-use Rattle.roff_arguments.specs.ArgumentList.{listed}
+use Rattle.input_arguments.specs.ArgumentList.{listed}
 use Rattle.roff_scan.proofs.unread.calls.argument_at.Goals as goal
 
 pub returns-in-Some : goal.returns-in-Some

@@ -1,6 +1,6 @@
 use Rattle.std.proofs.Common.{◌≡◌, ◌∙◌, ℕ, ◌+◌, ◌==◌, List, ap, drop, false, true, sym, subst, take}
 use Rattle.std.specs.List.{AllByRecursion}
-use Rattle.roff_source.specs.Bytes.{blank}
+use Rattle.input_source.specs.Bytes.{blank}
 use Rattle.roff_scan.specs.Unread.FirstArguments.{Unended, blanks_in, inside_in, is_inside}
 use Rattle.roff_scan.proofs.FirstArguments.{unended-alone, unended-parts}
 use Rattle.roff_scan.proofs.PartsTaken.{begin}

@@ -1,6 +1,6 @@
 use Rattle.std.proofs.Common.{◌≡◌, length}
 use Rattle.std.specs.Prelude.{reverse, vec_capacity}
-use Rattle.roff_input.specs.Input.{results_below}
+use Rattle.input_model.specs.Input.{results_below}
 use Rattle.roff_scan.proofs.unread.results.drop_results.Given as goal
 
 abbrev pub invariant-loop-last : goal.invariant-loop-last

@@ -1,5 +1,5 @@
 use Rattle.std.proofs.Common.{◌≡◌, ℕ, Some, subst}
-use Rattle.roff_arguments.specs.ArgumentTexts.Kept.{StopsAt}
+use Rattle.input_arguments.specs.ArgumentTexts.Kept.{StopsAt}
 use Rattle.roff_scan.proofs.PartsTaken.{part-blanks, part-condition, part-definition, part-dropped, part-held, part-held_fewer, part-ignored, part-name}
 use Rattle.roff_scan.proofs.unread.runs.take_part.Goals as goal
 

@@ -1,5 +1,5 @@
 use Rattle.std.proofs.Common.{take, take_while, ap, ◌∙◌}
-use Rattle.roff_source.specs.Bytes.{is_text_byte}
+use Rattle.input_source.specs.Bytes.{is_text_byte}
 use Rattle.roff_scan.proofs.AddedFronts.{plain_in_front}
 use Rattle.roff_scan.proofs.PartsTaken.{begin}
 use Rattle.roff_scan.proofs.unread.runs.text_ready.Goals as goal

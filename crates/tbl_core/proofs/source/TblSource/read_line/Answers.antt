@@ -1,5 +1,5 @@
 use Rattle.std.proofs.Common.{◌≡◌, ◌∙◌, ℕ, List, length, map, take, sym, ap, subst}
-use Rattle.roff_source.specs.Tape.{OneByte, Took}
+use Rattle.input_source.specs.Tape.{OneByte, Took}
 use Rattle.tbl_core.specs.NotesLeft.{noted}
 use Rattle.tbl_core.specs.ReadOn.{line_read}
 use Rattle.tbl_core.specs.Source.{WasAsked}

@@ -1,5 +1,5 @@
 use Rattle.std.proofs.Common.{Some, sym, ap, ◌∙◌, ◌++◌, ◌≡◌, [], Option, ℕ, subst, IfSome}
-use Rattle.roff_source.specs.Tape.{OneByte}
+use Rattle.input_source.specs.Tape.{OneByte}
 use Rattle.tbl_core.specs.Source.{WasAsked}
 use Rattle.tbl_core.specs.NotesLeft.{noted}
 use Rattle.tbl_core.specs.Tables.{handed}

@@ -2,8 +2,8 @@ use Rattle.std.proofs.lemmas.Int.{ints}
 use Rattle.std.proofs.lemmas.Grind.{common_steps}
 use Rattle.std.proofs.Common.{arith, Some, None, refl, sym, ap, ◌∙◌}
 use Rattle.std.proofs.lemmas.Option.{MatchOption-at_none}
-use Rattle.roff_source.specs.declared.source.Taken.TheVariants.{End, Fault, Stop}
-use Rattle.roff_source.specs.Tape.{OneByte, Ended, Failed, Stopped}
+use Rattle.input_source.specs.declared.source.Taken.TheVariants.{End, Fault, Stop}
+use Rattle.input_source.specs.Tape.{OneByte, Ended, Failed, Stopped}
 use Rattle.tbl_core.specs.Source.{WasAsked}
 use Rattle.tbl_core.specs.Tables.{TablesState, stopped_by}
 use Rattle.tbl_core.specs.Machine.{Step}

@@ -1,5 +1,5 @@
 use Rattle.std.proofs.Common.{sym, subst}
-use Rattle.roff_source.proofs.PlainBytes.{take_while-plain}
+use Rattle.input_source.proofs.PlainBytes.{take_while-plain}
 use Rattle.tbl_core.specs.Passing.{IsWithinLine, is_of_line}
 use Rattle.tbl_core.proofs.tables.Tables.passing.Goals as goal
 

@@ -7,7 +7,7 @@ use Rattle.tbl_giving.specs.declared.line_by_line.Place.TheVariants.{AtElement}
 use Rattle.tbl_giving.specs.declared.line_by_line.RuleAt.TheVariants.{Element as OfElement}
 use Rattle.std.proofs.lemmas.List.{drop_all}
 use Rattle.std.specs.List.{slice_range}
-use Rattle.roff_source.specs.Bytes.{newline}
+use Rattle.input_source.specs.Bytes.{newline}
 use Rattle.tbl_format.proofs.Elements.{each-at}
 use Rattle.tbl_format.proofs.Parts.{length-slice_range}
 use Rattle.tbl_kept.specs.Rows.{Command as CommandKept, ElementLaid, Rule as RuleKept}

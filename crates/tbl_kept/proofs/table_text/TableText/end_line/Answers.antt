@@ -1,5 +1,5 @@
 use Rattle.std.proofs.Common.{◌≡◌, ◌∷◌, [], List, ℕ, length, length-append, ap, ◌∙◌, arith}
-use Rattle.roff_source.specs.Bytes.{newline}
+use Rattle.input_source.specs.Bytes.{newline}
 use Rattle.tbl_kept.proofs.TextBlocks.{Lies-done, length-read, text-done}
 use Rattle.tbl_kept.proofs.AskedJoints.{asked-none}
 use Rattle.tbl_kept.proofs.table_text.TableText.end_line.Goals as goal

@@ -1,5 +1,5 @@
 use Rattle.std.proofs.Common.{◌≡◌, ◌≤◌, ◌∷◌, [], ◌++◌, List, ℕ, length, length-append, length-drop, drop, true, ap, sym, ◌∙◌, arith}
-use Rattle.roff_source.specs.Bytes.{backslash}
+use Rattle.input_source.specs.Bytes.{backslash}
 use Rattle.tbl_kept.specs.Joined.{goes_on}
 use Rattle.tbl_kept.proofs.TextBlocks.{Lies-join, front-is, goes_on-some, length-read, text-join}
 use Rattle.tbl_kept.proofs.AskedJoints.{asked-more}

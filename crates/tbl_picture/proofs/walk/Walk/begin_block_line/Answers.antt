@@ -1,6 +1,6 @@
 use Rattle.std.proofs.Common.{◌≡◌, ℕ, ◌+◌, ◌-◌, List, [], ◌∷◌, ◌++◌, replicate, sym, ap, subst, ◌∙◌, arith}
 use Rattle.std.proofs.lemmas.List.{length-replicate}
-use Rattle.roff_source.specs.Bytes.{blank}
+use Rattle.input_source.specs.Bytes.{blank}
 use Rattle.tbl_lines.specs.RowsLeft.{if_given}
 use Rattle.tbl_picture.specs.Walks.{AtColumn, KeptWalk, RowSteps, at_word, kept_by, lent_row}
 use Rattle.tbl_pieces.proofs.Adding.{adds-fewer, adds-more}

@@ -1,6 +1,6 @@
 use Rattle.std.proofs.Common.{◌≡◌, List, refl, sym, ap, subst, ◌∙◌, ◌∷◌, [], ◌+◌, length, arith}
 use Rattle.std.specs.Prelude.{nat_eq}
-use Rattle.roff_source.specs.Bytes.{newline}
+use Rattle.input_source.specs.Bytes.{newline}
 use Rattle.tbl_picture.specs.Walks.{InLine, KeptWalk, RowEndsOrGoesOn, kept_by, lent_row}
 use Rattle.tbl_picture.specs.Nexts.{AtLine}
 use Rattle.tbl_text.specs.declared.block_parts.BlockPlace.{BlockPlace}

@@ -1,5 +1,5 @@
 use Rattle.std.proofs.Common.{◌≡◌, ◌+◌, ◌-◌, [], ◌∷◌, ◌++◌, drop, refl, sym, ap, subst, ◌∙◌, arith}
-use Rattle.roff_source.specs.Bytes.{newline}
+use Rattle.input_source.specs.Bytes.{newline}
 use Rattle.tbl_format.specs.RowsServed.{all_rows}
 use Rattle.tbl_picture.specs.ElementsWalked.{FirstFits}
 use Rattle.tbl_picture.specs.RulesWalked.{LineEnded, RuleLies, RuleStands, bytes_at, mark_given, place_behind}

@@ -1,6 +1,6 @@
 use Rattle.std.proofs.Common.{◌≡◌, ℕ, ◌+◌, ◌-◌, ◌++◌, replicate, refl, sym, ap, subst, ◌∙◌, arith}
 use Rattle.std.proofs.lemmas.List.{length-replicate}
-use Rattle.roff_source.specs.Bytes.{blank}
+use Rattle.input_source.specs.Bytes.{blank}
 use Rattle.tbl_lines.specs.PictureLines.{bar, bars_at}
 use Rattle.tbl_lines.specs.RowsLeft.{if_given, one_less}
 use Rattle.tbl_picture.specs.Walks.{FrontStands, IsNear, KeptWalk, RowSteps, front_passed, kept_by, lent_row, reached_by}

@@ -1,6 +1,6 @@
 use Rattle.std.proofs.Common.{◌≡◌, ◌≢◌, ℕ, ◌+◌, ◌-◌, List, [], ◌∷◌, ◌++◌, replicate, sym, ap, subst, ◌∙◌, arith}
 use Rattle.std.proofs.lemmas.List.{length-replicate}
-use Rattle.roff_source.specs.Bytes.{blank}
+use Rattle.input_source.specs.Bytes.{blank}
 use Rattle.tbl_lines.specs.PictureLines.{repeated}
 use Rattle.tbl_pieces.specs.PieceQueue.{Adds}
 use Rattle.tbl_lines.specs.RowsLeft.{begins_at, cell_left, if_given, one_less}

@@ -1,7 +1,7 @@
 use Rattle.std.proofs.Common.{◌≡◌, ℕ, ◌+◌, ◌≤◌, ◌<◌, List, [], ◌∷◌, ◌++◌, length, replicate, sym, ap, subst, ◌∙◌, arith}
 use Rattle.std.specs.List.{slice_range}
 use Rattle.std.proofs.lemmas.List.{length-replicate}
-use Rattle.roff_source.specs.Bytes.{blank}
+use Rattle.input_source.specs.Bytes.{blank}
 use Rattle.tbl_lines.specs.RowsLeft.{block_text, if_given, one_less}
 use Rattle.tbl_picture.specs.Walks.{AtColumn, InWord, IsNear, KeptWalk, RowSteps, at_word, columns_walked, kept_by, lent_row, passed, reached_by}
 use Rattle.tbl_pieces.proofs.Adding.{adds-fewer, adds-more}

@@ -1,6 +1,6 @@
 use Rattle.std.proofs.Common.{ℕ, ◌+◌, [], ◌∷◌, ◌++◌, codes, replicate, refl, subst, arith}
 use Rattle.std.proofs.lemmas.List.{length-replicate}
-use Rattle.roff_source.specs.Bytes.{newline}
+use Rattle.input_source.specs.Bytes.{newline}
 use Rattle.tbl_layout.specs.DataLines.{sign_byte}
 use Rattle.tbl_pieces.specs.PieceQueue.{Adds}
 use Rattle.tbl_pieces.proofs.Adding.{adds-fewer, adds-more}

@@ -1,5 +1,5 @@
 use Rattle.std.proofs.Common.{sym, ◌∙◌}
-use Rattle.roff_source.specs.Bytes.{newline}
+use Rattle.input_source.specs.Bytes.{newline}
 use Rattle.tbl_options.specs.Options.{options_end}
 use Rattle.tbl_table.proofs.BegunLines.{counts-behind, nothing-head, place-format, place-front, place-keys}
 use Rattle.tbl_table.proofs.begun.Begun.place_at_end.Goals as goal

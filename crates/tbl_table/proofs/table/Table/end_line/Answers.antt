@@ -1,5 +1,5 @@
 use Rattle.std.proofs.Common.{◌≤◌, ℕ, [], ◌∷◌, ◌++◌, subst}
-use Rattle.roff_source.specs.Bytes.{newline}
+use Rattle.input_source.specs.Bytes.{newline}
 use Rattle.tbl_table.specs.Kept.{table_of}
 use Rattle.tbl_data.specs.declared.phase.Phase.TheVariants.{AtHead, InFormat}
 use Rattle.tbl_table.proofs.RowsBehind.{columns-in}

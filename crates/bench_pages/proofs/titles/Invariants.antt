@@ -1,0 +1,5 @@
+use Rattle.std.proofs.Common.{◌≡◌, []}
+use Rattle.bench_pages.proofs.titles.Given as goal
+
+abbrev pub invariant-loop : goal.invariant-loop
+invariant-loop l = l.pages.diversions ≡ []

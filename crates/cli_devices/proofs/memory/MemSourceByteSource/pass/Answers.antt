@@ -1,0 +1,5 @@
+use Rattle.input_source.proofs.Giving.{told_bytes}
+use Rattle.cli_devices.proofs.memory.MemSourceByteSource.pass.Goals as goal
+
+pub returns-clause-gives : goal.returns-clause-gives
+returns-clause-gives c = rw c.split_at.ensures.back (told_bytes c.args.self.now.rest.now _ c.args.count)

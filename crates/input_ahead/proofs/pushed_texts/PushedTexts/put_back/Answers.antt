@@ -1,0 +1,13 @@
+use Rattle.std.proofs.Common.{arith}
+use Rattle.std.specs.Prelude.{reverse}
+use Rattle.std.proofs.lemmas.List.{length-reverse}
+use Rattle.input_ahead.proofs.Counts.{length-pushed_texts}
+use Rattle.input_ahead.proofs.pushed_texts.PushedTexts.put_back.Goals as goal
+
+pub put_mark-requires-clause-room : goal.put_mark-requires-clause-room
+put_mark-requires-clause-room g c =
+    let inside = c.self.inside in
+    let used = length-pushed_texts (reverse inside.pushed_texts.items) inside.bytes.items in
+    let few = rw (← c.self.view_is) at c.requires in
+    let counted = rw length-reverse at used in
+    omega (arith, inside.pushed_texts.ok.0, counted, few, c.self.invariant.room.ends, c.self.invariant.room.events, c.self.invariant.room.frees, c.self.invariant.pushed_texts)

@@ -1,0 +1,186 @@
+//! What is kept of titles: the one that is read, one that waits, and the page number's character.
+
+ghost use Rattle.std.specs.Prelude.{◌≡◌, ◌∷◌, [], Ok, replicate};
+ghost use Rattle.page_model.specs.Glyphs.{glyph_blank};
+ghost use Rattle.read_registers.specs.Registers.Fronts.{AddsFront, is_plain, kept_byte};
+ghost use Rattle.run_model.specs.Reading.Titles.{is_page_character};
+ghost use Rattle.run_model.specs.Titles.{title_of, with_title_kept};
+ghost use Rattle.run_model.specs.Registers.{CharacterIs, PartEnds, TitleBegins, TitleGets};
+ghost use Rattle.run_model.specs.Registers.Capped.{admitted, title_admitted, title_after};
+ghost use Rattle.run_model.specs.Registers.Capped.{with_change};
+
+use super::RunRegisters;
+use page_bytes::PAGE_NUMBER;
+use page_model::UNPADDABLE;
+use roff_num::{Format, Limit};
+use run_model::{TitlePart, WhichTitle};
+use run_state::TitleText;
+use std::mem;
+
+impl RunRegisters {
+    /// The text of a title.
+    pub fn title(&self, which: WhichTitle) -> &TitleText
+        ensures { result.now.text ≡ title_of self.now.all which }
+    {
+        match which {
+            WhichTitle::Read => &self.title,
+            WhichTitle::Kept => &self.kept_title,
+        }
+    }
+
+    /// The part of a title that is read.
+    pub fn title_part(&self) -> TitlePart
+        ensures { result ≡ self.now.all.title.part }
+    {
+        self.title.part()
+    }
+
+    /// The format of the page number.
+    pub fn page_format(&self) -> Format
+        ensures { result ≡ self.now.all.page_format }
+    {
+        self.page_format
+    }
+
+    /// The character that stands for the page number in titles, if one does.
+    pub fn page_character(&self) -> Option<u8>
+        ensures { result ≡ self.now.all.page_character }
+    {
+        self.page_character
+    }
+
+    /// Sets it.
+    pub(super) fn set_page_character(&mut self, character: Option<u8>)
+        ensures registers { self.new ≡ with_change (CharacterIs character) self.old }
+        ensures room { admitted (CharacterIs character) self.old ≡ Ok tt }
+    {
+        self.page_character = character;
+    }
+
+    /// A title begins: these bytes are read of its left part.
+    ///
+    /// # Errors
+    ///
+    /// [`Limit::Line`] if these are more than a title may have.
+    pub fn begin_title(&mut self, bytes: &[u8]) -> Result<(), Limit>
+        ensures answer { result ≡ title_admitted (TitleBegins bytes.now) self.old }
+        ensures registers { self.new ≡ title_after (TitleBegins bytes.now) self.old }
+    {
+        if bytes.len() > self.line {
+            return Err(Limit::Line);
+        }
+        self.title.begin();
+        self.title.add(bytes);
+        Ok(())
+    }
+
+    /// Bytes are read of the part of the title that comes.
+    ///
+    /// # Errors
+    ///
+    /// [`Limit::Line`] if a title would have more than it may; it is as it was then.
+    pub fn add_to_title(&mut self, bytes: &[u8]) -> Result<(), Limit>
+        ensures answer { result ≡ title_admitted (TitleGets bytes.now) self.old }
+        ensures registers { self.new ≡ title_after (TitleGets bytes.now) self.old }
+    {
+        if bytes.len() > self.title.room_left() {
+            return Err(Limit::Line);
+        }
+        self.title.add(bytes);
+        Ok(())
+    }
+
+    /// The first of these bytes are read of it, up to one that is the delimiter, or doesn't stand
+    /// for the page number, a blank or itself, and no more than a title may have. How many they
+    /// are.
+    #[tactic(auto, using(crate::proofs::TitleFronts::plain_one_more, crate::proofs::TitleFronts::added_one_more))]
+    pub fn add_front_to_title(&mut self, front: &[u8], delimiter: u8) -> usize
+        ensures adds { AddsFront front.now delimiter result self.old self.new }
+    {
+        let RunRegisters {
+            title,
+            page_character,
+            ..
+        } = self;
+        let most = title.room_left().min(front.len());
+        let mut count = 0;
+        while count < most {
+            let byte = front[count];
+            if !is_plain(byte, delimiter) {
+                return count;
+            }
+            title.push(kept_byte(byte, *page_character));
+            count += 1;
+        }
+        count
+    }
+
+    /// So many blanks are read of it.
+    ///
+    /// # Errors
+    ///
+    /// [`Limit::Line`] if a title would have more bytes than it may; it is as it was then.
+    pub fn add_blanks_to_title(&mut self, count: u32) -> Result<(), Limit>
+        ensures answer { result
+            ≡ title_admitted (TitleGets (replicate count glyph_blank)) self.old }
+        ensures registers { self.new
+            ≡ title_after (TitleGets (replicate count glyph_blank)) self.old }
+    {
+        let count = count as usize;
+        if count > self.title.room_left() {
+            return Err(Limit::Line);
+        }
+        self.title.add_blanks(count);
+        Ok(())
+    }
+
+    /// The part of the title that was read has ended.
+    pub fn end_title_part(&mut self)
+        ensures { self.new ≡ with_change PartEnds self.old }
+    {
+        self.title.end_part();
+    }
+
+    /// The title that was read last is kept: it waits behind a macro that sprang. Nothing is read
+    /// of another yet.
+    pub fn keep_title(&mut self)
+        ensures { self.new ≡ record self.old { all = with_title_kept self.old.all } }
+    {
+        mem::swap(&mut self.title, &mut self.kept_title);
+        self.title.begin();
+    }
+}
+
+/// Whether a byte of a part stands for the page number, a blank or itself: it is not the delimiter,
+/// no control byte, and no backslash.
+#[inline(always)]
+fn is_plain(byte: u8, delimiter: u8) -> bool
+    ensures { result ≡ is_plain delimiter byte }
+{
+    byte >= b' ' && byte != 127 && byte != b'\\' && byte != delimiter
+}
+
+/// Whether it is the page number's character, if there is one.
+#[inline(always)]
+fn is_character(byte: u8, character: Option<u8>) -> bool
+    ensures { result ≡ is_page_character character byte }
+{
+    match character {
+        None => false,
+        Some(character) => byte == character,
+    }
+}
+
+/// What such a byte is in the part.
+#[inline(always)]
+fn kept_byte(byte: u8, character: Option<u8>) -> u8
+    ensures { result ≡ kept_byte character byte }
+{
+    if is_character(byte, character) {
+        PAGE_NUMBER
+    } else if byte == b' ' {
+        UNPADDABLE
+    } else {
+        byte
+    }
+}

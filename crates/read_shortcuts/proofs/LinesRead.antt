@@ -1,0 +1,265 @@
+-- Control lines that are read at once with their arguments, some of them up to their newlines.
+use Rattle.std.proofs.Common.{◌≡◌, ◌==◌, ◌||◌, ◌+◌, ◌≤◌, ℕ, Bool, true, false, List, [], ◌∷◌, ◌++◌, Option, None, append-nil, length, take, refl, sym, ap, subst, ◌∙◌, arith}
+use Rattle.std.proofs.lemmas.Bool.{eqb-true}
+use Rattle.std.proofs.lemmas.List.{length-append, take-take}
+use Rattle.std.specs.List.{AllByRecursion}
+use Rattle.input_escapes.specs.OpenEscape.{OpenEscape}
+use Rattle.input_model.specs.Arguments.{Arguments, bytes_held}
+use Rattle.input_model.specs.Unread.{IsWithin}
+use Rattle.input_source.specs.Bytes.{backslash, blank, is_argument_byte, is_dropped, newline, tab}
+use Rattle.input_source.specs.Tape.{Tape}
+use Rattle.roff_store.specs.Named.{Named}
+use Rattle.roff_store.specs.Texts.{Entry}
+use Rattle.roff_num.specs.declared.short_name.ShortName.{ShortName}
+use Rattle.read_names.specs.NamesRead.{half_begun}
+use Rattle.roff_scan.proofs.RunKinds.{no_newline_of}
+use Rattle.roff_scan.proofs.Staged.{passes-staged, stage-behind, staged}
+use Rattle.roff_scan.specs.Unread.Calls.{IsFront, NoNewline, PassesFront, front_bytes, next_bytes}
+use Rattle.roff_scan.specs.Unread.Lines.{HoldsLine, StandsNewline, begins_with_newline, ended_by, is_ended, with_held}
+use Rattle.roff_scan.specs.declared.unread.lines.BehindHeld.{BehindHeld}
+use Rattle.roff_scan.specs.declared.unread.lines.BehindHeld.TheVariants.{Newline, Named as AtName, Other}
+use Rattle.run_model.proofs.ItemsTaken.{not-second}
+use Rattle.roff_scan.specs.Unread.Runs.{with_stage_of}
+use Rattle.run_model.specs.Reading.ControlLines.{BelongsToName, ends_name}
+use Rattle.run_model.specs.Reading.Items.{PageInput, PageUnread}
+use Rattle.run_model.specs.Stages.{Growing, Here, HoldsIfFewer, Onward, Stage, Turned, stage_of}
+use Rattle.run_model.specs.declared.line_state.LineState.{LineState}
+use Rattle.read_lines.specs.Reader.State.{ReaderState}
+use Rattle.read_shortcuts.specs.ControlFronts.{Fronts, HoldsArguments, StandsName, control_byte, is_past, read_for_call, read_to}
+use Rattle.read_shortcuts.specs.declared.control.ControlRead.{ControlRead}
+use Rattle.read_shortcuts.specs.declared.control.ControlRead.TheVariants.{Held, HeldForCall, HeldToEnd, HeldToEscape}
+use Rattle.read_shortcuts.specs.Stages.{ReadsLine, ReadsPast}
+use Rattle.read_shortcuts.specs.declared.control.ControlFront.{ControlFront}
+use Rattle.read_shortcuts.proofs.ControlFronts.{control_plain, stage_with, turned-named}
+use Rattle.read_shortcuts.proofs.HeldRuns.{holds_call_where, holds_request, turned-held}
+use Rattle.read_shortcuts.specs.Runs.{IsRun}
+use Rattle.roff_scan.specs.declared.run_kind.RunKind.TheVariants.{Arguments as ArgumentsRun, CallArguments}
+use Rattle.run_model.specs.declared.line_state.LineState.TheVariants.{Collecting}
+use Rattle.run_model.specs.declared.purpose.Purpose.TheVariants.{Arguments as InArguments, Calling}
+use Rattle.run_model.specs.declared.request.Request.{Request}
+use Rattle.read_shortcuts.proofs.RunsRead.{turned-behind}
+
+-- one path behind another
+pub Turned-append : (names : Named Entry) (p q r : Stage) (front behind : List ℕ) → Turned names p front q → Turned names q behind r → Turned names p (front ++ behind) r
+Turned-append names _ q r _ behind (Here p) others = others
+Turned-append names p _ r _ behind (Onward _ next q b bytes none_due stays turns same least most path) others =
+    Onward p next r b (bytes ++ behind) none_due stays turns same least most (Turned-append names next q r bytes behind path others)
+Turned-append names p _ r _ behind (Growing _ next q b bytes none_due stays turns grow least most path) others =
+    Growing p next r b (bytes ++ behind) none_due stays turns grow least most (Turned-append names next q r bytes behind path others)
+
+-- bytes that have no newline, and others that have none
+pub plain-append : (front bytes : List ℕ) → NoNewline front → NoNewline bytes → NoNewline (front ++ bytes)
+plain-append [] bytes first others = others
+plain-append (b ∷ front) bytes first others = (first.0, plain-append front bytes first.1 others)
+
+-- the three bytes of a control line's front
+abbrev pub three : ControlFront → List ℕ
+three front = control_byte front.breaks ∷ front.first ∷ front.second ∷ []
+
+-- a byte of a name is no newline
+not_third : (first second third fourth : Bool) → first || (second || (third || fourth)) ≡ false → third ≡ false
+not_third true second third fourth none = absurd (cc)
+not_third false true third fourth none = absurd (cc)
+not_third false false true fourth none = absurd (cc)
+not_third false false false fourth none = refl
+
+named_plain : (b : ℕ) → BelongsToName b → (b == newline) ≡ false
+named_plain b belongs = not_third (b == blank) (b == tab) (b == newline) (b == backslash) (not-second (is_dropped b) (ends_name b) belongs)
+
+pub front_plain : (front : ControlFront) (there reading : LineState) (ready : List ℕ) (u : PageUnread) → StandsName front there reading ready u → NoNewline (front_bytes 3 ready u)
+front_plain front there reading ready u named =
+    subst NoNewline named.stands.are (control_plain front.breaks, (named_plain front.first named.first, (named_plain front.second named.second, tt)))
+
+module _ (gave gives : Tape → Type 0) (r : ReaderState) (there : LineState) (front : ControlFront) (ready : List ℕ) (before : PageUnread) (held : List ℕ)
+    (named : StandsName front there r.reading ready before) (holds : HoldsArguments there) (are : AllByRecursion (λ b. is_argument_byte b ≡ true) held)
+    (turned_held : Turned before.input.names (stage_with there [] before.input.arguments before.input.open_texts) held
+    (stage_with there [] (bytes_held held before.input.arguments) before.input.open_texts)) where
+  abbrev i : PageInput
+  i = before.input
+
+  abbrev a : Arguments
+  a = bytes_held held i.arguments
+
+  -- the bytes of the line
+  abbrev pub line_bytes : List ℕ
+  line_bytes = front_bytes 3 ready before ++ held
+
+  -- they lead behind its arguments
+  turned-bare : Turned i.names (stage_with r.reading [] i.arguments i.open_texts) (three front ++ held) (stage_with there [] a i.open_texts)
+  turned-bare =
+      let name : Turned i.names (stage_with r.reading [] i.arguments i.open_texts) (three front) (stage_with there [] i.arguments i.open_texts) =
+      subst (λ (deciding : Bool). Turned i.names (stage_with r.reading [] i.arguments i.open_texts) (three front) (stage_with there (half_begun deciding []) i.arguments i.open_texts)) holds.1
+      (turned-named i.names r.reading there front.breaks front.first front.second i.arguments i.open_texts named.none_due named.begins named.first named.second named.leads) in
+      Turned-append i.names (stage_with r.reading [] i.arguments i.open_texts) (stage_with there [] i.arguments i.open_texts) (stage_with there [] a i.open_texts) (three front) held
+      name turned_held
+
+  turned-line : Turned i.names (stage_of r.reading i) line_bytes (stage_with there i.escapes a i.open_texts)
+  turned-line =
+      subst (λ (bytes : List ℕ). Turned i.names (stage_of r.reading i) (bytes ++ held) (stage_with there i.escapes a i.open_texts)) named.stands.are
+      (subst (λ (half : List OpenEscape). Turned i.names (stage_with r.reading half i.arguments i.open_texts) (three front ++ held) (stage_with there half a i.open_texts)) (sym named.none_half)
+      turned-bare)
+
+  module _ (bytes : List ℕ) (after : PageUnread) (passes : PassesFront gave gives bytes (with_held a before) after) where
+    -- what they change is there
+    stage : after.input ≡ staged i.escapes a i.open_texts after.input
+    stage = stage-behind gave gives bytes i.escapes a i.open_texts before after passes
+
+    turned-there : Turned i.names (stage_of r.reading i) line_bytes (stage_of there after.input)
+    turned-there =
+        turned-behind i.names (stage_of r.reading i) line_bytes there after.input i.escapes a i.open_texts (ap (λ (j : PageInput). j.escapes) stage)
+        (ap (λ (j : PageInput). j.arguments) stage) (ap (λ (j : PageInput). j.open_texts) stage) turned-line
+
+  -- there are some
+  some_bytes : 1 ≤ length line_bytes
+  some_bytes =
+      subst (λ (bytes : List ℕ). 1 ≤ length (bytes ++ held)) named.stands.are (omega (arith, length-append (three front) held))
+
+  -- so the bytes were read past
+  pub reads-held : (after : PageUnread) → PassesFront gave gives line_bytes (with_held a before) after → IsWithin after → ReadsPast gave gives r (record r { reading = there }) before after
+  reads-held after passes within = record {
+    bytes = line_bytes;
+    turned = turned-there line_bytes after passes;
+    passes = passes-staged gave gives line_bytes i.escapes a i.open_texts before after passes;
+    registers = refl;
+    meaning = refl;
+    within = within;
+  }
+
+  -- or the line, up to its newline
+  pub reads-line : (after : PageUnread) → IsWithin (with_held a before)
+      → PassesFront gave gives (line_bytes ++ newline ∷ []) (with_held a before) after → ReadsLine gave gives r (record r { reading = there }) before after
+  reads-line after within passes =
+      let is : after.input ≡ staged i.escapes a i.open_texts after.input = stage (line_bytes ++ newline ∷ []) after passes in
+      let same : with_stage_of after.input i ≡ staged i.escapes a i.open_texts i = ap (λ (j : PageInput). with_stage_of j i) is in
+      record {
+        bytes = line_bytes;
+        turned = turned-there (line_bytes ++ newline ∷ []) after passes;
+        some = some_bytes;
+        plain = plain-append (front_bytes 3 ready before) held (front_plain front there r.reading ready before named) (no_newline_of is_argument_byte refl held are);
+        passes = subst (λ (j : PageInput). PassesFront gave gives (line_bytes ++ newline ∷ []) (record before { input = j }) after) (sym same) passes;
+        within = subst (λ (j : PageInput). IsWithin (record before { input = j })) (sym same) within;
+        registers = refl;
+        meaning = refl;
+        none_half = ap (λ (j : PageInput). j.escapes) is ∙ named.none_half;
+        none_due = holds.0;
+      }
+
+-- what was held of a line leads there
+module _ (gave gives : Tape → Type 0) (r new : ReaderState) (there : LineState) (front : ControlFront) (ready : List ℕ) (behind : BehindHeld) (before after : PageUnread) (most : Option ℕ)
+    (named : StandsName front there r.reading ready before) (holds : HoldsArguments there) (each : (b : ℕ) → is_argument_byte b ≡ true → HoldsIfFewer most there b)
+    (line : HoldsLine most 3 gave gives ready behind before after) (is : new ≡ record r { reading = there }) where
+  turned : Turned before.input.names (stage_with there [] before.input.arguments before.input.open_texts) line.held
+      (stage_with there [] (bytes_held line.held before.input.arguments) before.input.open_texts)
+  turned = turned-held most before.input.names there [] before.input.open_texts before.input.arguments line.held refl holds.0 each line.are_held line.fewer
+
+  -- past its bytes
+  pub held-past : is_ended behind ≡ false → IsWithin after → ReadsPast gave gives r new before after
+  held-past left within =
+      subst (λ (n : ReaderState). ReadsPast gave gives r n before after) (sym is)
+      (reads-held gave gives r there front ready before line.held named holds line.are_held turned after (past behind left line.passes) within)
+    where
+      past : (b : BehindHeld) → is_ended b ≡ false → PassesFront gave gives (ended_by b (front_bytes 3 ready before ++ line.held)) (with_held (bytes_held line.held before.input.arguments) before) after
+          → PassesFront gave gives (front_bytes 3 ready before ++ line.held) (with_held (bytes_held line.held before.input.arguments) before) after
+      past Newline left passes = absurd (cc)
+      past AtName left passes = passes
+      past Other left passes = passes
+
+  -- where nothing is half read
+  pub held-half : after.input.escapes ≡ []
+  held-half =
+      ap (λ (j : PageInput). j.escapes)
+      (stage-behind gave gives (ended_by behind (front_bytes 3 ready before ++ line.held)) before.input.escapes (bytes_held line.held before.input.arguments) before.input.open_texts before after line.passes)
+      ∙ named.none_half
+
+  -- up to its newline
+  pub held-line : is_ended behind ≡ true → ReadsLine gave gives r new before after
+  held-line ended =
+      subst (λ (n : ReaderState). ReadsLine gave gives r n before after) (sym is)
+      (reads-line gave gives r there front ready before line.held named holds line.are_held turned after line.within (past behind ended line.passes))
+    where
+      past : (b : BehindHeld) → is_ended b ≡ true → PassesFront gave gives (ended_by b (front_bytes 3 ready before ++ line.held)) (with_held (bytes_held line.held before.input.arguments) before) after
+          → PassesFront gave gives (front_bytes 3 ready before ++ line.held ++ newline ∷ []) (with_held (bytes_held line.held before.input.arguments) before) after
+      past Newline ended passes = passes
+      past AtName ended passes = absurd (cc)
+      past Other ended passes = absurd (cc)
+
+-- a line of which nothing was held
+pub bare-line : (gave gives : Tape → Type 0) (r new : ReaderState) (there : LineState) (front : ControlFront) (ready : List ℕ) (before after : PageUnread)
+    → StandsName front there r.reading ready before → HoldsArguments there → IsWithin before → PassesFront gave gives (front_bytes 3 ready before ++ newline ∷ []) before after
+    → new ≡ record r { reading = there } → ReadsLine gave gives r new before after
+bare-line gave gives r new there front ready before after named holds within passes is =
+    subst (λ (n : ReaderState). ReadsLine gave gives r n before after) (sym is)
+    (reads-line gave gives r there front ready before [] named holds tt (Here (stage_with there [] before.input.arguments before.input.open_texts)) after within
+    (subst (λ (bytes : List ℕ). PassesFront gave gives (bytes ++ newline ∷ []) before after) (sym (append-nil (front_bytes 3 ready before))) passes))
+
+-- a newline stands behind the front that bytes begin with
+pub ended-front : (front : ControlFront) (bytes ready : List ℕ) (u : PageUnread) (fronts : Fronts bytes front) → bytes ≡ front_bytes (length bytes) ready u → IsFront (length bytes) ready u
+    → front.ends ≡ true → StandsNewline 3 ready u
+ended-front front bytes ready u fronts are stands ends = there fronts.rest fronts.are (sym fronts.ends ∙ ends)
+  where
+    next : List ℕ
+    next = next_bytes u.input.ahead u.looked ready
+
+    there : (rest : List ℕ) → bytes ≡ three front ++ rest → begins_with_newline rest ≡ true → StandsNewline 3 ready u
+    there [] split is = absurd (cc)
+    there (b ∷ rest) split is =
+        let many : length bytes ≡ length rest + 4 = ap length split ∙ omega arith in
+        let few : 4 ≤ length bytes = omega (arith, many) in
+        let first : (n : ℕ) → n ≤ length bytes → take n next ≡ take n (three front ++ b ∷ rest) =
+        λ n enough. sym (take-take n (length bytes) next enough) ∙ ap (take n) (sym are ∙ split) in
+        record {
+          front = record { among = omega (arith, stands.among, few); within = omega (arith, stands.within, few) };
+          last =
+              first 4 few ∙ ap (λ (c : ℕ). three front ++ c ∷ []) (eqb-true b newline is)
+              ∙ ap (λ (bytes : List ℕ). bytes ++ newline ∷ []) (sym (first 3 (omega (arith, few))));
+        }
+
+-- behind a request's name they are held
+pub request-holds : (breaks : Bool) (request : Request) (there : LineState) → there ≡ Collecting (InArguments breaks request) → HoldsArguments there
+request-holds breaks request there is = subst HoldsArguments (sym is) (refl, refl)
+
+pub request-each : (breaks : Bool) (request : Request) (there : LineState) → there ≡ Collecting (InArguments breaks request) → (b : ℕ) → is_argument_byte b ≡ true → HoldsIfFewer None there b
+request-each breaks request there is b plain = subst (λ (r : LineState). HoldsIfFewer None r b) (sym is) (holds_request breaks request b plain)
+
+-- and behind that of a body
+pub call-holds : (name : ShortName) (there : LineState) → there ≡ Collecting (Calling name) → HoldsArguments there
+call-holds name there is = subst HoldsArguments (sym is) (refl, refl)
+
+-- what was read, by what stands behind them
+pub past-left : (b : BehindHeld) (read : ControlRead) → read ≡ read_to b → is_past read ≡ true → is_ended b ≡ false
+past-left Newline read is past = let wrong : false ≡ true = sym (ap is_past is) ∙ past in absurd (cc)
+past-left AtName read is past = refl
+past-left Other read is past = refl
+
+pub line-ended : (b : BehindHeld) (read : ControlRead) → read ≡ read_to b → read ≡ HeldToEnd → is_ended b ≡ true
+line-ended Newline read is ends = refl
+line-ended AtName read is ends = let wrong : HeldToEscape ≡ HeldToEnd = sym is ∙ ends in absurd (cc)
+line-ended Other read is ends = let wrong : Held ≡ HeldToEnd = sym is ∙ ends in absurd (cc)
+
+pub call-past : (b : BehindHeld) (read : ControlRead) → read ≡ read_for_call b → is_past read ≡ true → is_ended b ≡ false
+call-past Newline read is past = let wrong : false ≡ true = sym (ap is_past is) ∙ past in absurd (cc)
+call-past AtName read is past = refl
+call-past Other read is past = refl
+
+pub call-ended : (b : BehindHeld) (read : ControlRead) → read ≡ read_for_call b → read ≡ HeldToEnd → is_ended b ≡ true
+call-ended Newline read is ends = refl
+call-ended AtName read is ends = let wrong : HeldForCall ≡ HeldToEnd = sym is ∙ ends in absurd (cc)
+call-ended Other read is ends = let wrong : Held ≡ HeldToEnd = sym is ∙ ends in absurd (cc)
+
+-- behind a request's name arguments are held
+pub runs-arguments : (breaks : Bool) (request : Request) (reading : LineState) (half : List OpenEscape) → reading ≡ Collecting (InArguments breaks request) → half ≡ [] → IsRun ArgumentsRun reading half
+runs-arguments breaks request reading half is none =
+    subst (λ (r : LineState). IsRun ArgumentsRun r half) (sym is) (record {
+      does = λ b plain k i bare. holds_request breaks request b plain k i bare tt;
+      half_read = none;
+      none_due = refl;
+    })
+
+-- and behind that of a body, as long as fewer than eight are whole
+pub runs-call : (name : ShortName) (reading : LineState) (half : List OpenEscape) → reading ≡ Collecting (Calling name) → half ≡ [] → IsRun (CallArguments 8) reading half
+runs-call name reading half is none =
+    subst (λ (r : LineState). IsRun (CallArguments 8) r half) (sym is) (record {
+      does = λ b plain. holds_call_where (Collecting (Calling name)) name refl b plain;
+      half_read = none;
+      none_due = refl;
+    })

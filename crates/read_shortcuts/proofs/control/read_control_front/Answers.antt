@@ -1,0 +1,21 @@
+use Rattle.std.proofs.Common.{◌≡◌, true, false, List, ℕ, refl, subst, sym}
+use Rattle.read_shortcuts.specs.ControlFronts.{reads_front}
+use Rattle.read_shortcuts.proofs.FrontsRead.{two-read}
+use Rattle.read_shortcuts.proofs.LinesRead.{ended-front}
+use Rattle.read_shortcuts.proofs.control.read_control_front.Goals as goal
+
+pub read_control-requires-clause-ends : goal.read_control-requires-clause-ends
+read_control-requires-clause-ends g c =
+    ended-front c.in-Some.front c.front-bytes.result.now (g.S.ByteSource.ready c.args.source.now) c.args.unread.now c.in-Some.ensures.fronts c.front-bytes.ensures.bytes c.front-bytes.ensures.front
+
+pub returns-in-Some-clause-whole : goal.returns-in-Some-clause-whole
+returns-in-Some-clause-whole g c = λ asks reads.
+    c.read_control.ensures.whole
+    (two-read c.front-bytes.result.now c.in-Some.front c.in-Some.ensures.fronts
+    (subst (λ (bytes : List ℕ). reads_front bytes ≡ true) (sym (c.front-bytes.ensures.whole asks)) reads))
+
+pub returns-in-None-clause-whole : goal.returns-in-None-clause-whole
+returns-in-None-clause-whole g c = λ asks reads.
+    let none : reads_front c.front-bytes.result.now ≡ false = c.in-None.ensures.none refl in
+    let some : reads_front c.front-bytes.result.now ≡ true = subst (λ (bytes : List ℕ). reads_front bytes ≡ true) (sym (c.front-bytes.ensures.whole asks)) reads in
+    absurd (cc (none, some))

@@ -1,0 +1,31 @@
+-- Escapes of one letter that print a glyph (manual, sections 2.1, 4.1 and 10.1).
+use Rattle.std.specs.Prelude.{ℕ, Bool, false, ◌&&◌, List, [], ◌∷◌, Option, Some, None, ◌==◌, ◌||◌, if◌then◌else◌}
+use Rattle.page_model.specs.declared.glyph.Glyph.{Glyph}
+use Rattle.page_model.specs.declared.glyph.Glyph.TheVariants.{Blanks, Printed}
+use Rattle.run_model.specs.declared.line_state.LineState.{LineState}
+use Rattle.run_model.specs.declared.line_state.LineState.TheVariants.{Text as InText}
+use Rattle.input_source.specs.Bytes.{backslash}
+
+-- the glyph that this letter prints behind a backslash, if it prints one of these: an unpaddable blank, a glyph without width, or a
+-- backslash
+abbrev pub glyph_of_letter : ℕ → Option Glyph
+glyph_of_letter b =
+    if b == 32 || b == 48 then Some (Blanks 1)
+    else if b == 38 then Some (Blanks 0)
+    else if b == 101 || b == 92 then Some (Printed 92)
+    else None
+
+-- the same of the bytes behind a backslash
+abbrev pub glyph_behind : List ℕ → Option Glyph
+glyph_behind [] = None
+glyph_behind (b ∷ bytes) = glyph_of_letter b
+
+-- the glyph whose escape these bytes begin with, if they begin with one
+abbrev pub glyph_in_front : List ℕ → Option Glyph
+glyph_in_front [] = None
+glyph_in_front (b ∷ bytes) = if b == backslash then glyph_behind bytes else None
+
+-- whether a text line goes on behind a glyph
+abbrev pub is_behind_glyph : LineState → Bool
+is_behind_glyph (InText line) = line.has_glyph && line.leading == 0
+is_behind_glyph (_) = false

@@ -1,7 +1,0 @@
-use Rattle.std.proofs.Common.{◌∙◌, ap, sym}
-use Rattle.std.specs.Prelude.{◌==◌}
-use Rattle.roff_arguments.proofs.Ends.{length-texts_ending}
-use Rattle.roff_arguments.proofs.arguments.ArgumentList.is_empty.Goals as goal
-
-pub returns : goal.returns
-returns c = c.is_empty.ensures ∙ ap (λ n. n == 0) (sym (length-texts_ending c.args.self.now.bytes.now 0 c.args.self.now.ends.now))

@@ -1,9 +1,0 @@
-use Rattle.std.proofs.Common.{◌-◌, length}
-use Rattle.roff_arguments.specs.ArgumentTexts.Kept.{TakesFront}
-use Rattle.roff_arguments.proofs.arguments.ArgumentTexts.take_front.Given as goal
-
-abbrev pub invariant-loop-count : goal.invariant-loop-count
-invariant-loop-count l = TakesFront l.most l.bytes l.count l.initial.self l.self
-
-abbrev pub decreases-loop-count : goal.decreases-loop-count
-decreases-loop-count l = length l.bytes - l.count

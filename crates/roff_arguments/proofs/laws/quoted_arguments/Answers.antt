@@ -1,5 +1,0 @@
-use Rattle.roff_arguments.proofs.QuotedArguments.{quoted_arguments_read_back}
-use Rattle.roff_arguments.proofs.laws.quoted_arguments.Goals as goal
-
-pub returns : goal.returns
-returns c = quoted_arguments_read_back

@@ -1,8 +1,0 @@
-use Rattle.std.proofs.Common.{codes, refl}
-use Rattle.std.specs.Fmt.{digits}
-use Rattle.roff_command.proofs.CommandLine.{given_default-rule}
-use Rattle.roff_command.proofs.command.line_length_argument.Goals as goal
-
-pub returns : goal.returns
-unfolding digits
-returns c = given_default-rule c.number_argument.result c.default_value.result (codes "line-length") _ 65 refl c.default_value.ensures c.number_argument.ensures

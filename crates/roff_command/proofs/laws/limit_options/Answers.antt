@@ -1,5 +1,0 @@
-use Rattle.roff_command.proofs.OptionLaws.{each_option_sets_its_limit, each_table_option_sets_its_limit}
-use Rattle.roff_command.proofs.laws.limit_options.Goals as goal
-
-pub returns : goal.returns
-returns c = record { each = each_option_sets_its_limit; of_tables = each_table_option_sets_its_limit }

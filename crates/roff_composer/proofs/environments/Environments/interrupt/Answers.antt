@@ -1,6 +1,0 @@
-use Rattle.std.proofs.Common.{refl}
-use Rattle.roff_composer.proofs.EnvironmentRing.{Becomes-interrupted}
-use Rattle.roff_composer.proofs.environments.Environments.interrupt.Goals as goal
-
-pub returns : goal.returns
-returns c = Becomes-interrupted c.args.line c.args.self.now _ c.interrupt.new.self c.interrupt.ensures refl

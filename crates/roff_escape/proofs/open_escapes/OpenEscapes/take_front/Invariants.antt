@@ -1,9 +1,0 @@
-use Rattle.std.proofs.Common.{◌-◌, length}
-use Rattle.roff_escape.specs.ConditionFronts.{TakesFront}
-use Rattle.roff_escape.proofs.open_escapes.OpenEscapes.take_front.Given as goal
-
-abbrev pub invariant-loop-count : goal.invariant-loop-count
-invariant-loop-count l = TakesFront l.bytes l.count l.initial.self l.self
-
-abbrev pub decreases-loop-count : goal.decreases-loop-count
-decreases-loop-count l = length l.bytes - l.count

@@ -1,9 +1,0 @@
-use Rattle.std.proofs.Common.{refl, rules}
-use Rattle.roff_run.specs.Environments.{environments}
-use Rattle.roff_run.specs.declared.event.PageEvent.TheVariants.{Interrupt}
-use Rattle.roff_formatter.proofs.DoneEvents.{changes_only}
-use Rattle.roff_formatter.proofs.formatter.Formatter.interrupt.Goals as goal
-
-pub returns : goal.returns
-returns c = λ told. changes_only (Interrupt c.args.line) (Interrupt c.args.line) _ _ told (λ rs. refl) (λ g. refl) (λ g. refl) (λ h. refl) (λ h. refl) (λ h. refl) (λ l h stood. refl)
-    (λ l h stood. c.interrupt.ensures.becomes l (environments h) stood.environments) (search rules)

@@ -1,4 +1,0 @@
-use Rattle.roff_formatter.proofs.formatter.Formatter.new.Goals as goal
-
-pub returns-in-Ok : goal.returns-in-Ok
-returns-in-Ok c = c.give_pages.ensures c.args.limits c.in-Ok.ensures

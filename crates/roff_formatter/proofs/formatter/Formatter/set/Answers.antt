@@ -1,8 +1,0 @@
-use Rattle.std.proofs.Common.{refl}
-use Rattle.roff_layout.specs.declared.event.Event.TheVariants.{Set}
-use Rattle.roff_formatter.proofs.DoneEvents.{lines_behind, text_changes_only}
-use Rattle.roff_formatter.proofs.formatter.Formatter.set.Goals as goal
-
-pub returns : goal.returns
-returns c = λ told. text_changes_only (Set c.args.param) _ _ _ (λ g. refl) (λ h. refl) (λ h. refl) (λ h. refl) (λ h. refl)
-    (lines_behind (Set c.args.param) c.args.self.now.composer _ (λ trap. refl) c.set.ensures) refl

@@ -1,5 +1,0 @@
-use Rattle.roff_fronts.proofs.RunsRead.{reads-none}
-use Rattle.roff_fronts.proofs.runs.take_condition.Goals as goal
-
-pub returns-then-decides_now-clause-past : goal.returns-then-decides_now-clause-past
-returns-then-decides_now-clause-past g c = reads-none _ c.args.reader.now c.args.unread.now c.stays_within.ensures

@@ -1,8 +1,0 @@
-use Rattle.roff_laws.proofs.laws.appends.Goals as goal
-use Rattle.roff_laws.proofs.RunsAppend.{steps_only_append, each_state_is_a_beginning}
-
-pub returns-clause-steps : goal.returns-clause-steps
-returns-clause-steps c = steps_only_append
-
-pub returns-clause-whole_run : goal.returns-clause-whole_run
-returns-clause-whole_run c = each_state_is_a_beginning

@@ -1,9 +1,0 @@
-use Rattle.roff_laws.proofs.laws.bounds.Goals as goal
-use Rattle.roff_laws.proofs.RunsStayWithin.{no_limit_is_passed}
-use Rattle.roff_laws.proofs.TitlesStayWithin.{no_title_is_longer}
-
-pub returns-clause-counts : goal.returns-clause-counts
-returns-clause-counts c = no_limit_is_passed
-
-pub returns-clause-titles : goal.returns-clause-titles
-returns-clause-titles c = no_title_is_longer

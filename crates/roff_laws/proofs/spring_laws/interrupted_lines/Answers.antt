@@ -1,5 +1,0 @@
-use Rattle.roff_laws.proofs.SpringLaws.{lines_go_on_as_they_were}
-use Rattle.roff_laws.proofs.spring_laws.interrupted_lines.Goals as goal
-
-pub returns : goal.returns
-returns c = lines_go_on_as_they_were

@@ -1,6 +1,0 @@
-use Rattle.std.proofs.Common.{◌≡◌}
-use Rattle.roff_names.proofs.FirstNames.{unread_at}
-use Rattle.roff_names.proofs.first.first_unread.Given as goal
-
-abbrev pub invariant-loop-number : goal.invariant-loop-number
-invariant-loop-number l = l.unread ≡ unread_at l.fn.limits l.number

@@ -1,4 +1,0 @@
-use Rattle.roff_reader.proofs.reader.Reader.begins_with_break.Goals as goal
-
-pub returns-clause-others : goal.returns-clause-others
-returns-clause-others c = rw (← c.self.view_is) c.begins_with_break.ensures.others

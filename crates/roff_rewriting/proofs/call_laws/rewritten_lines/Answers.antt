@@ -1,5 +1,0 @@
-use Rattle.roff_rewriting.proofs.TextsInCalls.{lines_are_read_as_rewritten}
-use Rattle.roff_rewriting.proofs.call_laws.rewritten_lines.Goals as goal
-
-pub returns : goal.returns
-returns c = lines_are_read_as_rewritten

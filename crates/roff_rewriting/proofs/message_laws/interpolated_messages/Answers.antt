@@ -1,5 +1,0 @@
-use Rattle.roff_rewriting.proofs.MessageLines.{messages_tell_what_is_read}
-use Rattle.roff_rewriting.proofs.message_laws.interpolated_messages.Goals as goal
-
-pub returns : goal.returns
-returns c = messages_tell_what_is_read

@@ -1,8 +1,0 @@
-use Rattle.roff_rules.proofs.call_laws.read_arguments.Goals as goal
-use Rattle.roff_rules.proofs.WordCalls.{bodies_get_the_arguments_read, bodies_of_the_source_get_the_arguments_read}
-
-pub returns-clause-ahead : goal.returns-clause-ahead
-returns-clause-ahead c = bodies_get_the_arguments_read
-
-pub returns-clause-source : goal.returns-clause-source
-returns-clause-source c = bodies_of_the_source_get_the_arguments_read

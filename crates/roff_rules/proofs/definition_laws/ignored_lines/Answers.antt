@@ -1,8 +1,0 @@
-use Rattle.roff_rules.proofs.definition_laws.ignored_lines.Goals as goal
-use Rattle.roff_rules.proofs.DefinitionLaws.{ignored_lines_enter_nothing, ignored_lines_of_the_source_enter_nothing}
-
-pub returns-clause-ahead : goal.returns-clause-ahead
-returns-clause-ahead c = ignored_lines_enter_nothing
-
-pub returns-clause-source : goal.returns-clause-source
-returns-clause-source c = ignored_lines_of_the_source_enter_nothing

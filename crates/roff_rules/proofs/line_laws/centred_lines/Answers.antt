@@ -1,8 +1,0 @@
-use Rattle.roff_rules.proofs.LineLaws.{centred_lines_stand_in_the_middle, so_many_lines_are_centred}
-use Rattle.roff_rules.proofs.line_laws.centred_lines.Goals as goal
-
-pub returns-clause-middle : goal.returns-clause-middle
-returns-clause-middle c = centred_lines_stand_in_the_middle
-
-pub returns-clause-count : goal.returns-clause-count
-returns-clause-count c = so_many_lines_are_centred

@@ -1,5 +1,0 @@
-use Rattle.roff_rules.proofs.MessageLaws.{messages_are_their_texts}
-use Rattle.roff_rules.proofs.message_laws.messages.Goals as goal
-
-pub returns : goal.returns
-returns c = messages_are_their_texts

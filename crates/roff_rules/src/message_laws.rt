@@ -1,9 +1,0 @@
-//! Facts about the lines that tell a message, as contracts of functions that do nothing.
-
-ghost use Rattle.roff_rules.specs.MessageLaws.{MessagesAreTheirTexts};
-
-/// A line of a message that has no escape, and no byte that is dropped, tells its text: without the
-/// blanks in front, and with its quotes.
-pub fn messages()
-    ensures { MessagesAreTheirTexts }
-{}

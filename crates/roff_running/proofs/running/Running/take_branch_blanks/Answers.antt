@@ -1,7 +1,0 @@
-use Rattle.roff_running.proofs.Turned.{goes_past_turned}
-use Rattle.roff_running.proofs.running.Running.take_branch_blanks.Goals as goal
-
-pub returns-clause-past : goal.returns-clause-past
-returns-clause-past g c = λ out err.
-    let took = c.take_branch_blanks.ensures in
-    goes_past_turned _ _ _ _ _ _ out err c.args.self.now _ _ took.past took.notes took.failures

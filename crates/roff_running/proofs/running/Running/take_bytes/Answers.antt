@@ -1,5 +1,0 @@
-use Rattle.roff_running.proofs.PassingOn.{goes_further_none}
-use Rattle.roff_running.proofs.running.Running.take_bytes.Goals as goal
-
-pub returns-in_default : goal.returns-in_default
-returns-in_default g c = λ out err. goes_further_none _ _ _ _ _ _ _ _ (c.take_run.ensures out err)

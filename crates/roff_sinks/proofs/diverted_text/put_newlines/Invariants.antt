@@ -1,8 +1,0 @@
-use Rattle.std.proofs.Common.{◌≡◌, ◌+◌, ◌++◌, length, replicate, take}
-use Rattle.roff_sinks.proofs.diverted_text.put_newlines.Given as goal
-
-abbrev pub invariant-loop-written : goal.invariant-loop-written
-invariant-loop-written l = record {
-  same : length l.buffer ≡ length l.initial.buffer;
-  written : take (l.place + l.written) l.buffer ≡ take l.place l.initial.buffer ++ replicate l.written 10;
-}

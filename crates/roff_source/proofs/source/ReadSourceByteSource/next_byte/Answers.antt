@@ -1,9 +1,0 @@
-use Rattle.roff_source.specs.Tape.{Ended, Failed}
-use Rattle.roff_source.proofs.Giving.{told_ending}
-use Rattle.roff_source.proofs.source.ReadSourceByteSource.next_byte.Goals as goal
-
-pub returns-in-Ended-clause-gives : goal.returns-in-Ended-clause-gives
-returns-in-Ended-clause-gives g c = rw c.in-Ended.is (told_ending Ended)
-
-pub returns-in-Failed-clause-gives : goal.returns-in-Failed-clause-gives
-returns-in-Failed-clause-gives g c = rw c.in-Failed.is (told_ending Failed)

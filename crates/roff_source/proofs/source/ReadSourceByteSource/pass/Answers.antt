@@ -1,8 +1,0 @@
-use Rattle.std.proofs.Common.{take}
-use Rattle.roff_source.proofs.Giving.{ready_taken}
-use Rattle.roff_source.proofs.source.ReadSourceByteSource.pass.Goals as goal
-
-pub returns-clause-gives : goal.returns-clause-gives
-returns-clause-gives g c =
-    let now = c.args.self.now in
-    ready_taken now.reach (take now.len now.block.items) now.next c.args.count (g.R.BlockRead.gives now.reader) (g.met.R.BlockRead.some now.reader) c.requires.some c.requires.within

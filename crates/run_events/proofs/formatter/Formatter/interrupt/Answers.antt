@@ -1,0 +1,9 @@
+use Rattle.std.proofs.Common.{refl, rules}
+use Rattle.run_model.specs.Environments.{environments}
+use Rattle.run_model.specs.declared.event.PageEvent.TheVariants.{Interrupt}
+use Rattle.run_events.proofs.DoneEvents.{changes_only}
+use Rattle.run_events.proofs.formatter.Formatter.interrupt.Goals as goal
+
+pub returns : goal.returns
+returns c = λ told. changes_only (Interrupt c.args.line) (Interrupt c.args.line) _ _ told (λ rs. refl) (λ g. refl) (λ g. refl) (λ h. refl) (λ h. refl) (λ h. refl) (λ l h stood. refl)
+    (λ l h stood. c.interrupt.ensures.becomes l (environments h) stood.environments) (search rules)

@@ -1,0 +1,29 @@
+use Rattle.std.proofs.Common.{◌≡◌, Err, Ok, rules}
+use Rattle.run_turns.proofs.ComingFurther.{comes_none, comes_past, comes_some_as}
+use Rattle.run_turns.proofs.PassingOn.{goes_further_none}
+use Rattle.run_turns.proofs.Unfilled.{comes_kept}
+use Rattle.page_bytes.specs.Told.{told_by}
+use Rattle.run_turns.proofs.running.Running.tell_behind.Goals as goal
+
+pub returns-then-byte-eq10 : goal.returns-then-byte-eq10
+returns-then-byte-eq10 g c = comes_none _ _ _ _
+
+pub returns-in-None : goal.returns-in-None
+returns-in-None g c =
+    let kept = c.end_line_at_once.ensures.unchanged c.in-None.is in
+    let said = c.end_line_at_once.ensures.sinks c.in-None.is in
+    let out = g.O.ByteSink.sunk c.args.out.now in
+    let err = told_by g.E.MessageSink c.args.err.now in
+    let past = rw kept.1 at (c.tell_on.ensures out err) in
+    let comes = comes_kept _ _ _ _ _ _ _ _ _ _ _ kept.0 (comes_past _ _ _ _ _ _ _ _ _ (goes_further_none _ _ _ _ _ _ _ _ past)) in
+    rw (said.0, said.1) comes
+
+pub returns-in-Some-Ok : goal.returns-in-Some-Ok
+returns-in-Some-Ok g c =
+    let is : c.in-Some-Ok.field-0 ≡ Ok (record {}) = search rules in
+    comes_some_as _ _ _ _ _ _ _ _ _ _ _ is c.in-Some-Ok.ensures.ends
+
+pub returns-in-Some-Err : goal.returns-in-Some-Err
+returns-in-Some-Err g c =
+    let is : c.in-Some-Err.field-0 ≡ Err c.in-Some-Err.status = search rules in
+    comes_some_as _ _ _ _ _ _ _ _ _ _ _ is c.in-Some-Err.ensures.ends

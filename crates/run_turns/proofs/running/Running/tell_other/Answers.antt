@@ -1,0 +1,13 @@
+use Rattle.std.proofs.Common.{ap}
+use Rattle.read_lines.specs.Reader.State.{ReaderState}
+use Rattle.roff_scan.specs.declared.run_kind.RunKind.TheVariants.{Text}
+use Rattle.run_turns.proofs.PassingOn.{goes_further_both}
+use Rattle.run_turns.proofs.PutRegisters.{run-kept}
+use Rattle.run_turns.proofs.running.Running.tell_other.Goals as goal
+
+pub tell_stepped-requires : goal.tell_stepped-requires
+tell_stepped-requires g c =
+    run-kept Text c.args.self.now c.tell_string.new.self (ap (λ (r : ReaderState). r.reading) c.tell_string.ensures.reads) c.tell_string.ensures.half c.requires
+
+pub returns-clause-further : goal.returns-clause-further
+returns-clause-further g c = λ out err. goes_further_both _ _ _ _ _ _ _ _ _ _ _ _ _ (c.tell_string.ensures.further out err).past (c.tell_stepped.ensures.further out err)

@@ -1,0 +1,31 @@
+use Rattle.std.proofs.Common.{true, ap, ◌∙◌}
+use Rattle.roff_scan.specs.declared.run_kind.RunKind.TheVariants.{Text}
+use Rattle.run_items.specs.declared.interpreter.Interpreter.{Interpreter}
+use Rattle.run_turns.specs.declared.running.Running.{Running as Coded}
+use Rattle.run_turns.proofs.PassingEnds.{goes_further_passed}
+use Rattle.run_turns.proofs.PassingOn.{goes_further_none, goes_past_both}
+use Rattle.run_turns.proofs.PutRegisters.{goes_further_on, half_ended, run-kept}
+use Rattle.run_turns.proofs.running.Running.tell_string.Goals as goal
+
+pub returns-then-not-put_string-clause-further : goal.returns-then-not-put_string-clause-further
+returns-then-not-put_string-clause-further g c = λ out err. goes_further_none _ _ _ _ _ _ _ _ (c.put_string.ensures.further out err).past
+
+pub tell_front-requires : goal.tell_front-requires
+tell_front-requires g c =
+    run-kept Text c.args.self.now c.put_string.new.self (ap (λ (i : Interpreter). i.reader.reading) c.put_string.ensures.reads) c.put_string.ensures.half c.requires
+
+pub returns-clause-further : goal.returns-clause-further
+returns-clause-further g c = λ out err.
+    let ends = c.pass_end.ensures in
+    goes_further_on _ true _ _ _ _ _ _ _ _ _ _ _ _ c.if-not-put_string.false (c.put_string.ensures.further out err)
+    (goes_past_both _ _ _ _ _ _ _ _ _ _ _ _ (c.tell_front.ensures.past out err)
+    (goes_further_passed _ _ _ ends.none_due ends.takes ends.passes ends.within ends.unchanged ends.others _ _ _).past)
+
+pub returns-clause-half : goal.returns-clause-half
+returns-clause-half g c =
+    half_ended c.tell_front.new.self.unread c.pass_end.new.self.unread c.pass_end.result c.pass_end.ensures.passes (λ none. ap (λ (run : Coded). run.unread) (c.pass_end.ensures.unchanged none))
+    ∙ c.tell_front.ensures.half ∙ c.put_string.ensures.half
+
+pub returns-clause-reads : goal.returns-clause-reads
+returns-clause-reads g c =
+    ap (λ (run : Coded). run.interpreter.reader) c.pass_end.ensures.others ∙ c.tell_front.ensures.reads ∙ ap (λ (i : Interpreter). i.reader) c.put_string.ensures.reads

@@ -1,0 +1,167 @@
+//! Text lines that stand in front up to their newlines, and are told and ended at once, where words
+//! aren't measured.
+
+ghost use Rattle.std.specs.Prelude.{◌≡◌, ℕ, [], IfSome, None, true};
+ghost use Rattle.run_turns.specs.Clauses.{StandFor, Sunk, seen};
+ghost use Rattle.roff_num.specs.declared.limits.Limits.{Limits as LimitsOf};
+ghost use Rattle.run_model.specs.Environments.{PageHistory, interrupted_line};
+ghost use Rattle.run_turns.specs.Running.Unfilled.{LineInFront, ReadsText};
+ghost use Rattle.run_items.specs.Performing.{DoesTaking, sinks};
+ghost use Rattle.run_items.specs.Unfilled.{told_as};
+ghost use Rattle.run_items.specs.declared.interpreter.Interpreter.{
+  Interpreter as InterpreterOf,
+};
+ghost use Rattle.run_events.specs.declared.formatter.Formatter.{Formatter as FormatterOf};
+ghost use Rattle.run_model.specs.Reading.{taking};
+ghost use Rattle.run_model.specs.Run.{byte_taken};
+ghost use Rattle.run_model.specs.declared.line_state.LineState.TheVariants.{Text as InText};
+ghost use Rattle.run_model.specs.declared.line_state.TextLine.{TextLine as TextLineOf};
+ghost use Rattle.input_source.specs.Bytes.{newline};
+ghost use Rattle.page_bytes.specs.Told.{told_by};
+
+use super::Running;
+use super::texts::begin_with_text;
+use page_bytes::{ByteSink, MessageSink};
+use roff_scan::ByteSource;
+use run_events::{Halt, Sprung};
+use run_items::Interpreter;
+use run_model::{LineState, Status};
+
+impl Running {
+    ghost use Rattle.run_turns.specs.Running.Turning.{ComesFurtherOver, DoesItem};
+
+    /// What [`end_line_at_once`](Running::end_line_at_once) does where a line begins.
+    #[inline(always)]
+    pub(super) fn begin_and_end_line<S: ByteSource, O: ByteSink, E: MessageSink>(
+        &mut self,
+        source: &mut S,
+        out: &mut O,
+        err: &mut E,
+    ) -> Option<Result<(), Status>>
+        ensures ends { IfSome result (λ r.
+            ComesFurtherOver S.ByteSource O.ByteSink E.MessageSink true
+            source.old source.new out.old out.new err.old err.new self.old self.new r) }
+        ensures unchanged { result ≡ None → (self.new ≡ self.old) × (source.new ≡ source.old) }
+        ensures sinks { result ≡ None → (out.new ≡ out.old) × (err.new ≡ err.old) }
+    {
+        match self.interpreter.reader.reading() {
+            LineState::LineStart => self.end_line_at_once(source, out, err),
+            _ => None,
+        }
+    }
+
+    /// Tells a text line that stands in front up to its newline, ends it, and places the line that
+    /// this finishes, where words aren't measured. Else nothing happens.
+    #[inline(always)]
+    pub(super) fn end_line_at_once<S: ByteSource, O: ByteSink, E: MessageSink>(
+        &mut self,
+        source: &mut S,
+        out: &mut O,
+        err: &mut E,
+    ) -> Option<Result<(), Status>>
+        ensures ends { IfSome result (λ r.
+            ComesFurtherOver S.ByteSource O.ByteSink E.MessageSink true
+            source.old source.new out.old out.new err.old err.new self.old self.new r) }
+        ensures unchanged { result ≡ None → (self.new ≡ self.old) × (source.new ≡ source.old) }
+        ensures sinks { result ≡ None → (out.new ≡ out.old) × (err.new ≡ err.old) }
+    {
+        if !self.interpreter.formatter.puts_lines() || self.unread.has_open_escape() {
+            return None;
+        }
+        self.end_line_in_front(source, out, err)
+    }
+
+    /// The same where nothing is half read.
+    #[inline(never)]
+    fn end_line_in_front<S: ByteSource, O: ByteSink, E: MessageSink>(
+        &mut self,
+        source: &mut S,
+        out: &mut O,
+        err: &mut E,
+    ) -> Option<Result<(), Status>>
+        requires none_half { self.old.unread.input.escapes ≡ [] }
+        ensures ends { IfSome result (λ r.
+            ComesFurtherOver S.ByteSource O.ByteSink E.MessageSink true
+            source.old source.new out.old out.new err.old err.new self.old self.new r) }
+        ensures unchanged { result ≡ None → (self.new ≡ self.old) × (source.new ≡ source.old) }
+        ensures sinks { result ≡ None → (out.new ≡ out.old) × (err.new ≡ err.old) }
+    {
+        let front = self.unread.front(source);
+        match line_in(&self.interpreter, front) {
+            None => None,
+            Some((count, gaps)) => {
+                let done = self.interpreter.end_front(front, count, gaps, out);
+                self.unread.pass_line(source, count);
+                Some(self.go_on_behind(done, out, err))
+            }
+        }
+    }
+
+    /// Goes on behind a newline that was taken, by what became of its events.
+    #[inline(always)]
+    fn go_on_behind<O: ByteSink, E: MessageSink>(
+        &mut self,
+        done: Result<Option<Sprung>, Halt>,
+        out: &mut O,
+        err: &mut E,
+    ) -> Result<(), Status>
+        ensures { (failures : ℕ) (was : InterpreterOf) (told : FormatterOf) (line : TextLineOf)
+            (out_old : Sunk)
+            → DoesTaking (λ k. taking k (InText line) self.old.unread.input newline) []
+            (told_as was told (InText line)) self.old.interpreter self.old.unread self.old.unread
+            (sinks out_old (told_by E.MessageSink err.old))
+            (sinks (O.sunk out.old) (told_by E.MessageSink err.old)) done
+            → DoesItem self.old.unread.input.line (byte_taken newline)
+            (record self.old { interpreter = told_as was told (InText line) }) self.new
+            (seen failures out_old (told_by E.MessageSink err.old))
+            (seen failures (O.sunk out.new) (told_by E.MessageSink err.new)) result }
+    {
+        let line = self.unread.line();
+        match done {
+            Ok(sprung) => self.go_on(sprung, out, err),
+            Err(halt) => Err(self.halted(halt, line, line, err)),
+        }
+    }
+}
+
+/// How many of these bytes in front stand before the newline of a text line that can be told and
+/// ended at once, and how many gaps are among them.
+#[inline(always)]
+fn line_in(interpreter: &Interpreter, front: &[u8]) -> Option<(usize, u64)>
+    ensures { IfSome result (λ line. LineInFront front.now line.0 line.1 interpreter.now) }
+{
+    if !reads_text(interpreter, front) {
+        return None;
+    }
+    interpreter.formatter.line_in_front(front)
+}
+
+/// Whether these bytes in front are read as those of a text line, behind a glyph or from the first
+/// one on.
+#[inline(always)]
+fn reads_text(interpreter: &Interpreter, front: &[u8]) -> bool
+    ensures { result ≡ true → ReadsText front.now interpreter.now }
+{
+    match interpreter.reader.reading() {
+        LineState::Text(line) => line.has_glyph && line.leading == 0,
+        LineState::LineStart => begin_with_text(front) && begins_line(interpreter),
+        _ => false,
+    }
+}
+
+/// Whether no interrupted line goes on.
+#[inline(always)]
+fn begins_line(interpreter: &Interpreter) -> bool
+    ensures { result ≡ true → (l : LimitsOf) (h : PageHistory)
+        → StandFor l h interpreter.now.formatter.composer → interrupted_line h ≡ None }
+{
+    match interpreter
+        .formatter
+        .composer
+        .environments
+        .interrupted_line()
+    {
+        Some(_) => false,
+        None => true,
+    }
+}
