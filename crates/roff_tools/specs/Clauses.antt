@@ -6,6 +6,7 @@ pub use Rattle.run_items.specs.Outcome.{Runs}
 pub use Rattle.page_bytes.specs.Devices.{seen}
 pub use Rattle.page_bytes.specs.Sinks.{Fails, Puts, Writes}
 pub use Rattle.tbl_run.specs.Outcome.{PutsTables}
+pub use Rattle.tbl_run.specs.Results.{tbl_messages_of, tbl_output_of}
 pub use Rattle.run_model.specs.Results.{messages_of, output_of}
 pub use Rattle.cli_words.specs.CommandLine.{AreMistaken, AskForHelp, roff_app}
 pub use Rattle.cli_words.specs.PagesAsked.{told_pages}
@@ -13,7 +14,7 @@ pub use Rattle.cli_words.specs.RegistersAsked.{told}
 pub use Rattle.roff_tools.specs.Both.{RunsBoth}
 pub use Rattle.roff_tools.specs.Jobs.{RunsJob, job_of, start_read}
 pub use Rattle.roff_tools.specs.Exit.{exit_after, exit_flushed, exit_number}
-pub use Rattle.roff_tools.specs.InMemory.{IsWholeResult, RanInMemory}
+pub use Rattle.roff_tools.specs.InMemory.{IsWholeResult, IsWholeTblResult, RanInMemory}
 pub use Rattle.cli_devices.specs.Inputs.Part.{AreNamed, IsNamed}
 pub use Rattle.cli_devices.specs.Buffered.{given_to}
 pub use Rattle.cli_devices.specs.Memory.{tape_of_bytes}

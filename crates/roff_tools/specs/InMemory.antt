@@ -8,6 +8,8 @@ use Rattle.page_bytes.specs.Devices.{seen}
 use Rattle.cli_devices.specs.Memory.{kept_by}
 use Rattle.cli_devices.specs.WatchedSink.Telling.{IsSound, nothing_told, told_by}
 use Rattle.cli_devices.specs.declared.watched.WatchedSink.{WatchedSink}
+use Rattle.tbl_format.specs.declared.limits.TblLimits.{TblLimits}
+use Rattle.tbl_run.specs.Results.{tbl_messages_of, tbl_output_of, tbl_status_of}
 use Rattle.roff_tools.specs.Jobs.{RunsJob}
 use Rattle.roff_tools.specs.declared.in_memory.Formatted.{Formatted}
 use Rattle.roff_tools.specs.declared.in_memory.Room.{Room}
@@ -18,6 +20,12 @@ pub record IsWholeResult (l : Limits) (start : Start) (t : Tape) (f : Formatted)
   pub output : f.output.items ≡ output_of l start t
   pub messages : f.messages.items ≡ messages_of l start t
   pub status : Some f.status ≡ status_of l start t
+
+-- the same of a run of `tbl`
+pub record IsWholeTblResult (l : TblLimits) (line_length : ℕ) (t : Tape) (f : Formatted) : Type 0 where
+  pub output : f.output.items ≡ tbl_output_of l line_length t
+  pub messages : f.messages.items ≡ tbl_messages_of l line_length t
+  pub status : Some f.status ≡ tbl_status_of l line_length t
 
 -- the job ran over a tape, to sinks that were given nothing before, and what they kept is what it gave
 pub record RanInMemory (job : Job) (t : Tape) (room : Room) (f : Formatted) : Type 0 where

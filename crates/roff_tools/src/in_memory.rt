@@ -2,8 +2,9 @@
 
 ghost use Rattle.std.specs.Prelude.{◌≡◌, ◌≤◌, length, take, IfOk};
 ghost use Rattle.tbl_core.specs.Yields.{at_start, yields};
-ghost use Rattle.roff_tools.specs.Clauses.{IsBeginning, IsWholeResult, RanInMemory, messages_of};
-ghost use Rattle.roff_tools.specs.Clauses.{output_of, tape_of_bytes};
+ghost use Rattle.roff_tools.specs.Clauses.{IsBeginning, IsWholeResult, IsWholeTblResult};
+ghost use Rattle.roff_tools.specs.Clauses.{RanInMemory, messages_of, output_of, tape_of_bytes};
+ghost use Rattle.roff_tools.specs.Clauses.{tbl_messages_of, tbl_output_of};
 
 use crate::{Job, run};
 use cli_devices::{MemSource, WatchedSink};
@@ -98,6 +99,38 @@ pub fn format_tables_in_memory(
     let (table_limits, line_length) = tables;
     let job = Job::Both(limits, start, table_limits, line_length);
     run_in_memory(alloc, job, text, fail_at, room)
+}
+
+/// Puts lines for the formatter in the place of each table of a text that stands in memory, within
+/// this line length, in columns. The source and the room are as of [`format_in_memory`].
+///
+/// # Errors
+///
+/// [`AllocError`] if the room, or the memory that the limits ask for, can't be had.
+pub fn lay_tables_in_memory(
+    alloc: Global,
+    limits: TblLimits,
+    line_length: u32,
+    text: &[u8],
+    fail_at: Option<usize>,
+    room: Room,
+) -> Result<Formatted, AllocError>
+    // With room for all of it, the result of the definition of `tbl`, and nothing else.
+    ensures whole { let t = tape_of_bytes text.now fail_at in
+        length (tbl_output_of limits line_length t) ≤ room.output →
+        length (tbl_messages_of limits line_length t) ≤ room.messages →
+        IfOk result (λ f. IsWholeTblResult limits line_length t f) }
+
+    // With room for the messages, as many of the definition's first bytes as there is room for.
+    ensures output { let t = tape_of_bytes text.now fail_at in
+        length (tbl_messages_of limits line_length t) ≤ room.messages →
+        IfOk result (λ f. f.output.items ≡ take room.output (tbl_output_of limits line_length t)) }
+
+    // In any case a beginning of what the definition writes.
+    ensures beginning { IfOk result (λ f. IsBeginning f.output.items
+        (tbl_output_of limits line_length (tape_of_bytes text.now fail_at))) }
+{
+    run_in_memory(alloc, Job::Tbl(limits, line_length), text, fail_at, room)
 }
 
 /// Runs a job over a text that stands in memory.

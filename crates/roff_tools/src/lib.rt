@@ -12,7 +12,9 @@ mod words;
 pub use cli_devices::{MemSink, MemSource};
 pub use cli_words::laws;
 pub use fault::StartFault;
-pub use in_memory::{Formatted, Room, format_in_memory};
+pub use in_memory::{
+    Formatted, Room, format_in_memory, format_tables_in_memory, lay_tables_in_memory,
+};
 pub use job::{Job, run};
 pub use page_bytes::{BlockWrite, Bounded, ByteSink, MessageSink, SinkFault, StdWrite, WriteSink};
 pub use program::{Finished, main_with};

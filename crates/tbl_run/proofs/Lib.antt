@@ -1,3 +1,6 @@
 pub mod Turning
 pub mod Fronts
 pub mod MessageLimit
+pub mod Given
+pub mod Endings
+pub mod Outcomes

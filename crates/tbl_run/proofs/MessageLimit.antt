@@ -16,7 +16,7 @@ use Rattle.tbl_run.specs.Laws.{IsOnlyStopped, LimitMet, MessagesAreWithin, Messa
 use Rattle.tbl_run.specs.Run.{State, Written, done_with, ends_telling, initial, step, steps}
 
 -- a run that goes on behind an answer did so before it
-going_on : (l : TblLimits) (line : ℕ) (a : Answer) (w : Written) → (done_with l line a w).ended ≡ None → w.ended ≡ None
+pub going_on : (l : TblLimits) (line : ℕ) (a : Answer) (w : Written) → (done_with l line a w).ended ≡ None → w.ended ≡ None
 going_on l line (Gives (OneByte b)) w none = go (nat_lt (length w.output) l.output) refl
   where
     go : (x : Bool) → nat_lt (length w.output) l.output ≡ x → w.ended ≡ None
@@ -76,7 +76,7 @@ messages_within l line_length t s come =
     (within_at l line_length t come.count (subst (λ (x : State). x.written.ended ≡ None) (sym come.is) come.goes_on))
 
 -- one list begins with itself
-begins_itself : (xs : List ℕ) → IsBeginning xs xs
+pub begins_itself : (xs : List ℕ) → IsBeginning xs xs
 begins_itself xs = record { rest = []; split = sym (append-nil xs) }
 
 module _ (l : TblLimits) (more : ℕ) (less : l.messages ≤ more) where

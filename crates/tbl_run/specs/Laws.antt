@@ -1,4 +1,4 @@
--- What the limit on messages does, whatever a source gives.
+-- How runs end, and what the limit on messages does, whatever a source gives.
 use Rattle.std.specs.Prelude.{◌≡◌, ℕ, ◌≤◌, length}
 use Rattle.roff_num.specs.Lists.{IsBeginning}
 use Rattle.roff_num.specs.declared.limit.Limit.TheVariants.{Messages}
@@ -8,7 +8,28 @@ use Rattle.tbl_format.specs.TblLimits.{tbl_limits_with}
 use Rattle.tbl_format.specs.declared.limits.TblLimits.{TblLimits}
 use Rattle.tbl_options.specs.declared.message.Message.TheVariants.{LimitReached}
 use Rattle.tbl_run.specs.Outcome.{Comes}
-use Rattle.tbl_run.specs.Run.{State, ends_telling, initial, step, steps}
+use Rattle.tbl_run.specs.Results.{EndsIn, tbl_last_state}
+use Rattle.tbl_run.specs.Run.{State, Written, ends_telling, initial, step, steps}
+
+-- every run ends, in its last state
+abbrev pub EveryRunEnds : Type 0
+EveryRunEnds = (l : TblLimits) (line_length : ℕ) (t : Tape) → EndsIn l line_length t (tbl_last_state l line_length t)
+
+-- and in no other one
+abbrev pub NoOtherStateIsLast : Type 0
+NoOtherStateIsLast =
+    (l : TblLimits) (line_length : ℕ) (t : Tape) (s : State) → EndsIn l line_length t s → s ≡ tbl_last_state l line_length t
+
+-- what was written and reported is a beginning of what is later
+pub record GoesOnTo (first later : Written) : Type 0 where
+  pub text : IsBeginning first.output later.output
+  pub messages : IsBeginning first.messages later.messages
+
+-- nothing that a step wrote or reported is taken back
+abbrev pub EachStepIsABeginning : Type 0
+EachStepIsABeginning =
+    (l : TblLimits) (line_length : ℕ) (t : Tape) (s : State) → Comes l line_length t s
+    → GoesOnTo (step l line_length s).written (tbl_last_state l line_length t).written
 
 -- the messages of a run that hasn't ended are within the limit
 abbrev pub MessagesAreWithin : Type 0

@@ -2,4 +2,5 @@ pub mod Run
 pub mod Outcome
 pub mod Turns
 pub mod Coming
+pub mod Results
 pub mod Laws

@@ -1,6 +1,6 @@
 //! What a document gives, as other tests ask for it.
 
-use roff_tools::{Limits, Room, Start, Status, format_in_memory};
+use roff_tools::{Formatted, Limits, Room, Start, Status, format_in_memory};
 use std::alloc::Global;
 use std::process::Abort;
 use std::test::Fail;
@@ -36,22 +36,21 @@ pub fn check(
         None,
         AMPLE,
     )?;
-    check_bytes(
-        rt,
-        given.output.as_slice(),
-        expected.output,
-        "output",
-        document,
-    );
+    check_formatted(rt, &given, expected, document);
+    Ok(())
+}
+
+/// Compares what a run in memory gave for a document.
+pub fn check_formatted(rt: &impl Abort, given: &Formatted, expected: Expected<'_>, of: &str) {
+    check_bytes(rt, given.output.as_slice(), expected.output, "output", of);
     check_bytes(
         rt,
         given.messages.as_slice(),
         expected.messages,
         "messages",
-        document,
+        of,
     );
-    check_status(rt, given.status, expected.status, document);
-    Ok(())
+    check_status(rt, given.status, expected.status, of);
 }
 
 /// Compares bytes that were written or said for a document.
