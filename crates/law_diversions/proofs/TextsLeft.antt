@@ -54,9 +54,9 @@ abbrev pub Texts : List (List ℕ) → Taking → Type 0
 Texts texts t = Leaves texts false t
 
 -- either of two, by a test
-pub Texts-if : (texts : List (List ℕ)) (c : Bool) (t u : Taking) → Texts texts t → Texts texts u → Texts texts (if c then t else u)
-Texts-if texts true t u first second = first
-Texts-if texts false t u first second = second
+pub Texts-either : (texts : List (List ℕ)) (c : Bool) (t u : Taking) → Texts texts t → Texts texts u → Texts texts (if c then t else u)
+Texts-either texts true t u first second = first
+Texts-either texts false t u first second = second
 
 -- a line begins, or a branch
 pub data BeginsLine : LineState → Type 0 where
@@ -100,7 +100,7 @@ mild-blanks before = by_test (before == 0)
 
 Texts-blank_taking : (i : PageInput) (line : TextLine) → Texts i.open_texts (blank_taking i line)
 Texts-blank_taking i line =
-    Texts-if i.open_texts line.has_glyph _ _ (refl, (refl, (tt, (tt, tt)))) (refl, (refl, mild-blanks line.leading))
+    Texts-either i.open_texts line.has_glyph _ _ (refl, (refl, (tt, (tt, tt)))) (refl, (refl, mild-blanks line.leading))
 
 -- a byte of one
 Texts-glyph_taking : (i : PageInput) (line : TextLine) (glyph : Glyph) → Texts i.open_texts (glyph_taking i line glyph)
@@ -111,10 +111,10 @@ Texts-tab_taking i line = (refl, (refl, mild-leading line.leading (Text Tab ∷ 
 
 Texts-text_taking : (i : PageInput) (line : TextLine) (b : ℕ) → Texts i.open_texts (text_taking i line b)
 Texts-text_taking i line b =
-    Texts-if i.open_texts (b == newline) _ _ (refl, (refl, mild-line_end line))
-    (Texts-if i.open_texts (b == tab) _ _ (Texts-tab_taking i line)
-    (Texts-if i.open_texts (is_silent b) _ _ (refl, (refl, tt))
-    (Texts-if i.open_texts (b == blank) (blank_taking i line) (glyph_taking i line (Printed b)) (Texts-blank_taking i line)
+    Texts-either i.open_texts (b == newline) _ _ (refl, (refl, mild-line_end line))
+    (Texts-either i.open_texts (b == tab) _ _ (Texts-tab_taking i line)
+    (Texts-either i.open_texts (is_silent b) _ _ (refl, (refl, tt))
+    (Texts-either i.open_texts (b == blank) (blank_taking i line) (glyph_taking i line (Printed b)) (Texts-blank_taking i line)
     (Texts-glyph_taking i line (Printed b)))))
 
 -- an escape without a name
@@ -161,17 +161,17 @@ Texts-beginning_text texts k does each =
 -- the first byte of a line, and of a branch
 Texts-line_begun : (k : Known) (i : PageInput) (b : ℕ) → Texts i.open_texts (line_begun k i b)
 Texts-line_begun k i b =
-    Texts-if i.open_texts (b == dot) _ _ (refl, (refl, tt))
-    (Texts-if i.open_texts (b == apostrophe) _ _ (refl, (refl, tt))
+    Texts-either i.open_texts (b == dot) _ _ (refl, (refl, tt))
+    (Texts-either i.open_texts (b == apostrophe) _ _ (refl, (refl, tt))
     (Texts-beginning_text i.open_texts k (λ line. text_taking i line b) (λ line. Texts-text_taking i line b)))
 
 Texts-first_taking : (k : Known) (i : PageInput) (reading : LineState) (b : ℕ) → BeginsLine reading
     → Texts i.open_texts (first_taking k i reading b)
 Texts-first_taking k i _ b AtStart = Texts-line_begun k i b
-Texts-first_taking k i _ b AtBranch = Texts-if i.open_texts (b == blank) _ _ (refl, (refl, tt)) (Texts-line_begun k i b)
+Texts-first_taking k i _ b AtBranch = Texts-either i.open_texts (b == blank) _ _ (refl, (refl, tt)) (Texts-line_begun k i b)
 Texts-first_taking k i _ b AtBrace =
-    Texts-if i.open_texts (b == blank) _ _ (refl, (refl, tt))
-    (Texts-if i.open_texts (b == newline) _ _ (refl, (refl, tt)) (Texts-line_begun k i b))
+    Texts-either i.open_texts (b == blank) _ _ (refl, (refl, tt))
+    (Texts-either i.open_texts (b == newline) _ _ (refl, (refl, tt)) (Texts-line_begun k i b))
 
 -- an escape there
 Texts-escape_begun : (k : Known) (i : PageInput) (b : ℕ) → Texts i.open_texts (escape_begun k i b)
@@ -179,11 +179,11 @@ Texts-escape_begun k i b = Texts-beginning_text i.open_texts k (λ line. escape_
 
 Texts-first_escape : (k : Known) (i : PageInput) (reading : LineState) (b : ℕ) → BeginsLine reading
     → Texts i.open_texts (first_escape k i reading b)
-Texts-first_escape k i _ b AtStart = Texts-if i.open_texts (b == newline) _ _ (refl, (refl, tt)) (Texts-escape_begun k i b)
+Texts-first_escape k i _ b AtStart = Texts-either i.open_texts (b == newline) _ _ (refl, (refl, tt)) (Texts-escape_begun k i b)
 Texts-first_escape k i _ b AtBranch =
-    Texts-if i.open_texts (b == 123) _ _ (refl, (refl, tt))
-    (Texts-if i.open_texts (b == newline) _ _ (refl, (refl, tt)) (Texts-escape_begun k i b))
-Texts-first_escape k i _ b AtBrace = Texts-if i.open_texts (b == newline) _ _ (refl, (refl, tt)) (Texts-escape_begun k i b)
+    Texts-either i.open_texts (b == 123) _ _ (refl, (refl, tt))
+    (Texts-either i.open_texts (b == newline) _ _ (refl, (refl, tt)) (Texts-escape_begun k i b))
+Texts-first_escape k i _ b AtBrace = Texts-either i.open_texts (b == newline) _ _ (refl, (refl, tt)) (Texts-escape_begun k i b)
 
 -- the page's number
 pub mild-numbered : (n : Option Num) → AreMild (page_numbered n)

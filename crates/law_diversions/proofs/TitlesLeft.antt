@@ -19,7 +19,7 @@ use Rattle.run_model.specs.Reading.Titles.{behind_part, character_put, escape_in
 use Rattle.run_model.specs.Registers.{Known}
 use Rattle.run_model.specs.declared.title.TitlePart.{TitlePart}
 use Rattle.run_model.specs.declared.title.TitlePart.TheVariants.{Left, Centre, Right}
-use Rattle.law_diversions.proofs.TextsLeft.{Leaves-asking, Leaves-no_unit_found, Texts, Texts-if}
+use Rattle.law_diversions.proofs.TextsLeft.{Leaves-asking, Leaves-no_unit_found, Texts, Texts-either}
 
 -- the end of its line: the title is placed
 pub Texts-title_ended : (k : Known) (i : PageInput) → Texts i.open_texts (title_ended k i)
@@ -65,7 +65,7 @@ Texts-title_name k i delimiter Argument name = Leaves-asking k i (InTitle delimi
 pub Texts-title_found : (k : Known) (i : PageInput) (delimiter : ℕ) (found : Found) → Texts i.open_texts (title_found k i delimiter found)
 Texts-title_found k i delimiter GoesOn = (refl, (refl, tt))
 Texts-title_found k i delimiter (GivesUnit (Byte b)) =
-    Texts-if i.open_texts (b == newline) _ _ (Texts-title_ended k i) (refl, (refl, tt))
+    Texts-either i.open_texts (b == newline) _ _ (Texts-title_ended k i) (refl, (refl, tt))
 Texts-title_found k i delimiter (GivesUnit (Kept b)) = Texts-escape_in_title i delimiter b (escape_of b)
 Texts-title_found k i delimiter (Escape b) = Texts-escape_in_title i delimiter b (escape_of b)
 Texts-title_found k i delimiter (Holds unit) = (refl, (refl, tt))
@@ -78,8 +78,8 @@ Texts-title_found k i delimiter (Decides decision freed) = (refl, (refl, tt))
 -- a unit in front of the parts
 pub Texts-title_front_unit : (k : Known) (i : PageInput) (unit : CopyUnit) → Texts i.open_texts (title_front_unit k i unit)
 Texts-title_front_unit k i (Byte b) =
-    Texts-if i.open_texts (b == newline) _ _ (Texts-title_ended k i)
-    (Texts-if i.open_texts (b == blank) _ _ (refl, (refl, tt)) (refl, (refl, tt)))
+    Texts-either i.open_texts (b == newline) _ _ (Texts-title_ended k i)
+    (Texts-either i.open_texts (b == blank) _ _ (refl, (refl, tt)) (refl, (refl, tt)))
 Texts-title_front_unit k i (Kept b) = (refl, (refl, tt))
 
 -- a delimiter

@@ -47,7 +47,8 @@ use Rattle.run_model.specs.Reading.Strings.{string_emptied}
 use Rattle.roff_store.specs.TextCalls.{Call, Append, DropOpen, Enter, Lease, Open, PushOpen, Release, Remove, Rename, Set, Take}
 use Rattle.input_model.specs.Input.Names.{calling}
 use Rattle.law_diversions.specs.DivertedTexts.{IsAbove, NoneAbove, OneAbove, is_making}
-use Rattle.law_diversions.proofs.MildRequests.{LeaveTexts, OpensOne, means-request_effect}
+use Rattle.run_model.proofs.RequestAnswers.{LeaveTexts}
+use Rattle.law_diversions.proofs.MildRequests.{OpensOne, means-request_effect}
 use Rattle.law_diversions.proofs.OpenTexts.{above-adding, above-entering, above-one, above-same}
 use Rattle.law_diversions.proofs.TextsLeft.{AreMild, AtBranch, Leaves-no_unit_found, Texts-beginning_found}
 

@@ -55,9 +55,9 @@ abbrev Keeps : Bool → (PageInput → Taking) → Type 0
 Keeps so f = (i : PageInput) → f (with_result so i) ≡ with_kept so (f i)
 
 -- by a test
-Keeps-if : (so c : Bool) (f g : PageInput → Taking) → Keeps so f → Keeps so g → Keeps so (λ i. if c then f i else g i)
-Keeps-if so true f g of_f of_g = of_f
-Keeps-if so false f g of_f of_g = of_g
+Keeps-either : (so c : Bool) (f g : PageInput → Taking) → Keeps so f → Keeps so g → Keeps so (λ i. if c then f i else g i)
+Keeps-either so true f g of_f of_g = of_f
+Keeps-either so false f g of_f of_g = of_g
 
 -- behind some events
 Keeps-behind : (so : Bool) (events : List PageEvent) (f : PageInput → Taking) → Keeps so f → Keeps so (λ i. behind_events events (f i))
@@ -66,21 +66,21 @@ Keeps-behind so events f of_f i = ap (behind_events events) (of_f i)
 -- a byte of a text line
 Keeps-text_taking : (so : Bool) (line : TextLine) (b : ℕ) → Keeps so (λ i. text_taking i line b)
 Keeps-text_taking so line b =
-    Keeps-if so (b == newline) _ _ (λ i. refl)
-    (Keeps-if so (b == tab) _ _ (λ i. refl)
-    (Keeps-if so (is_silent b) _ _ (λ i. refl)
-    (Keeps-if so (b == blank) _ _ (Keeps-if so line.has_glyph _ _ (λ i. refl) (λ i. refl)) (λ i. refl))))
+    Keeps-either so (b == newline) _ _ (λ i. refl)
+    (Keeps-either so (b == tab) _ _ (λ i. refl)
+    (Keeps-either so (is_silent b) _ _ (λ i. refl)
+    (Keeps-either so (b == blank) _ _ (Keeps-either so line.has_glyph _ _ (λ i. refl) (λ i. refl)) (λ i. refl))))
 
 -- where a branch begins
 Keeps-line_begun : (so : Bool) (k : Known) (b : ℕ) → Keeps so (λ i. line_begun k i b)
 Keeps-line_begun so k b =
     let line : TextLine = line_begun_as k.interrupted in
-    Keeps-if so (b == dot) _ _ (λ i. refl)
-    (Keeps-if so (b == apostrophe) _ _ (λ i. refl)
+    Keeps-either so (b == dot) _ _ (λ i. refl)
+    (Keeps-either so (b == apostrophe) _ _ (λ i. refl)
     (Keeps-behind so (going_on_told k.interrupted) (λ i. text_taking i line b) (Keeps-text_taking so line b)))
 
 Keeps-first_taking : (so : Bool) (k : Known) (b : ℕ) → Keeps so (λ i. first_taking k i Branch b)
-Keeps-first_taking so k b = Keeps-if so (b == blank) _ _ (λ i. refl) (Keeps-line_begun so k b)
+Keeps-first_taking so k b = Keeps-either so (b == blank) _ _ (λ i. refl) (Keeps-line_begun so k b)
 
 Keeps-escape_meant : (so : Bool) (line : TextLine) (b : ℕ) (kind : Kind) → Keeps so (λ i. escape_meant i line b kind)
 Keeps-escape_meant so line b (Prints byte) i = refl
@@ -101,8 +101,8 @@ Keeps-escape_meant so line b BeginsWidth i = refl
 Keeps-first_escape : (so : Bool) (k : Known) (b : ℕ) → Keeps so (λ i. first_escape k i Branch b)
 Keeps-first_escape so k b =
     let line : TextLine = line_begun_as k.interrupted in
-    Keeps-if so (b == 123) _ _ (λ i. refl)
-    (Keeps-if so (b == newline) _ _ (λ i. refl)
+    Keeps-either so (b == 123) _ _ (λ i. refl)
+    (Keeps-either so (b == newline) _ _ (λ i. refl)
     (Keeps-behind so (going_on_told k.interrupted) (λ i. escape_taking i line b) (Keeps-escape_meant so line b (escape_of b))))
 
 Keeps-character_printed : (so : Bool) (line : TextLine) (name text : Option (List ℕ)) → Keeps so (λ i. character_printed i line name text)
@@ -135,7 +135,7 @@ Keeps-beginning_found so k (Decides decision freed) i = refl
 -- where it is skipped
 Keeps-skipping_taking : (so : Bool) (b : ℕ) → Keeps so (λ i. skipping_taking i 0 0 false b)
 Keeps-skipping_taking so b =
-    Keeps-if so (b == backslash) _ _ (λ i. refl) (Keeps-if so (b == newline && nat_le 0 0) _ _ (λ i. refl) (λ i. refl))
+    Keeps-either so (b == backslash) _ _ (λ i. refl) (Keeps-either so (b == newline && nat_le 0 0) _ _ (λ i. refl) (λ i. refl))
 
 -- so the branch may be begun before its result is kept
 Keeps-decided : (so : Bool) (k : Known) (freed : Option ℕ) → Keeps so (λ i. decided k i so freed)

@@ -34,7 +34,7 @@ use Rattle.run_model.specs.declared.request.LineReading.{LineReading}
 use Rattle.run_model.specs.declared.request.LineReading.TheVariants.{ByArguments, ByCondition, ByElse, ByLastLine, ByMessage, ByString, ByLines, ByTitle}
 use Rattle.run_model.specs.declared.request.LinesFor.TheVariants.{Macro, Nobody}
 use Rattle.run_model.specs.declared.request.Request.{Request}
-use Rattle.run_model.specs.declared.request.Request.TheVariants.{Abort, Adjust, AppendDiversion, AppendString, AssignFormat, BeginPage, Break, ChangeTrap, DefineString, DiversionTrap, Divert, Else, EndMacro, Exit, Fill, If, IfElse, Indent, LineLength, Need, NoAdjust, NoFill, NoSpace, NumberRegister, PageLength, PageNumber, PageOffset, PlantTrap, RemoveNames, RemoveRegisters, Rename, RestoreSpacing, Space as SpaceDown, TellMessage, WithoutEffect, LeftOut, AppendMacro, DefineMacro, Ignore, Centre, Environment as SwitchEnvironment, InputTrap, LineSpacing, TabStops, TemporaryIndent, PageCharacter, Title as TitleRequest, TitleLength}
+use Rattle.run_model.specs.declared.request.Request.TheVariants.{BeginPage, Environment as SwitchEnvironment}
 
 -- what names stand for, how many did at first, and the texts in the making
 pub record NamesAndTexts : Type 0 where
@@ -85,54 +85,9 @@ CallsNothing-eject breaks false asked = record { calls = refl; registers = λ rs
 
 -- that of a request without arguments
 CallsNothing-request : (k : Known) (breaks : Bool) (request : Request) → CallsNothing (request_effect k breaks request [])
-CallsNothing-request k breaks Abort = record { calls = refl; registers = λ rs. refl }
-CallsNothing-request k breaks Adjust = record { calls = refl; registers = λ rs. refl }
-CallsNothing-request k breaks AssignFormat = record { calls = refl; registers = λ rs. refl }
-CallsNothing-request k breaks AppendDiversion = record { calls = refl; registers = λ rs. refl }
-CallsNothing-request k breaks AppendMacro = record { calls = refl; registers = λ rs. refl }
-CallsNothing-request k breaks AppendString = record { calls = refl; registers = λ rs. refl }
 CallsNothing-request k breaks BeginPage = CallsNothing-eject (breaks && true) (is_diverting k.layout) (page_ejected k.layout)
-CallsNothing-request k breaks Break = record { calls = refl; registers = λ rs. refl }
-CallsNothing-request k breaks Centre = record { calls = refl; registers = λ rs. refl }
-CallsNothing-request k breaks ChangeTrap = record { calls = refl; registers = λ rs. refl }
-CallsNothing-request k breaks DefineMacro = record { calls = refl; registers = λ rs. refl }
-CallsNothing-request k breaks DefineString = record { calls = refl; registers = λ rs. refl }
-CallsNothing-request k breaks DiversionTrap = record { calls = refl; registers = λ rs. refl }
-CallsNothing-request k breaks Divert = record { calls = refl; registers = λ rs. refl }
-CallsNothing-request k breaks Else = record { calls = refl; registers = λ rs. refl }
-CallsNothing-request k breaks EndMacro = record { calls = refl; registers = λ rs. refl }
 CallsNothing-request k breaks SwitchEnvironment = CallsNothing-switch (breaks && false) k.has_left
-CallsNothing-request k breaks Exit = record { calls = refl; registers = λ rs. refl }
-CallsNothing-request k breaks Fill = record { calls = refl; registers = λ rs. refl }
-CallsNothing-request k breaks If = record { calls = refl; registers = λ rs. refl }
-CallsNothing-request k breaks IfElse = record { calls = refl; registers = λ rs. refl }
-CallsNothing-request k breaks Ignore = record { calls = refl; registers = λ rs. refl }
-CallsNothing-request k breaks Indent = record { calls = refl; registers = λ rs. refl }
-CallsNothing-request k breaks InputTrap = record { calls = refl; registers = λ rs. refl }
-CallsNothing-request k breaks LineLength = record { calls = refl; registers = λ rs. refl }
-CallsNothing-request k breaks LineSpacing = record { calls = refl; registers = λ rs. refl }
-CallsNothing-request k breaks Need = record { calls = refl; registers = λ rs. refl }
-CallsNothing-request k breaks NoAdjust = record { calls = refl; registers = λ rs. refl }
-CallsNothing-request k breaks NoFill = record { calls = refl; registers = λ rs. refl }
-CallsNothing-request k breaks NoSpace = record { calls = refl; registers = λ rs. refl }
-CallsNothing-request k breaks NumberRegister = record { calls = refl; registers = λ rs. refl }
-CallsNothing-request k breaks PageCharacter = record { calls = refl; registers = λ rs. refl }
-CallsNothing-request k breaks PageLength = record { calls = refl; registers = λ rs. refl }
-CallsNothing-request k breaks PageNumber = record { calls = refl; registers = λ rs. refl }
-CallsNothing-request k breaks PageOffset = record { calls = refl; registers = λ rs. refl }
-CallsNothing-request k breaks RemoveNames = record { calls = refl; registers = λ rs. refl }
-CallsNothing-request k breaks RemoveRegisters = record { calls = refl; registers = λ rs. refl }
-CallsNothing-request k breaks Rename = record { calls = refl; registers = λ rs. refl }
-CallsNothing-request k breaks RestoreSpacing = record { calls = refl; registers = λ rs. refl }
-CallsNothing-request k breaks SpaceDown = record { calls = refl; registers = λ rs. refl }
-CallsNothing-request k breaks TabStops = record { calls = refl; registers = λ rs. refl }
-CallsNothing-request k breaks TemporaryIndent = record { calls = refl; registers = λ rs. refl }
-CallsNothing-request k breaks TitleRequest = record { calls = refl; registers = λ rs. refl }
-CallsNothing-request k breaks TitleLength = record { calls = refl; registers = λ rs. refl }
-CallsNothing-request k breaks TellMessage = record { calls = refl; registers = λ rs. refl }
-CallsNothing-request k breaks PlantTrap = record { calls = refl; registers = λ rs. refl }
-CallsNothing-request k breaks (WithoutEffect name) = record { calls = refl; registers = λ rs. refl }
-CallsNothing-request k breaks (LeftOut name) = record { calls = refl; registers = λ rs. refl }
+CallsNothing-request k breaks (_) = record { calls = refl; registers = λ rs. refl }
 
 -- the end of the line of a request that calls nothing
 LeavesTexts-ended_by : (i : PageInput) (request : Request) (e : Effect) → CallsNothing e → LeavesTexts i (ended_by (beginning_line i) request e)

@@ -19,6 +19,7 @@ pub mod LinesLeft
 pub mod WaitingFew
 pub mod GrowingAhead
 pub mod MeantEvents
+pub mod RequestAnswers
 pub mod RequestEvents
 pub mod TextEvents
 pub mod TitleEvents

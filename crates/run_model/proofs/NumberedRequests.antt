@@ -19,26 +19,38 @@ module _ {A : Type 0} where
   slice_get-behind (x ∷ xs) ys (suc n) less = slice_get-behind xs ys n (omega (arith, less)) ∙ ap (slice_get ys) (omega arith)
 
 -- one that is built
-pub built_at : (n : ℕ) → n < 46 → slice_get requests n ≡ Some (get_or built n Break)
+pub built_at : (n : ℕ) → n < length built → slice_get requests n ≡ Some (get_or built n Break)
 built_at n less = slice_get-front built others n less ∙ slice_get-get_or built n Break less
 
 -- a name of a list that is made into requests
 named_at : (made : List ℕ → Request) (names : List (List ℕ)) (n : ℕ) → n < length names → slice_get (map made names) n ≡ Some (made (get_or names n []))
 named_at made names n less = slice_get-map made names n ∙ ap (option_map made) (slice_get-get_or names n [] less)
 
-pub without_effect_at : (n : ℕ) → 46 ≤ n → n - 46 < 15 → slice_get requests n ≡ Some (WithoutEffect (get_or names_without_effect (n - 46) []))
+-- places behind those that are built, and behind those without effect too
+abbrev pub behind_built : ℕ → ℕ
+behind_built n = n - length built
+
+abbrev pub behind_effectless : ℕ → ℕ
+behind_effectless n = behind_built n - length names_without_effect
+
+pub without_effect_at : (n : ℕ) → length built ≤ n → behind_built n < length names_without_effect
+    → slice_get requests n ≡ Some (WithoutEffect (get_or names_without_effect (behind_built n) []))
 without_effect_at n above less =
     slice_get-behind built others n above
-    ∙ slice_get-front (map WithoutEffect names_without_effect) (map LeftOut names_left_out) (n - 46) less
-    ∙ named_at WithoutEffect names_without_effect (n - 46) less
+    ∙ slice_get-front (map WithoutEffect names_without_effect) (map LeftOut names_left_out) (behind_built n) less
+    ∙ named_at WithoutEffect names_without_effect (behind_built n) less
 
 -- behind both lists
-left_out : (n : ℕ) → 46 ≤ n → 15 ≤ n - 46 → slice_get requests n ≡ slice_get (map LeftOut names_left_out) (n - 46 - 15)
+left_out : (n : ℕ) → length built ≤ n → length names_without_effect ≤ behind_built n
+    → slice_get requests n ≡ slice_get (map LeftOut names_left_out) (behind_effectless n)
 left_out n above more =
-    slice_get-behind built others n above ∙ slice_get-behind (map WithoutEffect names_without_effect) (map LeftOut names_left_out) (n - 46) more
+    slice_get-behind built others n above
+    ∙ slice_get-behind (map WithoutEffect names_without_effect) (map LeftOut names_left_out) (behind_built n) more
 
-pub left_out_at : (n : ℕ) → 46 ≤ n → 15 ≤ n - 46 → n - 46 - 15 < 24 → slice_get requests n ≡ Some (LeftOut (get_or names_left_out (n - 46 - 15) []))
-left_out_at n above more less = left_out n above more ∙ named_at LeftOut names_left_out (n - 46 - 15) less
+pub left_out_at : (n : ℕ) → length built ≤ n → length names_without_effect ≤ behind_built n → behind_effectless n < length names_left_out
+    → slice_get requests n ≡ Some (LeftOut (get_or names_left_out (behind_effectless n) []))
+left_out_at n above more less = left_out n above more ∙ named_at LeftOut names_left_out (behind_effectless n) less
 
-pub none_at : (n : ℕ) → 46 ≤ n → 15 ≤ n - 46 → 24 ≤ n - 46 - 15 → slice_get requests n ≡ None
-none_at n above more past = left_out n above more ∙ slice_get_past (map LeftOut names_left_out) (n - 46 - 15) past
+pub none_at : (n : ℕ) → length built ≤ n → length names_without_effect ≤ behind_built n → length names_left_out ≤ behind_effectless n
+    → slice_get requests n ≡ None
+none_at n above more past = left_out n above more ∙ slice_get_past (map LeftOut names_left_out) (behind_effectless n) past

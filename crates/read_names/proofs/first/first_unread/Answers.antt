@@ -1,4 +1,4 @@
-use Rattle.std.proofs.Common.{◌≡◌, ◌∙◌, Some, None, Result, ap, arith, rules, sym}
+use Rattle.std.proofs.Common.{◌≡◌, ◌∙◌, Some, None, Result, ap, arith, length, rules, sym}
 use Rattle.std.specs.Prelude.{slice_get}
 use Rattle.std.proofs.lemmas.Option.{slice_get-get_or}
 use Rattle.roff_num.specs.declared.limit.Limit.{Limit}
@@ -29,5 +29,5 @@ loop-number-preserved c = elim c.match-numbered.branch [
 
 pub returns : goal.returns
 returns c =
-    let all : c.loop-number.number ≡ 85 = omega (arith, c.loop-number-test.false, c.loop-number.auto.number-end) in
+    let all : c.loop-number.number ≡ length requests = omega (arith, c.loop-number-test.false, c.loop-number.auto.number-end) in
     c.loop-number.invariant ∙ ap (unread_at c.args.limits) all
