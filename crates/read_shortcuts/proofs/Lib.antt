@@ -28,6 +28,7 @@ pub mod ComparedTexts
 pub mod ComparedConditions
 pub mod ComparedFronts
 pub mod OtherBranches
+pub mod ControlReads
 pub mod SteppedNames
 pub mod SteppingRuns
 pub mod SteppedText

@@ -131,11 +131,6 @@ turns-begun most from b bytes i front few =
     (subst (λ (items : List (Ahead PageEvent)). turns_within most (record (behind_bytes from (b ∷ bytes) i) { ahead = ahead_at from [] }) < turns_within most (record i { ahead = items })) (sym front)
     (omega (arith, few, free_ahead-behind from b bytes, turns-behind most from bytes (behind_byte from b i))))
 
--- nothing is due behind them
-pub none-begun : (bytes : List ℕ) → due (begun_by bytes) ≡ None
-none-begun [] = refl
-none-begun (b ∷ bytes) = refl
-
 -- bytes that are passed leave what is half read
 pub escapes-lines : (bytes : List ℕ) (i : PageInput) → (lines_taken bytes i).escapes ≡ i.escapes
 escapes-lines [] i = refl

@@ -25,9 +25,7 @@ use Rattle.run_model.specs.Reading.Items.{PageInput, PageUnread}
 use Rattle.run_model.specs.Stages.{Growing, Here, HoldsIfFewer, Onward, Stage, Turned, stage_of}
 use Rattle.run_model.specs.declared.line_state.LineState.{LineState}
 use Rattle.read_lines.specs.Reader.State.{ReaderState}
-use Rattle.read_shortcuts.specs.ControlFronts.{Fronts, HoldsArguments, StandsName, control_byte, is_past, read_for_call, read_to}
-use Rattle.read_shortcuts.specs.declared.control.ControlRead.{ControlRead}
-use Rattle.read_shortcuts.specs.declared.control.ControlRead.TheVariants.{Held, HeldForCall, HeldToEnd, HeldToEscape}
+use Rattle.read_shortcuts.specs.ControlFronts.{Fronts, HoldsArguments, StandsName, control_byte}
 use Rattle.read_shortcuts.specs.Stages.{ReadsLine, ReadsPast}
 use Rattle.read_shortcuts.specs.declared.control.ControlFront.{ControlFront}
 use Rattle.read_shortcuts.proofs.ControlFronts.{control_plain, stage_with, turned-named}
@@ -224,27 +222,6 @@ request-each breaks request there is b plain = subst (λ (r : LineState). HoldsI
 -- and behind that of a body
 pub call-holds : (name : ShortName) (there : LineState) → there ≡ Collecting (Calling name) → HoldsArguments there
 call-holds name there is = subst HoldsArguments (sym is) (refl, refl)
-
--- what was read, by what stands behind them
-pub past-left : (b : BehindHeld) (read : ControlRead) → read ≡ read_to b → is_past read ≡ true → is_ended b ≡ false
-past-left Newline read is past = let wrong : false ≡ true = sym (ap is_past is) ∙ past in absurd (cc)
-past-left AtName read is past = refl
-past-left Other read is past = refl
-
-pub line-ended : (b : BehindHeld) (read : ControlRead) → read ≡ read_to b → read ≡ HeldToEnd → is_ended b ≡ true
-line-ended Newline read is ends = refl
-line-ended AtName read is ends = let wrong : HeldToEscape ≡ HeldToEnd = sym is ∙ ends in absurd (cc)
-line-ended Other read is ends = let wrong : Held ≡ HeldToEnd = sym is ∙ ends in absurd (cc)
-
-pub call-past : (b : BehindHeld) (read : ControlRead) → read ≡ read_for_call b → is_past read ≡ true → is_ended b ≡ false
-call-past Newline read is past = let wrong : false ≡ true = sym (ap is_past is) ∙ past in absurd (cc)
-call-past AtName read is past = refl
-call-past Other read is past = refl
-
-pub call-ended : (b : BehindHeld) (read : ControlRead) → read ≡ read_for_call b → read ≡ HeldToEnd → is_ended b ≡ true
-call-ended Newline read is ends = refl
-call-ended AtName read is ends = let wrong : HeldForCall ≡ HeldToEnd = sym is ∙ ends in absurd (cc)
-call-ended Other read is ends = let wrong : Held ≡ HeldToEnd = sym is ∙ ends in absurd (cc)
 
 -- behind a request's name arguments are held
 pub runs-arguments : (breaks : Bool) (request : Request) (reading : LineState) (half : List OpenEscape) → reading ≡ Collecting (InArguments breaks request) → half ≡ [] → IsRun ArgumentsRun reading half

@@ -6,7 +6,6 @@ use Rattle.roff_num.specs.declared.limits.Limits.{Limits}
 use Rattle.roff_num.specs.declared.short_name.ShortName.{ShortName}
 use Rattle.input_escapes.specs.Waiting.{is_ended_by}
 use Rattle.input_model.specs.Arguments.{Arguments}
-use Rattle.input_model.specs.Input.{Ahead}
 use Rattle.input_model.specs.Input.Calls.{last_result, without_last}
 use Rattle.read_names.specs.NamesRead.{LeadsToElse}
 use Rattle.input_model.specs.Unread.{IsWithin}
@@ -16,12 +15,9 @@ use Rattle.input_source.specs.Bytes.{is_dropped}
 use Rattle.input_source.specs.Tape.{Tape}
 use Rattle.roff_store.specs.Named.{Named}
 use Rattle.roff_store.specs.Texts.{Entry}
-use Rattle.run_model.proofs.InputCounts.{first_passed-no_more}
-use Rattle.run_model.proofs.ItemsTaken.{FromAhead, FromSource, IsOpenFor, Origin, ahead_at, byte_ahead_is_taken, bytes_of_the_source_are_taken, not-first, not-second, taken_as-going_on, tape_at}
-use Rattle.run_model.proofs.Leads.{Leads-to}
+use Rattle.run_model.proofs.ItemsTaken.{IsOpenFor, Origin, ahead_at, not-first, not-second, taken_as-going_on, tape_at}
 use Rattle.run_model.proofs.NameBytes.{turns-first}
-use Rattle.run_model.proofs.PlainRuns.{behind_byte, behind_bytes, behind_bytes-counts, counted, counted-last, is-run_at, run_at}
-use Rattle.run_model.specs.PageEvents.{PageEvent}
+use Rattle.run_model.proofs.PlainRuns.{behind_byte, behind_bytes, counted, run_at}
 use Rattle.run_model.specs.Reading.{taking, undropped_taking}
 use Rattle.run_model.specs.Reading.Branches.{branch_of, reads_else}
 use Rattle.run_model.specs.Reading.ControlLines.{BelongsToName, behind_called, ends_name, name_ended_taking, name_whole_taking}
@@ -29,7 +25,7 @@ use Rattle.run_model.specs.Reading.Ends.{due}
 use Rattle.run_model.specs.Reading.Items.{PageInput, PageUnread, Taking, going_on}
 use Rattle.run_model.specs.Registers.{Known}
 use Rattle.run_model.specs.Requests.{called_by}
-use Rattle.run_model.specs.Run.{Leads, State, nothing_follows, after, known, made, step, taken_as, unless_refused}
+use Rattle.run_model.specs.Run.{Leads, State, nothing_follows, known, made, step, taken_as, unless_refused}
 use Rattle.run_model.specs.Run.Counts.{counts_in, first_passed}
 use Rattle.run_model.specs.Stages.{Here, Onward, Stage, Turned, held_at, input_at, stage_of}
 use Rattle.run_model.specs.declared.line_state.LineState.{LineState}
@@ -39,8 +35,8 @@ use Rattle.read_shortcuts.specs.OtherBranches.{StandsOther, TakesOther}
 use Rattle.read_shortcuts.specs.declared.control.ControlFront.{ControlFront}
 use Rattle.read_shortcuts.proofs.ConstantConditions.{no_newline-blank}
 use Rattle.read_shortcuts.proofs.ControlFronts.{stage_with}
-use Rattle.read_shortcuts.proofs.PuttingRuns.{NoMore-led, ahead-before, before_byte, charged-behind, counts-before, length-last, open-before, run-last, tape-before}
-use Rattle.read_shortcuts.proofs.TurnedRuns.{FitsAt, IsGoing, after-Turned, stage_input}
+use Rattle.read_shortcuts.proofs.PuttingRuns.{before_byte, input-last, leads-last}
+use Rattle.read_shortcuts.proofs.TurnedRuns.{IsGoing, stage_input, step-byte}
 
 -- what is done at a stage's byte: the input changes to this, and that is read
 pub record Changes (names : Named Entry) (q : Stage) (b : ℕ) (change : PageInput → PageInput) (there : PageInput → LineState) : Type 0 where
@@ -55,24 +51,12 @@ module _ (change : PageInput → PageInput) (there : PageInput → LineState) wh
       → first_passed l (counts_in s.registers (change (stage_input names q from [] (behind_byte from b j)))) ≡ None
       → let behind : PageInput = stage_input names q from [] (behind_byte from b j) in
       step l (run_at s names q from (b ∷ []) j) ≡ record s { tape = tape_at from [] s.tape; input = change behind; reading = there behind }
-  step-changed l s names (FromAhead rest) q b j on changes few fits =
-      let from : Origin = FromAhead rest in
+  step-changed l s names from q b j on changes few fits =
       let before : State = run_at s names q from (b ∷ []) j in
       let taken : State = run_at s names q from [] (behind_byte from b j) in
       let all : PageInput = record (behind_byte from b j) { ahead = ahead_at from [] } in
       let behind : PageInput = input_at names q all in
-      byte_ahead_is_taken l before b rest on.going on.idle on.unsprung changes.none_due refl changes.stays (omega (arith, few))
-      ∙ ap (λ (t : Taking). made l before (taken_as t taken)) (changes.does (known taken) all)
-      ∙ ap (made l before) (taken_as-going_on (change behind) (there behind) taken)
-      ∙ ap (λ (r : Option Limit). unless_refused l r before (record taken { input = change behind; reading = there behind })) fits
-  step-changed l s names (FromSource tape) q b j on changes few fits =
-      let from : Origin = FromSource tape in
-      let before : State = run_at s names q from (b ∷ []) j in
-      let taken : State = run_at s names q from [] (behind_byte from b j) in
-      let all : PageInput = record (behind_byte from b j) { ahead = ahead_at from [] } in
-      let behind : PageInput = input_at names q all in
-      bytes_of_the_source_are_taken l before b (record { going = on.going; is_open = on.is_open; idle = on.idle; unsprung = on.unsprung; none_due = changes.none_due })
-      refl refl changes.stays (omega (arith, few))
+      step-byte l s names from q b [] j on changes.none_due changes.stays few
       ∙ ap (λ (t : Taking). made l before (taken_as t taken)) (changes.does (known taken) all)
       ∙ ap (made l before) (taken_as-going_on (change behind) (there behind) taken)
       ∙ ap (λ (r : Option Limit). unless_refused l r before (record taken { input = change behind; reading = there behind })) fits
@@ -86,34 +70,14 @@ module _ (change : PageInput → PageInput) (there : PageInput → LineState) wh
       first_passed l (counts_in s.registers (change behind)) ≡ None → Leads l s (record s { tape = tape_at from [] s.tape; input = change behind; reading = there behind })
   leads-changed l s from front b q going idle unsprung is_open turned changes held texts ahead tape charged within fits =
       let i : PageInput = s.input in
-      let p : Stage = stage_of s.reading i in
-      let first : Origin = before_byte from b in
-      let j : PageInput = behind_bytes first front i in
-      let in_front : i.ahead ≡ ahead_at first front = ahead ∙ ahead-before from front b in
-      let on_tape : s.tape ≡ tape_at first front s.tape = tape ∙ tape-before from front b s.tape in
-      let on : IsGoing first s = record { going = going; is_open = open-before from b s.is_closed is_open; idle = idle; unsprung = unsprung } in
-      let counts = length-last front b in
-      let stands : run_at s i.names p first front i ≡ s = is-run_at s first front p refl refl refl refl in_front on_tape in
-      let before : FitsAt l s.registers i.names p first front i =
-      subst (λ (items : List (Ahead PageEvent)). first_passed l (counts_in s.registers (record i { ahead = items })) ≡ None) in_front within in
-      let behind : FitsAt l s.registers i.names q first [] j =
-      subst (λ (k : PageInput). FitsAt l s.registers i.names q first [] k) (sym (behind_bytes-counts first front i))
-      (first_passed-no_more l s.registers (stage_input i.names q first [] (record i { charge = j.charge; newlines = j.newlines; line = j.line })) (stage_input i.names p first front i)
-      (NoMore-led i.names p q first front i j.charge j.newlines j.line held texts) before) in
-      let comes : Leads l s (run_at s i.names q from (b ∷ []) j) = record {
-        steps = length front;
-        there = ap (after l (length front)) (sym stands)
-            ∙ after-Turned l s i.names first p q front i on turned (omega (arith, counts, charged)) before behind
-            ∙ run-last s i.names q from b j;
-      } in
-      let is : stage_input i.names q from [] (behind_byte from b j) ≡ input_at i.names q (counted from (front ++ b ∷ []) i) =
-      ap (λ (k : PageInput). input_at i.names q (record (behind_byte from b k) { ahead = ahead_at from [] })) (counts-before from b front i)
-      ∙ ap (λ (k : PageInput). input_at i.names q k) (counted-last from front b i) in
-      let charge = charged-behind first front i in
-      let steps = step-changed l s i.names from q b j (record { going = going; is_open = is_open; idle = idle; unsprung = unsprung }) changes (omega (arith, charge, counts, charged))
-      (subst (λ (k : PageInput). first_passed l (counts_in s.registers (change k)) ≡ None) (sym is) fits) in
-      Leads-to l s (run_at s i.names q from (b ∷ []) j) _ comes
-      (steps ∙ ap (λ (k : PageInput). record s { tape = tape_at from [] s.tape; input = change k; reading = there k }) is)
+      let j : PageInput = behind_bytes (before_byte from b) front i in
+      let behind : PageInput = input_at i.names q (counted from (front ++ b ∷ []) i) in
+      let is : stage_input i.names q from [] (behind_byte from b j) ≡ behind = input-last i.names q from (front ++ b ∷ []) front b i refl in
+      leads-last l s (record s { tape = tape_at from [] s.tape; input = change behind; reading = there behind }) from (front ++ b ∷ []) front b q
+      going idle unsprung is_open refl turned held texts ahead tape charged within
+      (λ on few.
+      step-changed l s i.names from q b j on changes few (subst (λ (k : PageInput). first_passed l (counts_in s.registers (change k)) ≡ None) (sym is) fits)
+      ∙ ap (λ (k : PageInput). record s { tape = tape_at from [] s.tape; input = change k; reading = there k }) is)
 
 module _ (names : Named Entry) (breaks : Bool) (first second : ℕ) (a : Arguments) (texts : List (List ℕ)) where
   -- in front of the last byte of a name

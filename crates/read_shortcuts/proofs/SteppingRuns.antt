@@ -1,28 +1,25 @@
 -- Runs over an escape that steps a register: its bytes lead from stage to stage, and behind the last one the register is stepped, and its
 -- text is in front.
-use Rattle.std.proofs.Common.{◌≡◌, ℕ, ◌+◌, ◌≤◌, Bool, false, List, [], ◌∷◌, length, Option, Some, None, refl, ap, sym, subst, append-nil, ◌∙◌, arith}
+use Rattle.std.proofs.Common.{◌≡◌, ℕ, ◌+◌, ◌≤◌, Bool, false, List, [], ◌∷◌, length, Option, Some, None, refl, ap, sym, subst, append-nil, ◌∙◌}
 use Rattle.std.specs.Prelude.{if◌then◌else◌}
 use Rattle.roff_num.specs.declared.direction.Direction.{Direction}
 use Rattle.roff_num.specs.declared.limit.Limit.{Limit}
 use Rattle.roff_num.specs.declared.limits.Limits.{Limits}
 use Rattle.roff_num.specs.declared.num.Num.{Num}
 use Rattle.input_escapes.specs.Waiting.{is_ended_by}
-use Rattle.input_model.specs.Input.{Ahead, pushing}
+use Rattle.input_model.specs.Input.{pushing}
 use Rattle.roff_store.specs.Named.{Named}
 use Rattle.roff_store.specs.Registers.{next_value}
 use Rattle.roff_store.specs.Texts.{Entry}
-use Rattle.run_model.proofs.InputCounts.{first_passed-no_more}
-use Rattle.run_model.proofs.ItemsTaken.{IsOpenFor, FromAhead, FromSource, Origin, ahead_at, byte_ahead_is_taken, bytes_of_the_source_are_taken, tape_at}
-use Rattle.run_model.proofs.Leads.{Leads-to}
-use Rattle.run_model.proofs.PlainRuns.{behind_byte, behind_bytes, behind_bytes-counts, counted, counted-last, is-run_at, run_at}
+use Rattle.run_model.proofs.ItemsTaken.{IsOpenFor, Origin, ahead_at, tape_at}
+use Rattle.run_model.proofs.PlainRuns.{behind_byte, behind_bytes, counted, run_at}
 use Rattle.run_model.specs.Reading.{taking}
 use Rattle.run_model.specs.Reading.Ends.{due}
 use Rattle.run_model.specs.Reading.Escapes.{interpolating}
 use Rattle.run_model.specs.Reading.Items.{PageInput, Taking}
 use Rattle.run_model.specs.Registers.{AllRegisters, Known, StepBy, changed_by, is_page, known_behind, number_in_range, numbered, page_register, page_stepped, step_messages, text_of_register}
 use Rattle.run_model.specs.Requests.Effects.{page_numbered}
-use Rattle.run_model.specs.PageEvents.{PageEvent}
-use Rattle.run_model.specs.Run.{Leads, State, nothing_follows, after, known, known_at, made, step, taken_as, unless_refused}
+use Rattle.run_model.specs.Run.{Leads, State, nothing_follows, known, known_at, made, step, taken_as, unless_refused}
 use Rattle.run_model.specs.Run.Counts.{counts_in, first_passed}
 use Rattle.run_model.specs.Stages.{Stage, input_at, stage_of}
 use Rattle.run_model.specs.declared.line_state.LineState.{LineState}
@@ -30,8 +27,8 @@ use Rattle.run_model.specs.declared.line_state.LineState.TheVariants.{Text as In
 use Rattle.run_model.specs.declared.line_state.TextLine.{TextLine}
 use Rattle.run_model.specs.declared.message.Message.{Message}
 use Rattle.read_shortcuts.specs.SteppedNames.{AsksStep}
-use Rattle.read_shortcuts.proofs.PuttingRuns.{ahead-before, before_byte, charged-behind, counts-before, length-last, NoMore-led, open-before, run-last, tape-before}
-use Rattle.read_shortcuts.proofs.TurnedRuns.{FitsAt, IsGoing, after-Turned, stage_input}
+use Rattle.read_shortcuts.proofs.PuttingRuns.{before_byte, input-last, leads-last}
+use Rattle.read_shortcuts.proofs.TurnedRuns.{IsGoing, stage_input, step-byte}
 
 module _ (direction : Direction) (name : List ℕ) where
   -- the registers behind the step
@@ -79,25 +76,12 @@ module _ (direction : Direction) (name : List ℕ) where
       → first_passed l (counts_in (stepped s.registers) (pushing text (stage_input names p from [] (behind_byte from b j)))) ≡ None
       → step l (run_at s names q from (b ∷ []) j)
       ≡ record s { tape = tape_at from [] s.tape; input = pushing text (stage_input names p from [] (behind_byte from b j)); reading = p.reading; registers = stepped s.registers }
-  step-stepped l s names (FromAhead rest) p q b text j on none_due stays few asks quiet unnumbered is_text fits =
-      let from : Origin = FromAhead rest in
+  step-stepped l s names from p q b text j on none_due stays few asks quiet unnumbered is_text fits =
       let before : State = run_at s names q from (b ∷ []) j in
       let taken : State = run_at s names q from [] (behind_byte from b j) in
       let there : PageInput = record (behind_byte from b j) { ahead = ahead_at from [] } in
       let behind : List ℕ → State = λ digits. record taken { input = pushing digits (input_at names p there); reading = p.reading; registers = stepped s.registers } in
-      byte_ahead_is_taken l before b rest on.going on.idle on.unsprung none_due refl stays (omega (arith, few))
-      ∙ ap (λ (t : Taking). made l before (taken_as t taken)) (asks (known taken) there ∙ quietly (known taken) (input_at names p there) p.reading (quiet (known taken) refl) unnumbered)
-      ∙ ap (made l before) (taken_as-stepping (known taken) (input_at names p there) p.reading taken)
-      ∙ ap (λ (digits : List ℕ). made l before (behind digits)) (sym is_text)
-      ∙ ap (λ (r : Option Limit). unless_refused l r before (behind text)) fits
-  step-stepped l s names (FromSource tape) p q b text j on none_due stays few asks quiet unnumbered is_text fits =
-      let from : Origin = FromSource tape in
-      let before : State = run_at s names q from (b ∷ []) j in
-      let taken : State = run_at s names q from [] (behind_byte from b j) in
-      let there : PageInput = record (behind_byte from b j) { ahead = ahead_at from [] } in
-      let behind : List ℕ → State = λ digits. record taken { input = pushing digits (input_at names p there); reading = p.reading; registers = stepped s.registers } in
-      bytes_of_the_source_are_taken l before b (record { going = on.going; is_open = on.is_open; idle = on.idle; unsprung = on.unsprung; none_due = none_due })
-      refl refl stays (omega (arith, few))
+      step-byte l s names from q b [] j on none_due stays few
       ∙ ap (λ (t : Taking). made l before (taken_as t taken)) (asks (known taken) there ∙ quietly (known taken) (input_at names p there) p.reading (quiet (known taken) refl) unnumbered)
       ∙ ap (made l before) (taken_as-stepping (known taken) (input_at names p there) p.reading taken)
       ∙ ap (λ (digits : List ℕ). made l before (behind digits)) (sym is_text)
@@ -114,39 +98,12 @@ module _ (direction : Direction) (name : List ℕ) where
   leads-stepped l s line from bytes text going idle unsprung is_open reads asked quiet unnumbered ahead tape charged within is_text fits =
       let i : PageInput = s.input in
       let p : Stage = stage_of s.reading i in
-      let q : Stage = asked.there in
-      let front : List ℕ = asked.front in
-      let b : ℕ = asked.last in
-      let first : Origin = before_byte from b in
-      let j : PageInput = behind_bytes first front i in
-      let in_front : i.ahead ≡ ahead_at first front = ahead ∙ ap (λ (bs : List ℕ). ahead_at from bs) asked.is ∙ ahead-before from front b in
-      let on_tape : s.tape ≡ tape_at first front s.tape = tape ∙ ap (λ (bs : List ℕ). tape_at from bs s.tape) asked.is ∙ tape-before from front b s.tape in
-      let on : IsGoing first s = record { going = going; is_open = open-before from b s.is_closed is_open; idle = idle; unsprung = unsprung } in
-      let counts = ap (λ (bs : List ℕ). length bs) asked.is ∙ length-last front b in
-      let stands : run_at s i.names p first front i ≡ s = is-run_at s first front p refl refl refl refl in_front on_tape in
-      let before : FitsAt l s.registers i.names p first front i =
-      subst (λ (items : List (Ahead PageEvent)). first_passed l (counts_in s.registers (record i { ahead = items })) ≡ None) in_front within in
-      let behind : FitsAt l s.registers i.names q first [] j =
-      subst (λ (k : PageInput). FitsAt l s.registers i.names q first [] k) (sym (behind_bytes-counts first front i))
-      (first_passed-no_more l s.registers (stage_input i.names q first [] (record i { charge = j.charge; newlines = j.newlines; line = j.line })) (stage_input i.names p first front i)
-      (NoMore-led i.names p q first front i j.charge j.newlines j.line asked.held asked.texts) before) in
-      let comes : Leads l s (run_at s i.names q from (b ∷ []) j) = record {
-        steps = length front;
-        there = ap (after l (length front)) (sym stands)
-            ∙ after-Turned l s i.names first p q front i on asked.turned (omega (arith, counts, charged)) before behind
-            ∙ run-last s i.names q from b j;
-      } in
-      let settled : PageInput → PageInput = λ k. record k { escapes = i.escapes; arguments = i.arguments; names = i.names; open_texts = i.open_texts } in
-      let is : stage_input i.names p from [] (behind_byte from b j) ≡ settled (counted from bytes i) =
-      ap (λ (k : PageInput). settled (record (behind_byte from b k) { ahead = ahead_at from [] })) (counts-before from b front i)
-      ∙ ap settled (counted-last from front b i)
-      ∙ ap (λ (bs : List ℕ). settled (counted from bs i)) (sym asked.is) in
-      let charge = charged-behind first front i in
-      let steps : step l (run_at s i.names q from (b ∷ []) j)
-      ≡ record s { tape = tape_at from [] s.tape; input = pushing text (stage_input i.names p from [] (behind_byte from b j)); reading = s.reading; registers = stepped s.registers } =
-      step-stepped l s i.names from p q b text j (record { going = going; is_open = is_open; idle = idle; unsprung = unsprung }) asked.none_due asked.stays
-      (omega (arith, charge, counts, charged)) asked.asks quiet unnumbered
+      let j : PageInput = behind_bytes (before_byte from asked.last) asked.front i in
+      let is : stage_input i.names p from [] (behind_byte from asked.last j) ≡ counted from bytes i = input-last i.names p from bytes asked.front asked.last i asked.is in
+      leads-last l s (record s { tape = tape_at from [] s.tape; input = pushing text (counted from bytes i); registers = stepped s.registers }) from bytes asked.front asked.last asked.there
+      going idle unsprung is_open asked.is asked.turned asked.held asked.texts ahead tape charged within
+      (λ on few.
+      step-stepped l s i.names from p asked.there asked.last text j on asked.none_due asked.stays few asked.asks quiet unnumbered
       (subst (λ (k : PageInput). text ≡ text_of_register (known_at s.history (stepped s.registers) k) name) (sym is) is_text)
-      (subst (λ (k : PageInput). first_passed l (counts_in (stepped s.registers) (pushing text k)) ≡ None) (sym is) fits) in
-      Leads-to l s (run_at s i.names q from (b ∷ []) j) _ comes
-      (steps ∙ ap (λ (k : PageInput). record s { tape = tape_at from [] s.tape; input = pushing text k; registers = stepped s.registers }) is)
+      (subst (λ (k : PageInput). first_passed l (counts_in (stepped s.registers) (pushing text k)) ≡ None) (sym is) fits)
+      ∙ ap (λ (k : PageInput). record s { tape = tape_at from [] s.tape; input = pushing text k; registers = stepped s.registers }) is)

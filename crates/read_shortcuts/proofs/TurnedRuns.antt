@@ -19,7 +19,7 @@ use Rattle.run_model.specs.Reading.Ends.{due}
 use Rattle.run_model.specs.Reading.Items.{PageInput, Taking}
 use Rattle.run_model.specs.Registers.{AllRegisters, Known}
 use Rattle.run_model.specs.PageEvents.{PageEvent}
-use Rattle.run_model.specs.Run.{State, nothing_follows, after, known, made, step, taken_as, unless_refused}
+use Rattle.run_model.specs.Run.{State, nothing_follows, after, byte_taken, known, made, step, taken_as, unless_refused}
 use Rattle.run_model.specs.Run.Counts.{counts_in, first_passed}
 use Rattle.run_model.specs.Stages.{Growing, Here, Onward, Stage, TextsGrow, Turned, Turns, held_at, input_at, stage_of}
 use Rattle.roff_scan.specs.Unread.Runs.{with_stage_of}
@@ -112,30 +112,27 @@ fits-next l rs names (FromAhead rest) p next q b bytes i grow grows others befor
 fits-next l rs names (FromSource tape) p next q b bytes i grow grows others before behind =
     fits-source l rs names next q tape bytes (behind_byte (FromSource tape) b i) others behind
 
--- a step at a byte, where no count is above its limit behind it
+-- a step takes a byte, wherever it comes from
+pub step-byte : (l : Limits) (s : State) (names : Named Entry) (from : Origin) (p : Stage) (b : ℕ) (bytes : List ℕ) (i : PageInput)
+    → IsGoing from s → due p.reading ≡ None → is_ended_by p.escapes (Some b) ≡ false → i.charge + 1 ≤ l.bytes
+    → step l (run_at s names p from (b ∷ bytes) i) ≡ made l (run_at s names p from (b ∷ bytes) i) (byte_taken b (run_at s names p from bytes (behind_byte from b i)))
+step-byte l s names (FromAhead rest) p b bytes i on none_due stays few =
+    byte_ahead_is_taken l (run_at s names p (FromAhead rest) (b ∷ bytes) i) b (map ByteAhead bytes ++ rest) on.going on.idle on.unsprung none_due refl stays (omega (arith, few))
+step-byte l s names (FromSource tape) p b bytes i on none_due stays few =
+    bytes_of_the_source_are_taken l (run_at s names p (FromSource tape) (b ∷ bytes) i) b
+    (record { going = on.going; is_open = on.is_open; idle = on.idle; unsprung = on.unsprung; none_due = none_due }) refl refl stays (omega (arith, few))
+
+-- one that leads to another stage, where no count is above its limit behind it
 step-turned : (l : Limits) (s : State) (names : Named Entry) (from : Origin) (p q : Stage) (b : ℕ) (bytes : List ℕ) (i : PageInput)
     → IsGoing from s → due p.reading ≡ None → is_ended_by p.escapes (Some b) ≡ false → i.charge + 1 ≤ l.bytes → Turns names p b q
     → FitsAt l s.registers names q from bytes (behind_byte from b i)
     → step l (run_at s names p from (b ∷ bytes) i) ≡ run_at s names q from bytes (behind_byte from b i)
-step-turned l s names (FromAhead rest) p q b bytes i on none_due stays few turns fits =
-    let from : Origin = FromAhead rest in
+step-turned l s names from p q b bytes i on none_due stays few turns fits =
     let before : State = run_at s names p from (b ∷ bytes) i in
     let taken : State = run_at s names p from bytes (behind_byte from b i) in
     let there : PageInput = record (behind_byte from b i) { ahead = ahead_at from bytes } in
     let done : State = run_at s names q from bytes (behind_byte from b i) in
-    byte_ahead_is_taken l before b (map ByteAhead bytes ++ rest) on.going on.idle on.unsprung none_due
-    refl stays (omega (arith, few))
-    ∙ ap (λ (t : Taking). made l before (taken_as t taken)) (turns (known taken) there)
-    ∙ ap (made l before) (taken_as-going_on (input_at names q there) q.reading taken)
-    ∙ ap (λ (r : Option Limit). unless_refused l r before done) fits
-step-turned l s names (FromSource tape) p q b bytes i on none_due stays few turns fits =
-    let from : Origin = FromSource tape in
-    let before : State = run_at s names p from (b ∷ bytes) i in
-    let taken : State = run_at s names p from bytes (behind_byte from b i) in
-    let there : PageInput = record (behind_byte from b i) { ahead = ahead_at from bytes } in
-    let done : State = run_at s names q from bytes (behind_byte from b i) in
-    bytes_of_the_source_are_taken l before b (record { going = on.going; is_open = on.is_open; idle = on.idle; unsprung = on.unsprung; none_due = none_due })
-    refl refl stays (omega (arith, few))
+    step-byte l s names from p b bytes i on none_due stays few
     ∙ ap (λ (t : Taking). made l before (taken_as t taken)) (turns (known taken) there)
     ∙ ap (made l before) (taken_as-going_on (input_at names q there) q.reading taken)
     ∙ ap (λ (r : Option Limit). unless_refused l r before done) fits

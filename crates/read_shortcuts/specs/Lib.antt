@@ -9,6 +9,7 @@ pub mod OtherBranches
 pub mod Conditions
 pub mod Answered
 pub mod Compared
+pub mod ControlReads
 pub mod SteppedNames
 pub mod Stepped
 pub mod Glyphs

@@ -8,19 +8,11 @@ ghost use Rattle.read_shortcuts.specs.ControlFronts.{BeginsControl, Fronts, Stan
 ghost use Rattle.read_shortcuts.specs.ControlFronts.{control_byte, HoldsArguments, StandsName};
 ghost use Rattle.read_shortcuts.specs.ControlFronts.{TakesAtBeginning, is_past, is_read};
 ghost use Rattle.read_shortcuts.specs.ControlFronts.{read_dropped, read_for_call, read_to};
-ghost use Rattle.read_shortcuts.specs.DroppedLines.{LineBegun};
-ghost use Rattle.read_shortcuts.specs.Conditions.{DecidesAtOnce};
-ghost use Rattle.read_shortcuts.specs.declared.control.ControlRead.TheVariants.{Condition, Decided};
-ghost use Rattle.read_shortcuts.specs.declared.control.ControlRead.TheVariants.{Dropped};
 ghost use Rattle.read_shortcuts.specs.declared.control.ControlRead.TheVariants.{HeldToEnd};
-ghost use Rattle.read_shortcuts.specs.declared.control.ControlRead.TheVariants.{HeldForCall};
-ghost use Rattle.read_shortcuts.specs.declared.control.ControlRead.TheVariants.{HeldToEscape};
-ghost use Rattle.read_shortcuts.specs.Runs.{IsRun};
-ghost use Rattle.roff_scan.specs.declared.run_kind.RunKind.TheVariants.{Arguments, CallArguments};
-ghost use Rattle.roff_scan.specs.declared.run_kind.RunKind.TheVariants.{Condition as ConditionRun};
 ghost use Rattle.roff_scan.specs.Unread.Lines.{StandsNewline, begins_with_newline};
 ghost use Rattle.read_shortcuts.specs.ControlFronts.{is_front_read, prints_in_name, reads_front};
-ghost use Rattle.read_shortcuts.specs.Stages.{ReadsLine, ReadsPast};
+ghost use Rattle.read_shortcuts.specs.ControlReads.{ReadsControl};
+ghost use Rattle.read_shortcuts.specs.Stages.{ReadsLine};
 ghost use Rattle.roff_scan.specs.Unread.Calls.{IsFront, NoNewline, PassesFront, front_bytes};
 
 use crate::conditions::read_condition;
@@ -29,7 +21,7 @@ use crate::other_branch::take_other;
 use read_lines::{CALL_ARGUMENTS, Reader};
 use read_names::{begin_deciding, behind_called, called_by};
 use roff_num::ShortName;
-use roff_scan::{BehindHeld, ByteSource, Unread};
+use roff_scan::{BehindHeld, ByteSource, Unread, begins_named};
 use run_model::{LineState, PageEvent, Purpose};
 use run_state::Composer;
 
@@ -97,26 +89,11 @@ pub fn read_control_front<S: ByteSource>(
     requires begins { BeginsControl reader.old.reading }
     requires none_due { due reader.old.reading ≡ None }
     requires none_half { unread.old.input.escapes ≡ [] }
-    ensures past { is_past result ≡ true → ReadsPast (S.gives source.old) (S.gives source.new)
-        reader.old reader.new unread.old unread.new }
-    ensures line { result ≡ HeldToEnd → ReadsLine (S.gives source.old) (S.gives source.new)
-        reader.old reader.new unread.old unread.new }
-    ensures escape { result ≡ HeldToEscape
-        → IsRun Arguments reader.new.reading unread.new.input.escapes }
-    ensures call { result ≡ HeldForCall
-        → IsRun (CallArguments 8) reader.new.reading unread.new.input.escapes }
-    ensures condition { result ≡ Condition → IsRun ConditionRun reader.new.reading
-        unread.new.input.escapes }
-    ensures decides { result ≡ Decided → DecidesAtOnce composer.now (S.gives source.old)
-        (S.gives source.new) reader.old reader.new unread.old unread.new }
-    ensures dropped { result ≡ Dropped → LineBegun reader.new unread.old unread.new }
-    ensures unchanged { is_read result ≡ false
-        → (reader.new ≡ reader.old) × (unread.new ≡ unread.old) × (source.new ≡ source.old) }
+    ensures read { ReadsControl S.ByteSource source.old source.new composer.now
+        reader.old reader.new unread.old unread.new result }
     ensures whole { asks_to_take unread.old ≡ true → reads_front
         (take (unread.old.limits.bytes - unread.old.input.charge) (S.ready source.old)) ≡ true
         → is_read result ≡ true }
-    ensures notes { S.notes source.new ≤ S.notes source.old }
-    ensures failures { S.failures source.new ≡ S.failures source.old }
 {
     let bytes = unread.front(source);
     match control_front(bytes) {
@@ -140,25 +117,10 @@ fn read_control<S: ByteSource>(
     requires ready { StandsReady (control_byte front.breaks ∷ front.first ∷ front.second ∷ [])
         (S.ready source.old) unread.old }
     requires ends { front.ends ≡ true → StandsNewline 3 (S.ready source.old) unread.old }
-    ensures past { is_past result ≡ true → ReadsPast (S.gives source.old) (S.gives source.new)
-        reader.old reader.new unread.old unread.new }
-    ensures line { result ≡ HeldToEnd → ReadsLine (S.gives source.old) (S.gives source.new)
-        reader.old reader.new unread.old unread.new }
-    ensures escape { result ≡ HeldToEscape
-        → IsRun Arguments reader.new.reading unread.new.input.escapes }
-    ensures call { result ≡ HeldForCall
-        → IsRun (CallArguments 8) reader.new.reading unread.new.input.escapes }
-    ensures condition { result ≡ Condition → IsRun ConditionRun reader.new.reading
-        unread.new.input.escapes }
-    ensures decides { result ≡ Decided → DecidesAtOnce composer.now (S.gives source.old)
-        (S.gives source.new) reader.old reader.new unread.old unread.new }
-    ensures dropped { result ≡ Dropped → LineBegun reader.new unread.old unread.new }
-    ensures unchanged { is_read result ≡ false
-        → (reader.new ≡ reader.old) × (unread.new ≡ unread.old) × (source.new ≡ source.old) }
+    ensures read { ReadsControl S.ByteSource source.old source.new composer.now
+        reader.old reader.new unread.old unread.new result }
     ensures whole { is_front_read front.first front.second ≡ true
         → is_read result ≡ true }
-    ensures notes { S.notes source.new ≤ S.notes source.old }
-    ensures failures { S.failures source.new ≡ S.failures source.old }
 {
     if front.first == b'\\' {
         return dropped_to(drop_line(reader, unread, source, 2));
@@ -185,9 +147,10 @@ fn unread_front(bytes: &[u8]) -> ControlRead
     ensures unread { is_read result ≡ false }
     ensures past { is_past result ≡ false }
 {
-    match bytes {
-        [b'\\', b'*' | b'n' | b'$', ..] => ControlRead::Escape,
-        _ => ControlRead::Nothing,
+    if begins_named(bytes, 0) {
+        ControlRead::Escape
+    } else {
+        ControlRead::Nothing
     }
 }
 
@@ -221,22 +184,9 @@ fn read_behind_name<S: ByteSource>(
     source: &mut S,
 ) -> ControlRead
     requires { StandsName front reading reader.old.reading (S.ready source.old) unread.old }
-    ensures past { is_past result ≡ true → ReadsPast (S.gives source.old) (S.gives source.new)
-        reader.old reader.new unread.old unread.new }
-    ensures line { result ≡ HeldToEnd → ReadsLine (S.gives source.old) (S.gives source.new)
-        reader.old reader.new unread.old unread.new }
-    ensures escape { result ≡ HeldToEscape
-        → IsRun Arguments reader.new.reading unread.new.input.escapes }
-    ensures call { result ≡ HeldForCall
-        → IsRun (CallArguments 8) reader.new.reading unread.new.input.escapes }
-    ensures condition { result ≡ Condition → IsRun ConditionRun reader.new.reading
-        unread.new.input.escapes }
-    ensures decides { result ≡ Decided → DecidesAtOnce composer.now (S.gives source.old)
-        (S.gives source.new) reader.old reader.new unread.old unread.new }
-    ensures dropped { result ≡ Dropped → LineBegun reader.new unread.old unread.new }
-    ensures read { is_read result ≡ true }
-    ensures notes { S.notes source.new ≤ S.notes source.old }
-    ensures failures { S.failures source.new ≡ S.failures source.old }
+    ensures read { ReadsControl S.ByteSource source.old source.new composer.now
+        reader.old reader.new unread.old unread.new result }
+    ensures some { is_read result ≡ true }
 {
     match reading {
         LineState::Collecting(Purpose::Arguments { .. }) => {

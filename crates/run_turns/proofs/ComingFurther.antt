@@ -1,5 +1,5 @@
 -- Runs that come further: past bytes, by turns, behind what is due; and one behind another.
-use Rattle.std.proofs.Common.{◌≡◌, ℕ, [], ◌≤◌, Bool, true, false, ◌++◌, Result, Ok, Err, OnOk, refl, sym, subst, ◌∙◌, arith, List, Option, None, ap}
+use Rattle.std.proofs.Common.{◌≡◌, ℕ, [], ◌≤◌, ◌<◌, Bool, true, false, ◌++◌, Result, Ok, Err, OnOk, refl, sym, subst, ◌∙◌, arith, List, Option, None, ap}
 use Rattle.std.specs.Prelude.{◌&&◌, ◌||◌}
 use Rattle.input_source.specs.Tape.{Tape, items_then}
 use Rattle.run_model.specs.Run.{step, State, item_read, reading_by}
@@ -97,37 +97,22 @@ comes_both first second gave mid gives noted kept notes old between new now half
     left (Ok done) more less = left_both first second (turns_with new notes) (turns_with between kept) (turns_with old noted) more less
     left (Err status) more less = tt
 
--- no more turns are left where fewer are
-left_some : (fewer : Bool) (left turns : ℕ) → AreLeft fewer left turns → left ≤ turns
-left_some true left turns less = omega (arith, less)
-left_some false left turns less = less
-
--- further, whether fewer turns are to come or not
-pub comes_some : (fewer : Bool) (gave gives : Tape → Type 0) (noted notes : ℕ) (old new : Coded) (now behind : Seen) (r : Result (Unit {0}) Status)
-    → ComesFurther fewer gave gives noted notes old new now behind r → ComesFurther false gave gives noted notes old new now behind r
-comes_some fewer gave gives noted notes old new now behind r one = record {
-  limits = one.limits;
-  taken = one.taken;
-  before = one.before;
-  comes = one.comes;
-  turns = λ t tape start given at. no_more r (one.turns t tape start given at);
-}
-  where
-    no_more : (r : Result (Unit {0}) Status) → OnOk r (AreLeft fewer (turns_with new notes) (turns_with old noted)) → OnOk r (turns_with new notes ≤ turns_with old noted)
-    no_more (Ok done) less = left_some fewer (turns_with new notes) (turns_with old noted) less
-    no_more (Err status) less = tt
-
--- the same, with the answer by another name
-pub comes_some_as : (fewer : Bool) (gave gives : Tape → Type 0) (noted notes : ℕ) (old new : Coded) (now behind : Seen) (r other : Result (Unit {0}) Status)
-    → r ≡ other → ComesFurther fewer gave gives noted notes old new now behind r → ComesFurther false gave gives noted notes old new now behind other
-comes_some_as fewer gave gives noted notes old new now behind r other is one =
-    subst (λ (x : Result (Unit {0}) Status). ComesFurther false gave gives noted notes old new now behind x) is (comes_some fewer gave gives noted notes old new now behind r one)
+-- where fewer turns are left no more are
+no_more : (r : Result (Unit {0}) Status) (left turns : ℕ) → OnOk r (left < turns) → OnOk r (left ≤ turns)
+no_more (Ok done) left turns less = omega (arith, less)
+no_more (Err status) left turns less = tt
 
 -- further with fewer turns to come, whether that is said or not
 pub comes_any : (fewer : Bool) (gave gives : Tape → Type 0) (noted notes : ℕ) (old new : Coded) (now behind : Seen) (r : Result (Unit {0}) Status)
     → ComesFurther true gave gives noted notes old new now behind r → ComesFurther fewer gave gives noted notes old new now behind r
 comes_any true gave gives noted notes old new now behind r one = one
-comes_any false gave gives noted notes old new now behind r one = comes_some true gave gives noted notes old new now behind r one
+comes_any false gave gives noted notes old new now behind r one = record {
+  limits = one.limits;
+  taken = one.taken;
+  before = one.before;
+  comes = one.comes;
+  turns = λ t tape start given at. no_more r (turns_with new notes) (turns_with old noted) (one.turns t tape start given at);
+}
 
 -- the same, with the answer by another name
 pub comes_any_as : (fewer : Bool) (gave gives : Tape → Type 0) (noted notes : ℕ) (old new : Coded) (now behind : Seen) (r other : Result (Unit {0}) Status)

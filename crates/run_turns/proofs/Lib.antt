@@ -24,6 +24,7 @@ pub mod TitleRuns
 pub mod DueDone
 pub mod PutRegisters
 pub mod LinesEnded
+pub mod ControlsRead
 pub mod OtherBranches
 pub mod ConditionsAtOnce
 pub mod EventsMeant

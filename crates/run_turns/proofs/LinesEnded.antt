@@ -1,5 +1,5 @@
 -- A control line that was read at once up to its newline, and then the newline was taken.
-use Rattle.std.proofs.Common.{◌≡◌, ℕ, ◌≤◌, Bool, true, false, [], ◌∷◌, ◌++◌, Result, refl, sym, ap, subst, ◌∙◌, arith}
+use Rattle.std.proofs.Common.{◌≡◌, ℕ, ◌≤◌, true, [], ◌∷◌, ◌++◌, Result, refl, sym, ap, subst, ◌∙◌, arith}
 use Rattle.input_source.specs.Bytes.{newline}
 use Rattle.input_source.specs.Tape.{Tape}
 use Rattle.roff_scan.proofs.Staged.{passes-staged, stage-behind}
@@ -16,18 +16,11 @@ use Rattle.run_items.specs.Outcome.{Seen, seen}
 use Rattle.run_turns.specs.Running.Turning.{ComesFurther, DoesItem, GoesPast, StandsForSome, TurnsBy}
 use Rattle.page_bytes.specs.Sinks.{Sunk}
 use Rattle.run_turns.proofs.Beginning.{turns_behind}
-use Rattle.run_turns.proofs.ComingFurther.{comes_some, comes_turned}
+use Rattle.run_turns.proofs.ComingFurther.{comes_turned, read_turn}
 use Rattle.run_items.proofs.LinesSplit.{between, line-between, mid, passes-bytes, takes-newline, within-between}
 use Rattle.run_turns.proofs.Turned.{goes_past_turned}
 use Rattle.run_turns.proofs.PassingOn.{goes_past_known}
 use Rattle.run_turns.proofs.WaitedBytes.{byte_alone}
-use Rattle.run_turns.proofs.ComingFurther.{read_turn}
-
--- with fewer turns to come, whether that is said or not
-pub comes-as : (fewer : Bool) (gave gives : Tape → Type 0) (noted notes : ℕ) (old new : Coded) (now behind : Seen) (r : Result (Unit {0}) Status)
-    → ComesFurther true gave gives noted notes old new now behind r → ComesFurther fewer gave gives noted notes old new now behind r
-comes-as true gave gives noted notes old new now behind r one = one
-comes-as false gave gives noted notes old new now behind r one = comes_some true gave gives noted notes old new now behind r one
 
 module _ (gave gives : Tape → Type 0) (noted notes failed failures : ℕ) (out err : Sunk) (old : Coded) (after : PageUnread) (r : ReaderState)
     (line : ReadsLine gave gives old.interpreter.reader r old.unread after) where

@@ -1,5 +1,6 @@
 use Rattle.std.proofs.Common.{◌≡◌, true, false, List, ℕ, refl, subst, sym}
 use Rattle.read_shortcuts.specs.ControlFronts.{reads_front}
+use Rattle.read_shortcuts.proofs.ControlReads.{nothing-read}
 use Rattle.read_shortcuts.proofs.FrontsRead.{two-read}
 use Rattle.read_shortcuts.proofs.LinesRead.{ended-front}
 use Rattle.read_shortcuts.proofs.control.read_control_front.Goals as goal
@@ -13,6 +14,9 @@ returns-in-Some-clause-whole g c = λ asks reads.
     c.read_control.ensures.whole
     (two-read c.front-bytes.result.now c.in-Some.front c.in-Some.ensures.fronts
     (subst (λ (bytes : List ℕ). reads_front bytes ≡ true) (sym (c.front-bytes.ensures.whole asks)) reads))
+
+pub returns-in-None-clause-read : goal.returns-in-None-clause-read
+returns-in-None-clause-read g c = nothing-read _ _ _ _ _ _ c.unread_front.ensures.unread c.unread_front.ensures.past
 
 pub returns-in-None-clause-whole : goal.returns-in-None-clause-whole
 returns-in-None-clause-whole g c = λ asks reads.

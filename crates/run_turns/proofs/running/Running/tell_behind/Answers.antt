@@ -1,5 +1,5 @@
 use Rattle.std.proofs.Common.{◌≡◌, Err, Ok, rules}
-use Rattle.run_turns.proofs.ComingFurther.{comes_none, comes_past, comes_some_as}
+use Rattle.run_turns.proofs.ComingFurther.{comes_any_as, comes_none, comes_past}
 use Rattle.run_turns.proofs.PassingOn.{goes_further_none}
 use Rattle.run_turns.proofs.Unfilled.{comes_kept}
 use Rattle.page_bytes.specs.Told.{told_by}
@@ -21,9 +21,9 @@ returns-in-None g c =
 pub returns-in-Some-Ok : goal.returns-in-Some-Ok
 returns-in-Some-Ok g c =
     let is : c.in-Some-Ok.field-0 ≡ Ok (record {}) = search rules in
-    comes_some_as _ _ _ _ _ _ _ _ _ _ _ is c.in-Some-Ok.ensures.ends
+    comes_any_as _ _ _ _ _ _ _ _ _ _ _ is c.in-Some-Ok.ensures.ends
 
 pub returns-in-Some-Err : goal.returns-in-Some-Err
 returns-in-Some-Err g c =
     let is : c.in-Some-Err.field-0 ≡ Err c.in-Some-Err.status = search rules in
-    comes_some_as _ _ _ _ _ _ _ _ _ _ _ is c.in-Some-Err.ensures.ends
+    comes_any_as _ _ _ _ _ _ _ _ _ _ _ is c.in-Some-Err.ensures.ends
