@@ -96,15 +96,15 @@ EndsLeaveNoWordOpen =
     (h : PageHistory) (e : Event) → EndsWord e → next h (Text e) ≡ None → has_word_to_end (text_of (Text e ∷ h)) ≡ false
 
 -- whether it ends a line of the input or of the output
-abbrev pub EndsLine : Event → Type 0
-EndsLine LineEnd = Unit {0}
-EndsLine Break = Unit {0}
-EndsLine (_) = ⊥
+abbrev pub IsLineEnd : Event → Type 0
+IsLineEnd LineEnd = Unit {0}
+IsLineEnd Break = Unit {0}
+IsLineEnd (_) = ⊥
 
 -- behind these no word is open at all, so that no field is
 abbrev pub LineEndsLeaveNoWordOpen : Type 0
 LineEndsLeaveNoWordOpen =
-    (h : PageHistory) (e : Event) → EndsLine e → next h (Text e) ≡ None → has_open_word (plain (text_of (Text e ∷ h))) ≡ false
+    (h : PageHistory) (e : Event) → IsLineEnd e → next h (Text e) ≡ None → has_open_word (plain (text_of (Text e ∷ h))) ≡ false
 
 -- whether an event tells a glyph
 abbrev pub TellsGlyph : Event → Type 0

@@ -7,7 +7,8 @@ use Rattle.page_model.specs.declared.glyph.Glyph.TheVariants.{Printed}
 use Rattle.page_model.specs.Glyphs.{glyph_text}
 use Rattle.page_model.specs.declared.event.Event.TheVariants.{WordEnd, Break}
 use Rattle.page_model.specs.Words.{is_empty}
-use Rattle.page_model.specs.Columns.{line_bytes, spread, trimmed, written_by_break as written_in}
+use Rattle.page_model.specs.Columns.{line_bytes, spread, trimmed}
+use Rattle.page_model.specs.Lines.{finished as finished_in}
 use Rattle.page_model.specs.Telling.{glyphs_told}
 use Rattle.law_lines.specs.Written.{written_by_break}
 use Rattle.roff_lines.proofs.GlyphsInFront.{eqb-above, spread-glyph, text_byte-above}
@@ -49,7 +50,7 @@ is_empty-some (b ∷ bytes) some = refl
 
 -- a word of bytes above the blank, told to a new environment, is written as itself
 written_in-above : (bytes : List ℕ) → 0 < length bytes → All (λ b. 32 < b) bytes
-    → written_in (WordEnd ∷ glyphs_told (map Printed bytes) []) ≡ Some (bytes ++ 10 ∷ [])
+    → option_map line_bytes (finished_in (WordEnd ∷ glyphs_told (map Printed bytes) []) Break) ≡ Some (bytes ++ 10 ∷ [])
 written_in-above bytes some above =
     let told = words-word (map Printed bytes) [] (is_empty-some bytes some) refl in
     let initial = settings_after-told (reverse (map Printed bytes)) [] in

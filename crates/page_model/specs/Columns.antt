@@ -1,10 +1,9 @@
 -- Where a finished line's text stands, and what it writes (manual, section 4.1).
-use Rattle.std.specs.Prelude.{◌≡◌, ℕ, ◌+◌, ◌-◌, ◌*◌, ◌/◌, ◌&&◌, ◌||◌, List, [], ◌∷◌, ◌++◌, take, replicate, Option, option_map, if◌then◌else◌, ◌==◌}
+use Rattle.std.specs.Prelude.{◌≡◌, ℕ, ◌+◌, ◌-◌, ◌*◌, ◌/◌, ◌&&◌, ◌||◌, List, [], ◌∷◌, ◌++◌, take, replicate, if◌then◌else◌, ◌==◌}
 use Rattle.page_model.specs.declared.line.Line.{Line}
 use Rattle.page_model.specs.Glyphs.{gap_blank, further_blank, glyph_blank, text_width, gaps_in}
 use Rattle.page_model.specs.Words.{is_empty}
-use Rattle.page_model.specs.Events.{Break, History}
-use Rattle.page_model.specs.Lines.{Finished, finished}
+use Rattle.page_model.specs.Lines.{Finished}
 
 -- the line that was handed out
 abbrev pub finished_of : Line → Finished
@@ -51,10 +50,6 @@ line_bytes l = trimmed (printed l) ++ 10 ∷ replicate l.after 10
 -- what a printed text writes behind so many columns: without trailing blanks, and a newline
 abbrev pub device_line : ℕ → List ℕ → List ℕ
 device_line columns text = trimmed (spaces columns ++ text) ++ 10 ∷ []
-
--- what a break writes, if it finishes a line
-abbrev pub written_by_break : History → Option (List ℕ)
-written_by_break h = option_map line_bytes (finished h Break)
 
 -- where a line's text stands: what is written before its k-th byte is as wide as the byte's column says
 abbrev pub StandsInColumns : Finished → Type 0

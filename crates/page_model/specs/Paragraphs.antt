@@ -2,14 +2,13 @@
 -- after another (manual, section 4.1).
 --
 -- Lines are the newest first, as words are.
-use Rattle.std.specs.Prelude.{ℕ, true, false, not, List, [], ◌∷◌, map, if◌then◌else◌, ◌==◌}
-use Rattle.std.specs.List.{cons_option, take_while}
+use Rattle.std.specs.Prelude.{true, false, List, [], ◌∷◌, map, if◌then◌else◌}
+use Rattle.std.specs.List.{cons_option}
 use Rattle.page_model.specs.declared.settings.Settings.{Settings}
 use Rattle.page_model.specs.Settings.{initial_settings, fills}
 use Rattle.page_model.specs.Events.{LineEnd, Break, History, settings_after}
 use Rattle.page_model.specs.Fitting.{Word}
 use Rattle.page_model.specs.Lines.{Finished, line_laid_out, finished}
-use Rattle.page_model.specs.Columns.{line_bytes}
 
 -- the lines that a history finishes
 abbrev pub finished_lines : History → List Finished
@@ -45,7 +44,3 @@ broken_lines s (last ∷ lines) = line_laid_out s false last ∷ full_lines (las
 abbrev pub paragraph_lines : Settings → List (List Word) → List Finished
 paragraph_lines s [] = []
 paragraph_lines s (last ∷ lines) = line_laid_out s false last ∷ map (line_laid_out s true) lines
-
--- what the lines that a history finishes write, without their newlines and blank lines
-abbrev pub lines_written : History → List (List ℕ)
-lines_written h = map (λ line. take_while (λ b. not (b == 10)) (line_bytes line)) (finished_lines h)

@@ -7,6 +7,7 @@ pub mod TablesKept
 pub mod Passing
 pub mod ReadOn
 pub mod Source
+pub mod Silent
 pub mod SourceKept
 pub mod NotesLeft
 pub mod Laws

@@ -7,7 +7,7 @@ use Rattle.input_source.specs.Bytes.{newline}
 use Rattle.tbl_data.specs.DataRead.{fields_with_block, with_text}
 use Rattle.tbl_data.specs.LineTaken.{LineLies, Makes, contents_in, left_from, row_begun, text_made}
 use Rattle.tbl_data.specs.OpenBlocks.{had_surplus}
-use Rattle.tbl_data.specs.TableData.{DataFits, EndsInBlock, IsBlock, LastEndsAt, OpenBehind, OpenEndsAt, OpenFits, StandsBehind, begun_by, row_with_block, table_by}
+use Rattle.tbl_data.specs.TableData.{DataFits, EndsInBlock, LastEndsAt, OpenBehind, OpenEndsAt, OpenFits, StandsBehind, begun_by, row_with_block, table_by}
 use Rattle.tbl_data.specs.TableRead.{RowBegun}
 use Rattle.tbl_data.specs.declared.data_line.DataLine.{DataLine}
 use Rattle.tbl_data.specs.declared.phase.Phase.TheVariants.{InData}
@@ -27,7 +27,7 @@ use Rattle.tbl_kept.specs.RowsGrowing.{BlockGrows, with_line}
 use Rattle.tbl_kept.specs.RowsLaying.{AreOpened, IsOpenedKind}
 use Rattle.tbl_kept.specs.TableText.{KeptText, block_of}
 use Rattle.tbl_layout.specs.Entries.{Block, Content}
-use Rattle.tbl_layout.specs.KeptEntries.{IsKeptBy, IsOpened, block_lines, content_by, content_of, with_end}
+use Rattle.tbl_layout.specs.KeptEntries.{IsBlock, IsKeptBy, IsOpened, block_lines, content_by, content_of, with_end}
 use Rattle.tbl_layout.specs.declared.entry.BlockEntry.{BlockEntry}
 use Rattle.tbl_layout.specs.declared.entry.Entry.{Entry}
 use Rattle.tbl_layout.specs.declared.entry.EntryKind.{EntryKind}

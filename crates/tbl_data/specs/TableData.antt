@@ -14,11 +14,9 @@ use Rattle.tbl_format.specs.RowsServed.{all_rows}
 use Rattle.tbl_options.specs.declared.options.Options.{Options}
 use Rattle.tbl_kept.specs.Rows.{Command, KeptElement, Row, RowBegunKept, Rule, elements_of}
 use Rattle.tbl_layout.specs.Entries.{Block, Content}
-use Rattle.tbl_layout.specs.KeptEntries.{content_of}
+use Rattle.tbl_layout.specs.KeptEntries.{IsBlock, content_of}
 use Rattle.tbl_layout.specs.RuleKeys.{rule_rows}
 use Rattle.tbl_layout.specs.declared.entry.Entry.{Entry}
-use Rattle.tbl_layout.specs.declared.entry.EntryKind.{EntryKind}
-use Rattle.tbl_layout.specs.declared.entry.EntryKind.TheVariants.{Block as BlockKind}
 
 -- the row of which a block is open that isn't dropped: the block is the last of its fields
 abbrev pub with_content : Content → List Content → RowBegun
@@ -53,10 +51,6 @@ table_by phase options bytes d = record {
 }
 
 -- the last of a row's fields is a block
-abbrev pub IsBlock : EntryKind → Type 0
-IsBlock (BlockKind b) = Unit {0}
-IsBlock kind = ⊥
-
 abbrev pub EndsInBlock : List Entry → Type 0
 EndsInBlock [] = ⊥
 EndsInBlock (e ∷ []) = IsBlock e.kind

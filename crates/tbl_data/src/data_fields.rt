@@ -1,7 +1,8 @@
 //! The fields of a line of a table's data, as they are taken one after another (Lesk, "Tbl": Data,
 //! Text Blocks).
 
-ghost use Rattle.std.specs.Prelude.{◌≡◌, ◌≢◌, ℕ, ◌+◌, ◌-◌, ◌<◌, ◌≤◌, ◌^◌, false, List, if◌then◌else◌};
+ghost use Rattle.std.specs.Prelude.{◌≡◌, ◌≢◌, ℕ, ◌+◌, ◌-◌, ◌<◌, ◌≤◌, ◌^◌, false, List};
+ghost use Rattle.std.specs.Prelude.{if◌then◌else◌};
 ghost use Rattle.std.specs.Prelude.{length, slice_range, true};
 ghost use Rattle.tbl_data.specs.LineTaken.{EndsRow, Grows, HasRoom, IsOnLine};
 ghost use Rattle.tbl_data.specs.LineTaken.{LineLies, Makes};

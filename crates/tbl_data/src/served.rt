@@ -10,8 +10,8 @@ use tbl_format::format_rows::FormatRows;
 use tbl_layout::rule_keys::is_rule_row;
 
 impl TableData {
-    /// The row from this one on, among those of all formats, that takes a row of the data serves the
-    /// next one: those in front of it are rows of rule keys alone.
+    /// The row from this one on, among those of all formats, that takes a row of the data serves
+    /// the next one: those in front of it are rows of rule keys alone.
     pub fn serve_from(&mut self, first: usize)
         requires { first ≤ length (all_rows self.old.format.format) }
         ensures { self.new ≡ serving_from first self.old }

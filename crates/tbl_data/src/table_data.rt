@@ -22,7 +22,7 @@ pub enum OpenBlock {
 
 impl OpenBlock {
     /// Whether one is.
-    pub(crate) fn is_open(self) -> bool
+    pub fn is_open(self) -> bool
         ensures { result ≡ is_open self }
     {
         match self {

@@ -1,7 +1,8 @@
 //! The cells of a row of a format, and the columns that they have (Lesk, "Tbl": Format).
 
 ghost use Rattle.std.specs.Prelude.{◌≡◌, ℕ, ◌+◌, ◌<◌, ◌≤◌, ◌^◌, length};
-ghost use Rattle.tbl_format.specs.Cells.{same_cell, AreCells, cell_behind, cell_count, end_of, start_of};
+ghost use Rattle.tbl_format.specs.Cells.{same_cell, AreCells, cell_behind, cell_count, end_of};
+ghost use Rattle.tbl_format.specs.Cells.{start_of};
 ghost use Rattle.tbl_format.specs.Format.{columns_of};
 
 use crate::format::FormatKey;

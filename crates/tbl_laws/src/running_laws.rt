@@ -54,9 +54,9 @@ pub fn none_moved()
         → map (λ c. c.at) (all_cut s fronts cells) ≡ map (λ c. c.at) cells }
 {}
 
-/// The pieces of a line on which entries run on stand apart, so each begins at its own column of the
-/// page: where they would if these filled their columns, and up to where they stop nothing stands
-/// but what they end in front of.
+/// The pieces of a line on which entries run on stand apart, so each begins at its own column of
+/// the page: where they would if these filled their columns, and up to where they stop nothing
+/// stands but what they end in front of.
 pub fn line_apart()
     ensures { (s : Sheet) (fronts : List Cell) (filled cells : List Shown) → AreAlike filled cells
         → FreeToStop s cells → HaveColumns fronts → length fronts ≤ length cells + 1

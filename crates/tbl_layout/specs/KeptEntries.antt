@@ -45,6 +45,11 @@ text_entry is_number from text = entry_by from (length text) (measured is_number
 abbrev pub not_filled : BlockEntry
 not_filled = record { measure = 0; lines = 0; width = 0; has_word = false }
 
+-- a field is a block
+abbrev pub IsBlock : EntryKind → Type 0
+IsBlock (BlockKind b) = Unit {0}
+IsBlock kind = ⊥
+
 -- how a field is kept that isn't measured
 abbrev pub kept_kind : FieldKind → EntryKind
 kept_kind (RuledField sign) = RuledKind sign

@@ -110,8 +110,8 @@ impl CellLeft {
     }
 
     /// What is left of it on the first line of its row, in front of which so many lines of rules
-    /// stand, as far as the rule counts that it shows there. The bars that meet a line of rules from
-    /// below are found by it, before these lines are given.
+    /// stand, as far as the rule counts that it shows there. The bars that meet a line of rules
+    /// from below are found by it, before these lines are given.
     pub fn on_first_line(self, rules: u128) -> CellLeft
         ensures { (bytes : List ℕ) (l : Left) → IsLeft bytes self l
             → ShowsRule bytes result (behind_rules rules l) }

@@ -1,5 +1,5 @@
-//! A line on which cells of several rows stand: what is left of its cells, and how it is laid (Lesk,
-//! "Tbl - A Program to Format Tables").
+//! A line on which cells of several rows stand: what is left of its cells, and how it is laid
+//! (Lesk, "Tbl - A Program to Format Tables").
 #![tactic(auto)]
 
 mod block_places;

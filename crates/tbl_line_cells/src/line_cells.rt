@@ -15,7 +15,8 @@ ghost use Rattle.tbl_lines.specs.RowsWalked.{AreNarrow, HasBars, IsNarrow};
 ghost use Rattle.tbl_line_cells.specs.LaidCells.{DrawsByte, EndsItself, IsDrawn, IsLaidCell};
 ghost use Rattle.tbl_line_cells.specs.LaidCells.{IsShown, drawn_in, on_line};
 ghost use Rattle.tbl_line_cells.specs.LaidCells.{place_among, row_column};
-ghost use Rattle.tbl_line_cells.specs.LinesDrawn.{CutMore, CutOn, CutSoFar, Draws, HasRoom, IsNoRow};
+ghost use Rattle.tbl_line_cells.specs.LinesDrawn.{CutMore, CutOn, CutSoFar, Draws, HasRoom};
+ghost use Rattle.tbl_line_cells.specs.LinesDrawn.{IsNoRow};
 ghost use Rattle.tbl_line_cells.specs.LinesDrawn.{InFront, IsNoted, LineIsLaid, RunInOrder};
 ghost use Rattle.tbl_line_cells.specs.LinesDrawn.{SoFar, passes_room, shown_in};
 ghost use Rattle.tbl_line_cells.specs.LinesDrawn.{as_row, if_any, kept_line};
@@ -144,8 +145,8 @@ impl LineCells {
         self.fronts.push_reserved(front);
     }
 
-    /// What runs on is cut in front of the next bar or rule, and of the column at which its cell ends
-    /// at the latest, in a picture so wide, which has what stands in front of cells or not.
+    /// What runs on is cut in front of the next bar or rule, and of the column at which its cell
+    /// ends at the latest, in a picture so wide, which has what stands in front of cells or not.
     pub fn cut_all(
         &mut self,
         escapes: &mut OpenEscapes,
@@ -198,8 +199,8 @@ impl LineCells {
         }
     }
 
-    /// Where the next bar or rule stands, with what stands in front of a cell, or behind the last, if
-    /// the picture has that.
+    /// Where the next bar or rule stands, with what stands in front of a cell, or behind the last,
+    /// if the picture has that.
     fn drawn_before(&self, at: usize, has_fronts: bool, next: usize) -> usize
         requires at { at < length self.now.fronts.items }
         requires some { AllByRecursion HasBars self.now.fronts.items }
@@ -268,8 +269,8 @@ impl LineCells {
         }
     }
 
-    /// Texts that begin at one column of the page stand in the order of the rows in which their cells
-    /// began.
+    /// Texts that begin at one column of the page stand in the order of the rows in which their
+    /// cells began.
     pub fn order(&mut self)
         ensures so_far { (bytes : List ℕ) (done : List Shown) (fronts : List Cell)
             → CutSoFar bytes (kept_line self.old) done fronts

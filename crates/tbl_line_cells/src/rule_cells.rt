@@ -15,7 +15,8 @@ ghost use Rattle.tbl_line_cells.specs.LinesDrawn.{CutOn, Draws, HasRoom, KeepsRo
 ghost use Rattle.tbl_line_cells.specs.LinesDrawn.{kept_line, keys_of};
 ghost use Rattle.tbl_line_cells.specs.RulesDrawn.{Cover, HasColumn, LaidTo, RuleGiven, RuleIsGiven};
 ghost use Rattle.tbl_line_cells.specs.RulesDrawn.{RuleIsLaid, StandsAs};
-ghost use Rattle.tbl_line_cells.specs.RulesDrawn.{begin_from, edge_drawn, front_list, is_whole_line};
+ghost use Rattle.tbl_line_cells.specs.RulesDrawn.{begin_from, edge_drawn, front_list};
+ghost use Rattle.tbl_line_cells.specs.RulesDrawn.{is_whole_line};
 
 use crate::cells::CellLeft;
 use crate::laid_cells::{drawn_at, nothing_ruled, repeated};

@@ -7,7 +7,7 @@ use Rattle.tbl_format.specs.Format.{FormatRow}
 use Rattle.tbl_format.specs.declared.format.FormatKey.{FormatKey}
 use Rattle.tbl_format.specs.declared.format.Key.{Key}
 use Rattle.tbl_format.specs.declared.format.Key.TheVariants.{Above as AboveKey, Alphabetic, Center, DoubleRule, Left, Numeric, Right, Rule, Spanned, WideNumeric}
-use Rattle.tbl_layout.specs.KeptEntries.{all_entries, no_entry, said_by_key}
+use Rattle.tbl_layout.specs.KeptEntries.{IsBlock, all_entries, no_entry, said_by_key}
 use Rattle.tbl_layout.specs.RuleKeys.{kind_of_key, under_keys}
 use Rattle.tbl_layout.specs.declared.data_lines.FieldKind.TheVariants.{Above as AboveField, Ruled as RuledField}
 use Rattle.tbl_layout.specs.declared.data_lines.RuleSign.{RuleSign}
@@ -17,7 +17,7 @@ use Rattle.tbl_layout.specs.declared.entry.EntryKind.TheVariants.{Above, Ruled, 
 use Rattle.tbl_layout.proofs.UnderKeys.{by_key, by_kind, get_or-behind}
 use Rattle.tbl_lines.specs.PictureLines.{Cell}
 use Rattle.tbl_lines.specs.RowsLeft.{first_cell}
-use Rattle.tbl_lines.specs.RowsWalked.{IsBlock, IsEmptyOn}
+use Rattle.tbl_lines.specs.RowsWalked.{IsEmptyOn}
 use Rattle.tbl_lines.proofs.CellsGiven.{above-empty, above-moved, text-empty, text-moved}
 use Rattle.tbl_lines.specs.declared.row_columns.RowColumn.{RowColumn}
 

@@ -9,10 +9,9 @@ use Rattle.tbl_layout.specs.declared.columns.Column.{Column}
 use Rattle.tbl_layout.specs.declared.entry.Entry.{Entry}
 use Rattle.tbl_layout.specs.declared.entry.EntryKind.{EntryKind}
 use Rattle.tbl_layout.specs.declared.entry.EntryKind.TheVariants.{Above, Block, Repeated, Ruled, Short, Split, Text}
-use Rattle.tbl_layout.specs.KeptEntries.{Lies, measure_by}
+use Rattle.tbl_layout.specs.KeptEntries.{IsBlock, Lies, measure_by}
 use Rattle.tbl_lines.specs.PictureLines.{Cell}
 use Rattle.tbl_lines.specs.RowsLeft.{begins_at, behind_first, block_text, cell_left, first_of, lines_left_by}
-use Rattle.tbl_lines.specs.RowsWalked.{IsBlock}
 use Rattle.tbl_lines.specs.declared.row_columns.RowColumn.{RowColumn}
 use Rattle.tbl_text.proofs.BlockSlices.{length-slice_range}
 use Rattle.tbl_text.specs.BlockLines.{lines_of, width_behind}

@@ -2,11 +2,9 @@
 use Rattle.std.specs.Prelude.{◌≡◌, ℕ, zero, suc, ◌+◌, ◌<◌, ◌≤◌, max, List, [], ◌∷◌, drop, length, map}
 use Rattle.std.specs.List.{AllByRecursion}
 use Rattle.tbl_layout.specs.Entries.{Run, block_line, up_to_last_glyph}
-use Rattle.tbl_layout.specs.KeptEntries.{measure_by}
+use Rattle.tbl_layout.specs.KeptEntries.{IsBlock, measure_by}
 use Rattle.tbl_layout.specs.declared.columns.Column.{Column}
 use Rattle.tbl_layout.specs.declared.entry.Entry.{Entry}
-use Rattle.tbl_layout.specs.declared.entry.EntryKind.{EntryKind}
-use Rattle.tbl_layout.specs.declared.entry.EntryKind.TheVariants.{Block}
 use Rattle.tbl_lines.specs.PictureLines.{Cell}
 use Rattle.tbl_lines.specs.RowsLeft.{behind_first, block_text, cell_left, first_of, lines_left_by, repeated_lines}
 use Rattle.tbl_lines.specs.declared.fronts.Front.{Front}
@@ -48,11 +46,6 @@ HasBars NoFront = Unit {0}
 HasBars (SomeBars at n) = 0 < n
 HasBars (Crossed at n sign end) = 0 < n
 HasBars (RuledFront from sign at count end) = (from ≤ at) × (at + count ≤ end)
-
--- a field is a block
-abbrev pub IsBlock : EntryKind → Type 0
-IsBlock (Block b) = Unit {0}
-IsBlock kind = ⊥
 
 -- the field of a column is a byte that is repeated so often
 pub record Repeats (b count : ℕ) (r : RowColumn) : Type 0 where

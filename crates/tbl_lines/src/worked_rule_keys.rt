@@ -67,8 +67,8 @@ pub fn boxed()
         ++ codes "\\&| c | d |\n\\&+---+---+\n\\&| e | f |\n\\&+---+---+\n" }
 {}
 
-/// At the two places of bars in the middle of four places between columns: where the first column is
-/// ruled, where the next one alone is, and where none is.
+/// At the two places of bars in the middle of four places between columns: where the first column
+/// is ruled, where the next one alone is, and where none is.
 pub fn places()
     ensures first { places_drawn 2 (Some Single) (Some Double) 1 ≡ codes "   -+-" }
     ensures next { places_drawn 2 None (Some Double) 1 ≡ codes "    +=" }

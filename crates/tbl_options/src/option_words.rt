@@ -3,7 +3,8 @@
 ghost use Rattle.std.specs.Prelude.{◌≡◌, ◌+◌, ◌-◌, codes, length, is_some, true, ◌<◌, ◌&&◌, ◌||◌};
 ghost use Rattle.std.specs.Prelude.{if◌then◌else◌};
 ghost use Rattle.std.specs.Option.{option_copied};
-ghost use Rattle.tbl_options.specs.declared.options.TableOption.TheVariants.{Unknown, WithoutEffect};
+ghost use Rattle.tbl_options.specs.declared.options.TableOption.TheVariants.{Unknown};
+ghost use Rattle.tbl_options.specs.declared.options.TableOption.TheVariants.{WithoutEffect};
 ghost use Rattle.tbl_options.specs.Options.{are_two_bytes, argument_of, as_small, has_brackets};
 ghost use Rattle.tbl_options.specs.Options.{is_name, one_byte, option_of, option_of_two};
 ghost use Rattle.tbl_options.specs.Options.{option_with_brackets, separating};

@@ -3,12 +3,12 @@ use Rattle.std.proofs.Common.{◌≡◌, ℕ, ◌+◌, ◌-◌, max, List, [], �
 use Rattle.std.proofs.lemmas.List.Sums.{sum_by-cons}
 use Rattle.input_source.specs.Bytes.{blank}
 use Rattle.tbl_layout.specs.Entries.{Run, blanks, block_line, columns_of, further_words, run_of_word}
-use Rattle.tbl_layout.specs.KeptEntries.{measure_by}
+use Rattle.tbl_layout.specs.KeptEntries.{IsBlock, measure_by}
 use Rattle.tbl_layout.specs.declared.entry.Entry.{Entry}
 use Rattle.tbl_lines.specs.PictureLines.{Cell, at_column, end_of}
 use Rattle.tbl_pieces.specs.PieceQueue.{Adds, KeptPieces}
 use Rattle.tbl_lines.specs.RowsLeft.{begins_at, block_text, cell_left, first_of, given, given_of, if_given, one_less, word_given}
-use Rattle.tbl_lines.specs.RowsWalked.{IsBlock, steps_of_word}
+use Rattle.tbl_lines.specs.RowsWalked.{steps_of_word}
 use Rattle.tbl_picture.specs.Walks.{AtColumn, KeptWalk, RowSteps, WalkedRow, at_word, further_lines, passed, row_left, row_steps}
 use Rattle.tbl_lines.specs.declared.row_columns.RowColumn.{RowColumn}
 use Rattle.tbl_picture.specs.Nexts.{AtCell, AtWord, Next}

@@ -1,7 +1,8 @@
 //! The pieces of which a table's picture is given (Lesk, "Tbl": Formatting).
 
 ghost use Rattle.std.specs.Prelude.{◌≡◌, ℕ, ◌+◌, ◌-◌, ◌*◌, ◌<◌, ◌≤◌, ◌^◌, List, ◌++◌, length};
-ghost use Rattle.std.specs.Prelude.{[], ◌∷◌, drop, min, replicate, slice_index, slice_range, vec_capacity};
+ghost use Rattle.std.specs.Prelude.{[], ◌∷◌, drop, min, replicate, slice_index, slice_range};
+ghost use Rattle.std.specs.Prelude.{vec_capacity};
 ghost use Rattle.std.specs.Prelude.{vec_len, if◌then◌else◌};
 ghost use Rattle.input_source.specs.Bytes.{blank};
 ghost use Rattle.tbl_format.specs.Parts.{IsFront};

@@ -30,7 +30,8 @@ use Rattle.tbl_table.specs.Begun.{FewKeys, begun_in}
 use Rattle.tbl_table.specs.Kept.{HasRooms, PartsFit, block_open, reading_of, row_open, table_of}
 use Rattle.tbl_table.specs.MayTell.{line_may_tell}
 use Rattle.tbl_table.specs.Reading.{Reading}
-use Rattle.tbl_table.specs.Steps.{BlockEnds, CanEnd, is_open}
+use Rattle.tbl_data.specs.OpenBlocks.{is_open}
+use Rattle.tbl_table.specs.Steps.{BlockEnds, CanEnd}
 use Rattle.tbl_table.specs.Table.{closed, closed_line}
 use Rattle.tbl_table.specs.declared.begun.Begun.{Begun}
 use Rattle.tbl_table.proofs.DataGrows.{Lies-behind, behind-less, none-begun, table-more}

@@ -20,7 +20,8 @@ use Rattle.tbl_kept.specs.TableText.{KeptText}
 use Rattle.tbl_layout.specs.KeptEntries.{content_of}
 use Rattle.tbl_table.specs.Kept.{KeysFit, PartsFit, PhaseFits, block_open, reading_of, row_open, table_of}
 use Rattle.tbl_table.specs.Reading.{Reading}
-use Rattle.tbl_table.specs.Steps.{BlockEnds, CanEnd, is_open}
+use Rattle.tbl_data.specs.OpenBlocks.{is_open}
+use Rattle.tbl_table.specs.Steps.{BlockEnds, CanEnd}
 use Rattle.tbl_table.specs.Table.{closed}
 use Rattle.tbl_table.specs.declared.begun.Begun.{Begun}
 use Rattle.tbl_table.proofs.DataGrows.{none-begun}

@@ -18,8 +18,7 @@ use Rattle.tbl_options.specs.declared.options.Options.{Options}
 use Rattle.tbl_kept.specs.TableNotes.{KeptNotes, no_notes}
 use Rattle.tbl_data.specs.declared.phase.Phase.{Phase}
 use Rattle.tbl_data.specs.declared.phase.Phase.TheVariants.{AtHead, Bad, InData, InFormat}
-use Rattle.tbl_data.specs.declared.table_data.OpenBlock.{OpenBlock}
-use Rattle.tbl_data.specs.declared.table_data.OpenBlock.TheVariants.{Dropped, Kept, Nothing}
+use Rattle.tbl_data.specs.declared.table_data.OpenBlock.TheVariants.{Nothing}
 use Rattle.tbl_data.specs.declared.table_data.TableData.{TableData}
 use Rattle.tbl_giving.specs.Giving.{with_newline}
 use Rattle.tbl_table.specs.Reading.{Reading}
@@ -119,12 +118,6 @@ is_front AtHead = true
 is_front InFormat = true
 is_front InData = false
 is_front Bad = false
-
--- whether a text block is open
-abbrev pub is_open : OpenBlock → Bool
-is_open Nothing = false
-is_open Kept = true
-is_open (Dropped had_surplus) = true
 
 -- the block that is open can end, with its row
 pub record CanEnd (d : TableData) : Type 0 where

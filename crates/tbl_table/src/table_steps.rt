@@ -10,8 +10,9 @@ ghost use Rattle.tbl_kept.specs.Joined.{goes_on};
 ghost use Rattle.tbl_format.specs.RowsServed.{all_rows};
 ghost use Rattle.tbl_kept.specs.TableText.{block_of};
 ghost use Rattle.tbl_options.specs.Notes.{NotesWithin, told_of_all};
+ghost use Rattle.tbl_data.specs.OpenBlocks.{is_open};
 ghost use Rattle.tbl_table.specs.Steps.{BlockEnds, CanEnd, data_behind};
-ghost use Rattle.tbl_table.specs.Steps.{emptied, fault_noted, head_letters, is_open, letters_noted};
+ghost use Rattle.tbl_table.specs.Steps.{emptied, fault_noted, head_letters, letters_noted};
 ghost use Rattle.tbl_table.specs.Steps.{options_told, phase_at_last, phase_behind, roomy};
 ghost use Rattle.tbl_table.specs.Steps.{with_cause, with_cut, with_keys};
 ghost use Rattle.tbl_options.specs.declared.notes.Cause.TheVariants.{BadFormat};
@@ -68,19 +69,8 @@ pub fn end_block(kept: &mut TableData)
     ensures done { is_open kept.old.open ≡ true → BlockEnds kept.old kept.new }
     ensures none { is_open kept.old.open ≡ false → kept.new ≡ kept.old }
 {
-    if is_open(kept.open) {
+    if kept.open.is_open() {
         kept.close_block();
-    }
-}
-
-/// Whether a text block is open.
-pub fn is_open(block: OpenBlock) -> bool
-    ensures { result ≡ is_open block }
-{
-    match block {
-        OpenBlock::Nothing => false,
-        OpenBlock::Kept => true,
-        OpenBlock::Dropped(_) => true,
     }
 }
 

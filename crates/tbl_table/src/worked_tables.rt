@@ -2,7 +2,8 @@
 
 ghost use Rattle.std.specs.Prelude.{◌≡◌, [], ◌∷◌, Some, None, codes};
 ghost use Rattle.tbl_options.specs.Notes.{told_at};
-ghost use Rattle.tbl_options.specs.declared.message.Message.TheVariants.{BadFormat, EntryCut, LeftOut};
+ghost use Rattle.tbl_options.specs.declared.message.Message.TheVariants.{BadFormat, EntryCut};
+ghost use Rattle.tbl_options.specs.declared.message.Message.TheVariants.{LeftOut};
 ghost use Rattle.tbl_options.specs.declared.message.Message.TheVariants.{NotMeasured};
 ghost use Rattle.tbl_options.specs.declared.message.Message.TheVariants.{RequestInTextBlock};
 ghost use Rattle.tbl_options.specs.declared.message.Message.TheVariants.{TooManyFields};

@@ -1,6 +1,7 @@
 //! How far a cell goes on below its row (Lesk, "Tbl": Format).
 
-ghost use Rattle.std.specs.Prelude.{◌≡◌, ℕ, suc, ◌+◌, ◌*◌, ◌<◌, ◌≤◌, ◌^◌, List, drop, length, IfSome, false};
+ghost use Rattle.std.specs.Prelude.{◌≡◌, ℕ, suc, ◌+◌, ◌*◌, ◌<◌, ◌≤◌, ◌^◌, List, drop, length};
+ghost use Rattle.std.specs.Prelude.{IfSome, false};
 ghost use Rattle.tbl_format.specs.Cells.{end_of};
 ghost use Rattle.tbl_format.specs.RowsServed.{all_rows, row_at};
 ghost use Rattle.tbl_kept.specs.KeptHeights.{cell_below_kept};
@@ -17,8 +18,8 @@ use tbl_kept::rows::heights::rules_between;
 use tbl_kept::rows::{Lent, TableRows};
 use tbl_layout::entry::{Entry, EntryKind};
 
-/// How many lines of the picture a cell of a row has below it, where some cells of the row may go on
-/// in the next one, or none does.
+/// How many lines of the picture a cell of a row has below it, where some cells of the row may go
+/// on in the next one, or none does.
 // It is called for each cell, and mostly is over at once.
 #[inline(always)]
 pub fn lines_over(

@@ -3,7 +3,8 @@
 
 ghost use Rattle.std.specs.List.{AllByRecursion};
 ghost use Rattle.std.specs.Option.{MatchOption};
-ghost use Rattle.std.specs.Prelude.{◌≡◌, ℕ, suc, ◌+◌, ◌-◌, ◌<◌, ◌≤◌, ◌^◌, [], ◌∷◌, List, Bool, drop, length};
+ghost use Rattle.std.specs.Prelude.{◌≡◌, ℕ, suc, ◌+◌, ◌-◌, ◌<◌, ◌≤◌, ◌^◌, [], ◌∷◌, List, Bool};
+ghost use Rattle.std.specs.Prelude.{drop, length};
 ghost use Rattle.std.specs.Prelude.{vec_capacity, None, Some, IfSome, false, map};
 ghost use Rattle.tbl_format.specs.Cells.{cell_count, end_of};
 ghost use Rattle.tbl_format.specs.RowsServed.{all_rows, row_at};

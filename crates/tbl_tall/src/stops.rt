@@ -107,8 +107,8 @@ fn first_from(cells: &[CellLeft], at: usize, next: usize) -> usize
     cells[at - 1].key.end as usize
 }
 
-/// Behind how many columns the first cell begins, behind a cell, in which something stands in one of
-/// the rows below that the cell covers, if that are fewer than so many, else these.
+/// Behind how many columns the first cell begins, behind a cell, in which something stands in one
+/// of the rows below that the cell covers, if that are fewer than so many, else these.
 fn stop_below(
     rows: &TableRows,
     format: &FormatRows,

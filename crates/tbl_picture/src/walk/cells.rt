@@ -2,11 +2,12 @@
 
 ghost use Rattle.std.specs.Prelude.{◌≡◌, ℕ, suc, ◌+◌, ◌-◌, ◌<◌, ◌≤◌, List, [], ◌∷◌, ◌++◌};
 ghost use Rattle.std.specs.Prelude.{false, length, min, true};
+ghost use Rattle.tbl_layout.specs.KeptEntries.{IsBlock};
 ghost use Rattle.tbl_layout.specs.declared.entry.EntryKind.TheVariants.{Split, Text};
 ghost use Rattle.tbl_pieces.specs.Pieces.{bytes_of, piece_len};
 ghost use Rattle.tbl_pieces.specs.PieceQueue.{Adds, KeptPieces};
 ghost use Rattle.tbl_lines.specs.RowsLeft.{end_given, if_given};
-ghost use Rattle.tbl_lines.specs.RowsWalked.{IsBlock, IsEmptyOn};
+ghost use Rattle.tbl_lines.specs.RowsWalked.{IsEmptyOn};
 ghost use Rattle.tbl_picture.specs.Nexts.{AtCell, AtLine};
 
 use super::fronts::{count_given, next_column};

@@ -16,7 +16,7 @@ ghost use Rattle.tbl_data.specs.declared.phase.Phase.TheVariants.{AtHead, Bad, I
 
 use super::Table;
 use crate::begun::Begun;
-use crate::table_steps::{goes_on, is_open, take_keys};
+use crate::table_steps::{goes_on, take_keys};
 use tbl_data::phase::Phase;
 use tbl_layout::data_lines::ends_row;
 use tbl_options::options::{options_end, read_options};
@@ -66,7 +66,7 @@ impl Table {
     {
         !goes_on(self.text.line())
             && ends_row(
-                is_open(self.kept.open),
+                self.kept.open.is_open(),
                 self.options.separator,
                 self.text.joined_line(),
             )

@@ -27,8 +27,8 @@ impl TallRow {
         self.lines_left
     }
 
-    /// Something in these cells was cut on the line that is laid. Answers in how many of them nothing
-    /// was before.
+    /// Something in these cells was cut on the line that is laid. Answers in how many of them
+    /// nothing was before.
     pub fn mark_cut(&mut self) -> usize
         ensures count { (columns : ℕ) (cut : List Left) → CutOn columns self.old.line cut
             → result ≡ first_cut columns cut }

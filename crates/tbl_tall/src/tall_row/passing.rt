@@ -1,7 +1,8 @@
 //! The lines of the row that comes next, and those of rules in front of it: laid, and given.
 
 ghost use Rattle.std.specs.List.{AllByRecursion};
-ghost use Rattle.std.specs.Prelude.{◌≡◌, ℕ, suc, ◌-◌, ◌<◌, ◌≤◌, ◌^◌, List, length, map, nat_lt, true};
+ghost use Rattle.std.specs.Prelude.{◌≡◌, ℕ, suc, ◌-◌, ◌<◌, ◌≤◌, ◌^◌, List, length, map, nat_lt};
+ghost use Rattle.std.specs.Prelude.{true};
 ghost use Rattle.std.specs.Prelude.{◌+◌, [], None, get_or, vec_capacity};
 ghost use Rattle.tbl_format.specs.Cells.{AreCells};
 ghost use Rattle.tbl_format.specs.Format.{FormatRow, columns_of};

@@ -1,9 +1,9 @@
-use Rattle.std.proofs.Common.{◌≡◌, ◌∙◌, ℕ, List, length, map, take, sym, ap, subst}
+use Rattle.std.proofs.Common.{◌≡◌, ◌∙◌, ℕ, List, length, map, take, sym, ap, subst, arith}
 use Rattle.input_source.specs.Tape.{OneByte, Took}
 use Rattle.tbl_core.specs.NotesLeft.{noted}
 use Rattle.tbl_core.specs.ReadOn.{line_read}
 use Rattle.tbl_core.specs.Source.{WasAsked}
-use Rattle.tbl_core.proofs.ReadOn.{line_goes_on, line_takes, some_bytes}
+use Rattle.tbl_core.proofs.ReadOn.{few_behind_line, fewer_behind_line, line_goes_on, line_reads_on, line_takes, some_bytes}
 use Rattle.tbl_core.proofs.source.TblSource.read_line.Goals as goal
 
 pub invariant_of-self : goal.invariant_of-self
@@ -23,13 +23,20 @@ returns-clause-silent g c = λ is.
     let given = c.at_most.ensures ∙ ap (take (length front)) c.buffered-2.ensures ∙ same in
     let known = c.reading-count.ensures.reads (some_bytes (length front) c.if-count-eq0.false) in
     let none = ap (λ s. s.tables.at.pending) c.self.view_is ∙ c.requires.pending in
-    let behind = c.read_line.ensures.behind ∙ ap (λ (bytes : List ℕ). line_read bytes old.at.standing) given in
+    let after = c.read_line.ensures in
+    let behind = after.behind ∙ ap (λ (bytes : List ℕ). line_read bytes old.at.standing) given in
     let took = subst (λ (bytes : List ℕ). Took (g.S.ByteSource.gives c.self.inside.inner) (g.S.ByteSource.gives c.pass.new.self) (map OneByte bytes)) same c.pass.ensures.gives in
     rw (← c.self.view_is)
-    (line_goes_on old new front known none c.read_line.ensures.pending behind c.read_line.ensures.limits c.read_line.ensures.line_length _ _ took)
+    (record {
+      goes_on = line_goes_on old new front known none after.pending behind after.limits after.line_length _ _ took;
+      takes_on = line_takes old new front known none after.pending behind after.limits _ _ took;
+      pending = after.pending;
+      reads = line_reads_on old new front known none after.pending behind after.limits;
+      falls = omega (arith, fewer_behind_line old new front known none after.pending behind after.limits, c.pass.ensures.notes);
+    })
 
-pub returns-clause-takes_on : goal.returns-clause-takes_on
-returns-clause-takes_on g c = λ is.
+pub returns-clause-later : goal.returns-clause-later
+returns-clause-later g c =
     let old = c.self.inside.tables in
     let new = c.read_line.new.self in
     let front = c.reading-count.result.now in
@@ -38,7 +45,12 @@ returns-clause-takes_on g c = λ is.
     let given = c.at_most.ensures ∙ ap (take (length front)) c.buffered-2.ensures ∙ same in
     let known = c.reading-count.ensures.reads (some_bytes (length front) c.if-count-eq0.false) in
     let none = ap (λ s. s.tables.at.pending) c.self.view_is ∙ c.requires.pending in
-    let behind = c.read_line.ensures.behind ∙ ap (λ (bytes : List ℕ). line_read bytes old.at.standing) given in
-    let took = subst (λ (bytes : List ℕ). Took (g.S.ByteSource.gives c.self.inside.inner) (g.S.ByteSource.gives c.pass.new.self) (map OneByte bytes)) same c.pass.ensures.gives in
+    let after = c.read_line.ensures in
+    let behind = after.behind ∙ ap (λ (bytes : List ℕ). line_read bytes old.at.standing) given in
     rw (← c.self.view_is)
-    (line_takes old new front known none c.read_line.ensures.pending behind c.read_line.ensures.limits _ _ took)
+    (record {
+      limits = after.limits;
+      line_length = after.line_length;
+      notes = few_behind_line old new front known none after.pending behind after.limits;
+      failures = omega (arith, c.pass.ensures.failures);
+    })

@@ -17,38 +17,32 @@ invariant_of-self g c = record {
 
 pub returns-in-Some-clause-silent : goal.returns-in-Some-clause-silent
 returns-in-Some-clause-silent g c = λ is.
+    let t = c.self.inside.tables in
+    let new = c.read_next.new.self in
+    let behind = c.read_next.ensures in
+    let given = c.in-Some.ensures.gives in
+    let out = behind.pending ∙ sym behind.out in
     let none = ap (λ s. s.tables.at.pending) c.self.view_is ∙ c.requires.pending in
     let reads = ap (λ s. stopped_by s.tables.at.standing) c.self.view_is ∙ c.requires.reads in
-    let behind = c.read_next.ensures in
-    rw (← c.self.view_is)
-    (byte_goes_on c.self.inside.tables c.read_next.new.self c.in-Some.byte _ _ None none reads c.in-Some.ensures.gives
-    (behind.pending ∙ sym behind.out) behind.behind behind.limits behind.line_length)
-
-pub returns-in-Some-clause-takes_on : goal.returns-in-Some-clause-takes_on
-returns-in-Some-clause-takes_on g c = λ is.
-    let none = ap (λ s. s.tables.at.pending) c.self.view_is ∙ c.requires.pending in
-    let reads = ap (λ s. stopped_by s.tables.at.standing) c.self.view_is ∙ c.requires.reads in
-    let behind = c.read_next.ensures in
-    rw (← c.self.view_is)
-    (byte_takes c.self.inside.tables c.read_next.new.self c.in-Some.byte _ _ None none reads c.in-Some.ensures.gives
-    (behind.pending ∙ sym behind.out) behind.behind)
-
-pub returns-in-Some-clause-reads : goal.returns-in-Some-clause-reads
-returns-in-Some-clause-reads g c =
-    let t = c.self.inside.tables in
-    let reads = ap (λ s. stopped_by s.tables.at.standing) c.self.view_is ∙ c.requires.reads in
-    rw c.read_next.ensures.behind (byte_reads t.limits t.line_length c.in-Some.byte t.at.standing reads c.read_next.ensures.out)
-
-pub returns-in-Some-clause-falls : goal.returns-in-Some-clause-falls
-returns-in-Some-clause-falls g c = λ is.
-    let t = c.self.inside.tables in
-    let reads = ap (λ s. stopped_by s.tables.at.standing) c.self.view_is ∙ c.requires.reads in
-    let fewer = fewer_behind t.limits t.line_length c.in-Some.byte t.at.standing reads c.read_next.ensures.out in
+    let fewer = fewer_behind t.limits t.line_length c.in-Some.byte t.at.standing reads behind.out in
     let notes = c.in-Some.ensures.notes in
-    rw (← c.self.view_is, c.read_next.ensures.limits, c.read_next.ensures.behind) (omega (arith, fewer, notes))
+    rw (← c.self.view_is)
+    (record {
+      goes_on = byte_goes_on t new c.in-Some.byte _ _ None none reads given out behind.behind behind.limits behind.line_length;
+      takes_on = byte_takes t new c.in-Some.byte _ _ None none reads given out behind.behind;
+      pending = behind.pending;
+      reads = rw behind.behind (byte_reads t.limits t.line_length c.in-Some.byte t.at.standing reads behind.out);
+      falls = rw (behind.limits, behind.behind) (omega (arith, fewer, notes));
+    })
 
-pub returns-in-Some-clause-notes : goal.returns-in-Some-clause-notes
-returns-in-Some-clause-notes g c =
+pub returns-in-Some-clause-later : goal.returns-in-Some-clause-later
+returns-in-Some-clause-later g c =
     let behind = c.read_next.ensures in
     rw (← c.self.view_is)
-    (few_behind_byte c.self.inside.tables c.read_next.new.self c.in-Some.byte None (behind.pending ∙ sym behind.out) behind.behind behind.limits)
+    (record {
+      limits = behind.limits;
+      line_length = behind.line_length;
+      notes = few_behind_byte c.self.inside.tables c.read_next.new.self c.in-Some.byte None (behind.pending ∙ sym behind.out) behind.behind
+          behind.limits;
+      failures = omega (arith, c.in-Some.ensures.failures);
+    })

@@ -23,32 +23,31 @@ loop-self-preserved-in_default g c =
     let kept = c.read_on.ensures.kept c.if-not-read_on.true in
     let silent = rw kept at out.silent refl in
     let takes_on = rw kept at out.takes_on refl in
-    let notes = c.read_on.ensures.notes in
-    let failures = c.read_on.ensures.failures in
+    let later = c.read_on.ensures.later in
     record {
       pending = out.pending refl;
       reads = out.reads refl;
       goes_on = λ t given. inv.goes_on t (silent t given);
-      notes = omega (arith, inv.notes, notes, out.notes);
+      notes = omega (arith, inv.notes, later.notes, out.notes);
       takes_on = takes_on_behind _ _ _ c.args.self.now.tables c.loop-self.self.tables c.turn.new.self.tables inv.limits inv.line_length inv.takes_on takes_on;
-      limits = out.limits ∙ c.read_on.ensures.limits ∙ inv.limits;
-      line_length = out.line_length ∙ c.read_on.ensures.line_length ∙ inv.line_length;
-      failures = omega (arith, inv.failures, failures, out.failures);
+      limits = out.limits ∙ later.limits ∙ inv.limits;
+      line_length = out.line_length ∙ later.line_length ∙ inv.line_length;
+      failures = omega (arith, inv.failures, later.failures, out.failures);
     }
 
 pub loop-self-preserved : goal.loop-self-preserved
 loop-self-preserved g c =
     let inv = c.loop-self.invariant in
-    let out = c.read_on.ensures in
-    let took = c.if-not-read_on.false in
+    let later = c.read_on.ensures.later in
+    let silent = c.read_on.ensures.silent c.if-not-read_on.false in
     record {
-      pending = out.pending;
-      reads = out.reads;
-      goes_on = λ t given. inv.goes_on t (out.silent took t given);
-      notes = omega (arith, inv.notes, out.notes);
+      pending = silent.pending;
+      reads = silent.reads;
+      goes_on = λ t given. inv.goes_on t (silent.goes_on t given);
+      notes = omega (arith, inv.notes, later.notes);
       takes_on = takes_on_behind _ _ _ c.args.self.now.tables c.loop-self.self.tables c.read_on.new.self.tables inv.limits inv.line_length
-          inv.takes_on (out.takes_on took);
-      limits = out.limits ∙ inv.limits;
-      line_length = out.line_length ∙ inv.line_length;
-      failures = omega (arith, inv.failures, out.failures);
+          inv.takes_on silent.takes_on;
+      limits = later.limits ∙ inv.limits;
+      line_length = later.line_length ∙ inv.line_length;
+      failures = omega (arith, inv.failures, later.failures);
     }

@@ -6,9 +6,8 @@ use Rattle.tbl_lines.specs.RowsLeft.{block_text, if_given, one_less}
 use Rattle.tbl_picture.specs.Walks.{AtColumn, InWord, IsNear, KeptWalk, RowSteps, at_word, columns_walked, kept_by, lent_row, passed, reached_by}
 use Rattle.tbl_pieces.proofs.Adding.{adds-fewer, adds-more}
 use Rattle.tbl_picture.proofs.CellSteps.{end-within}
-use Rattle.tbl_layout.specs.KeptEntries.{measure_by, no_entry}
+use Rattle.tbl_layout.specs.KeptEntries.{IsBlock, measure_by, no_entry}
 use Rattle.tbl_layout.specs.declared.entry.Entry.{Entry}
-use Rattle.tbl_lines.specs.RowsWalked.{IsBlock}
 use Rattle.tbl_picture.proofs.ColumnSteps.{column-there, entry-there}
 use Rattle.tbl_lines.proofs.GivenFields.{block-given}
 use Rattle.tbl_lines.proofs.RowColumns.{length-row_columns}
