@@ -34,23 +34,23 @@ mod waiting;
 pub use calls::CALL_ARGUMENTS;
 use page_model::Param;
 use read_meaning::{Meaning, RequestEvents};
-use read_registers::RunRegisters;
+use read_registers::Lasting;
 use roff_num::{Limit, Num};
 use roff_scan::Unread;
 use run_model::{Due, LineEvents, LineState, Message, PageEvent, Step};
 use std::alloc::{AllocError, Global};
 use std::marker::Model;
 
-/// What is being read, the number registers, and what the last step means that has no name of its
-/// own: that may be much and is rare, so it is kept here, and steps are small.
+/// What is being read, what lasts of a run behind a line, and what the last step means that has no
+/// name of its own: that may be much and is rare, so it is kept here, and steps are small.
 ///
 /// All its memory is reserved as it is made.
 #[derive(Drop)]
 pub struct Reader {
     /// What is being read.
     pub reading: LineState,
-    /// The number registers, and the title that is read.
-    pub registers: RunRegisters,
+    /// The number registers, the titles, and the macro that is read behind the input.
+    pub lasting: Lasting,
     /// What the last step means that has no name of its own.
     pub meaning: Meaning,
 }
@@ -62,7 +62,7 @@ impl Model for Reader {
 
     ghost view = { λ r. record {
       reading = r.reading;
-      registers = r.registers;
+      registers = r.lasting;
       meaning = r.meaning;
     } };
 }
@@ -75,7 +75,7 @@ impl Reader {
     {
         Ok(Reader {
             reading: LineState::LineStart,
-            registers: RunRegisters::new(alloc, names_cap, line)?,
+            lasting: Lasting::new(alloc, names_cap, line)?,
             meaning: Meaning::new(),
         })
     }
@@ -108,7 +108,7 @@ impl Reader {
           registers = after (given_change name value) self.old.registers;
         } }
     {
-        self.registers.give(name, value)
+        self.lasting.registers.give(name, value)
     }
 
     /// A line begins.

@@ -22,7 +22,7 @@ use crate::telling::{happen, keep, keep_stops, say, set_always};
 use page_model::{LayoutEvent, Param};
 use read_meaning::{Meaning, RequestEvents};
 use read_names::remove_names_given;
-use read_registers::{RunRegisters, page_name};
+use read_registers::{Lasting, page_name};
 use read_requests::{Changes, Given, Numbers, RequestFacts, Response, response};
 use roff_num::{Limit, Num};
 use roff_scan::Unread;
@@ -37,7 +37,7 @@ use run_state::Composer;
 /// The limit on names, if more would have a register.
 #[inline(always)]
 pub fn act(
-    registers: &mut RunRegisters,
+    lasting: &mut Lasting,
     meaning: &mut Meaning,
     breaks: bool,
     request: Request,
@@ -45,18 +45,18 @@ pub fn act(
     unread: &mut Unread<PageEvent>,
 ) -> Result<Step, Limit>
     ensures { Acts breaks request composer.now
-        (kept registers.old meaning.old) (kept registers.new meaning.new)
+        (kept lasting.old meaning.old) (kept lasting.new meaning.new)
         unread.old unread.new result }
 {
     match request {
         Request::Break => Ok(broken(breaks)),
-        Request::NumberRegister => set_register(registers, meaning, composer, unread),
+        Request::NumberRegister => set_register(lasting, meaning, composer, unread),
         Request::Indent => Ok(set_indent(meaning, breaks, composer, unread)),
         Request::WithoutEffect(_) => Ok(Step::Nothing),
         Request::Fill => Ok(set_always(meaning, breaks, Param::Filling(true))),
         Request::NoFill => Ok(set_always(meaning, breaks, Param::Filling(false))),
         Request::NoAdjust => Ok(set_always(meaning, false, Param::Adjusting(false))),
-        _ => act_on_arguments(registers, meaning, breaks, request, composer, unread),
+        _ => act_on_arguments(lasting, meaning, breaks, request, composer, unread),
     }
 }
 
@@ -67,7 +67,7 @@ pub fn act(
 /// The limit on names, if more would have a register.
 #[inline(never)]
 fn act_on_arguments(
-    registers: &mut RunRegisters,
+    lasting: &mut Lasting,
     meaning: &mut Meaning,
     breaks: bool,
     request: Request,
@@ -75,12 +75,12 @@ fn act_on_arguments(
     unread: &mut Unread<PageEvent>,
 ) -> Result<Step, Limit>
     ensures { Acts breaks request composer.now
-        (kept registers.old meaning.old) (kept registers.new meaning.new)
+        (kept lasting.old meaning.old) (kept lasting.new meaning.new)
         unread.old unread.new result }
 {
     let breaks = breaks_by(breaks, request);
-    let response = response_to(registers, request, composer, unread);
-    respond(registers, meaning, breaks, response, unread)
+    let response = response_to(lasting, request, composer, unread);
+    respond(lasting, meaning, breaks, response, unread)
 }
 
 /// Does what a request answers.
@@ -90,14 +90,14 @@ fn act_on_arguments(
 /// The limit on names, if more would have a register.
 #[inline(always)]
 fn respond(
-    registers: &mut RunRegisters,
+    lasting: &mut Lasting,
     meaning: &mut Meaning,
     breaks: bool,
     response: Response,
     unread: &mut Unread<PageEvent>,
 ) -> Result<Step, Limit>
     ensures { DoesEffect (meant_by breaks (response_of (texts_read unread.old) response))
-        (kept registers.old meaning.old) (kept registers.new meaning.new)
+        (kept lasting.old meaning.old) (kept lasting.new meaning.new)
         unread.old unread.new result }
 {
     match response {
@@ -126,11 +126,11 @@ fn respond(
             RequestEvents::One(behind),
         )),
         Response::Changes(changes) => {
-            change(registers, &changes, unread)?;
+            change(lasting, &changes, unread)?;
             Ok(broken(breaks))
         }
         Response::Numbers(value, increment) => {
-            set_numbers(registers, &page_name(), Numbers { value, increment })?;
+            set_numbers(lasting, &page_name(), Numbers { value, increment })?;
             Ok(happen(meaning, breaks, PageEvent::Page(LayoutEvent::Number(value))))
         }
         Response::SetsStops => Ok(keep_stops(meaning, breaks, unread.arguments())),
@@ -139,14 +139,14 @@ fn respond(
 
 /// What a request does behind its break, with the arguments that were read.
 fn response_to(
-    registers: &RunRegisters,
+    lasting: &Lasting,
     request: Request,
     composer: &Composer,
     unread: &Unread<PageEvent>,
 ) -> Response
     ensures { (l : Limits) (h : PageHistory) → StandFor l h composer.now
         → response_of (texts_read unread.now) result ≡ (row_of request).does
-        (known_at h registers.now.all unread.now.input) (texts_read unread.now) }
+        (known_at h lasting.now.all unread.now.input) (texts_read unread.now) }
 {
     let arguments = unread.arguments();
     let given = Given {
@@ -156,7 +156,7 @@ fn response_to(
     };
     let known = RequestFacts {
         composer,
-        in_force: in_force_for(registers, request, given.first, composer, unread),
+        in_force: in_force_for(lasting, request, given.first, composer, unread),
     };
     response(request, known, given)
 }
@@ -164,7 +164,7 @@ fn response_to(
 /// The value in force of the register that a first argument names, if the request asks for it.
 #[inline(always)]
 fn in_force_for(
-    registers: &RunRegisters,
+    lasting: &Lasting,
     request: Request,
     first: Option<&[u8]>,
     composer: &Composer,
@@ -173,10 +173,10 @@ fn in_force_for(
     ensures { (l : Limits) (h : PageHistory) (as_given : List (List ℕ))
         → StandFor l h composer.now → option_copied first.entry ≡ slice_get as_given 0
         → request ≡ NumberRegister → IfSome (register_named as_given) (λ name. result
-        ≡ value_in_force (known_at h registers.now.all unread.now.input) name) }
+        ≡ value_in_force (known_at h lasting.now.all unread.now.input) name) }
 {
     match request {
-        Request::NumberRegister => in_force(registers, first, composer, unread),
+        Request::NumberRegister => in_force(lasting, first, composer, unread),
         _ => Num(0),
     }
 }
@@ -187,12 +187,12 @@ fn in_force_for(
 ///
 /// The limit on names, if more would have a register.
 fn change(
-    registers: &mut RunRegisters,
+    lasting: &mut Lasting,
     changes: &Changes,
     unread: &mut Unread<PageEvent>,
 ) -> Result<(), Limit>
     ensures changed { Changed (changes_of (reverse unread.old.input.arguments.whole) changes.now)
-        registers.old registers.new result }
+        lasting.old lasting.new result }
     ensures called { unread.new ≡ record unread.old {
       input = calling_all (calls_of (reverse unread.old.input.arguments.whole) changes.now)
           unread.old.input;
@@ -200,9 +200,9 @@ fn change(
 {
     match changes {
         Changes::Nothing => Ok(()),
-        Changes::One(change) => registers.apply(change),
+        Changes::One(change) => lasting.apply(change),
         Changes::RemoveGiven => {
-            remove_given(registers, unread.arguments());
+            remove_given(lasting, unread.arguments());
             Ok(())
         }
         Changes::RemoveNamesGiven => {

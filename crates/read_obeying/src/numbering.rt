@@ -19,7 +19,7 @@ ghost use Rattle.run_model.specs.declared.request.Request.TheVariants.{NumberReg
 use crate::telling::report;
 use read_meaning::Meaning;
 use read_names::facts;
-use read_registers::{RunRegisters, is_page};
+use read_registers::{Lasting, is_page};
 use read_requests::{Numbers, numbers_given, register_named};
 use roff_num::{Limit, Name, Num};
 use roff_scan::Unread;
@@ -33,13 +33,13 @@ use run_state::Composer;
 ///
 /// The limit on names, if more would have a register.
 pub(crate) fn set_register(
-    registers: &mut RunRegisters,
+    lasting: &mut Lasting,
     meaning: &mut Meaning,
     composer: &Composer,
     unread: &Unread<PageEvent>,
 ) -> Result<Step, Limit>
     ensures { (breaks : Bool) → Acts breaks NumberRegister composer.now
-        (kept registers.old meaning.old) (kept registers.new meaning.new)
+        (kept lasting.old meaning.old) (kept lasting.new meaning.new)
         unread.now unread.now result }
 {
     let arguments = unread.arguments();
@@ -48,9 +48,9 @@ pub(crate) fn set_register(
         Some(name) => match arguments.get(1) {
             None => Ok(Step::Nothing),
             Some(text) => {
-                let in_force = value_beside(registers, &name, text, composer, unread);
+                let in_force = value_beside(lasting, &name, text, composer, unread);
                 let numbers = numbers_given(in_force, text, arguments.get(2));
-                set_to(registers, meaning, &name, numbers)
+                set_to(lasting, meaning, &name, numbers)
             }
         },
     }
@@ -59,7 +59,7 @@ pub(crate) fn set_register(
 /// The value in force beside which a text sets a register: 0 where no sign stands in front of it.
 #[inline(always)]
 fn value_beside(
-    registers: &RunRegisters,
+    lasting: &Lasting,
     name: &Name,
     text: &[u8],
     composer: &Composer,
@@ -67,29 +67,26 @@ fn value_beside(
 ) -> Num
     ensures { (l : Limits) (h : PageHistory) → StandFor l h composer.now
         → value_beside result.0 Units text.now ≡ value_beside (value_in_force
-        (known_at h registers.now.all unread.now.input) name.now).0 Units text.now }
+        (known_at h lasting.now.all unread.now.input) name.now).0 Units text.now }
 {
     match text.split_first() {
-        Some((b'+', _)) => value_now(registers, name, composer, unread),
-        Some((b'-', _)) => value_now(registers, name, composer, unread),
+        Some((b'+', _)) => value_now(lasting, name, composer, unread),
+        Some((b'-', _)) => value_now(lasting, name, composer, unread),
         _ => Num(0),
     }
 }
 
 /// The value in force of a register.
 #[inline(always)]
-fn value_now(
-    registers: &RunRegisters,
-    name: &Name,
-    composer: &Composer,
-    unread: &Unread<PageEvent>,
-) -> Num
+fn value_now(lasting: &Lasting, name: &Name, composer: &Composer, unread: &Unread<PageEvent>) -> Num
     ensures { (l : Limits) (h : PageHistory) → StandFor l h composer.now → result
-        ≡ value_in_force (known_at h registers.now.all unread.now.input) name.now }
+        ≡ value_in_force (known_at h lasting.now.all unread.now.input) name.now }
 {
-    match registers.set_value(name) {
+    match lasting.registers.set_value(name) {
         Some(value) => value,
-        None => registers.value_in_force(name, facts(composer, unread)),
+        None => lasting
+            .registers
+            .value_in_force(name, facts(composer, unread)),
     }
 }
 
@@ -100,17 +97,17 @@ fn value_now(
 /// The limit on names, if more would have a register.
 #[inline(always)]
 fn set_to(
-    registers: &mut RunRegisters,
+    lasting: &mut Lasting,
     meaning: &mut Meaning,
     name: &Name,
     numbers: Option<Numbers>,
 ) -> Result<Step, Limit>
     ensures { (u : PageUnread) → DoesEffect (meant_by false (set_by name.now numbers))
-        (kept registers.old meaning.old) (kept registers.new meaning.new) u u result }
+        (kept lasting.old meaning.old) (kept lasting.new meaning.new) u u result }
 {
     match numbers {
         Some(numbers) => {
-            set_numbers(registers, name, numbers)?;
+            set_numbers(lasting, name, numbers)?;
             Ok(number_page_by(meaning, name, numbers.value))
         }
         None => Ok(report(meaning, Message::BadNumber)),
@@ -123,15 +120,13 @@ fn set_to(
 ///
 /// The limit on names, if more would have a register.
 #[inline(always)]
-pub(crate) fn set_numbers(
-    registers: &mut RunRegisters,
-    name: &Name,
-    numbers: Numbers,
-) -> Result<(), Limit>
+pub(crate) fn set_numbers(lasting: &mut Lasting, name: &Name, numbers: Numbers) -> Result<(), Limit>
     ensures changed { Changed (SetTo name.now numbers.value numbers.increment ∷ [])
-        registers.old registers.new result }
+        lasting.old lasting.new result }
 {
-    registers.set(name, numbers.value, numbers.increment)
+    lasting
+        .registers
+        .set(name, numbers.value, numbers.increment)
 }
 
 /// The page gets a number, if the register of this name is the page number's.

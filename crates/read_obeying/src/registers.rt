@@ -12,7 +12,7 @@ ghost use Rattle.run_model.specs.Requests.Numbering.{names_given};
 ghost use Rattle.run_model.specs.Run.{known_at};
 
 use read_names::facts;
-use read_registers::RunRegisters;
+use read_registers::Lasting;
 use read_requests::register_named;
 use roff_num::Num;
 use roff_scan::{ArgumentList, Unread};
@@ -21,7 +21,7 @@ use run_state::Composer;
 
 /// The value in force of the register that a first argument names; 0 if it names none.
 pub(crate) fn in_force(
-    registers: &RunRegisters,
+    lasting: &Lasting,
     first: Option<&[u8]>,
     composer: &Composer,
     unread: &Unread<PageEvent>,
@@ -29,27 +29,29 @@ pub(crate) fn in_force(
     ensures { (l : Limits) (h : PageHistory) (as_given : List (List ℕ))
         → StandFor l h composer.now → option_copied first.entry ≡ slice_get as_given 0
         → IfSome (register_named as_given) (λ name. result
-        ≡ value_in_force (known_at h registers.now.all unread.now.input) name) }
+        ≡ value_in_force (known_at h lasting.now.all unread.now.input) name) }
 {
     match register_named(first) {
-        Some(name) => match registers.set_value(&name) {
+        Some(name) => match lasting.registers.set_value(&name) {
             Some(value) => value,
-            None => registers.value_in_force(&name, facts(composer, unread)),
+            None => lasting
+                .registers
+                .value_in_force(&name, facts(composer, unread)),
         },
         None => Num(0),
     }
 }
 
 /// Removes the registers that arguments name.
-pub(crate) fn remove_given(registers: &mut RunRegisters, arguments: ArgumentList<'_>)
-    ensures { registers.new ≡ record registers.old {
-      all = changed_by (Remove (names_given (listed arguments.entry))) registers.old.all;
+pub(crate) fn remove_given(lasting: &mut Lasting, arguments: ArgumentList<'_>)
+    ensures { lasting.new ≡ record lasting.old {
+      all = changed_by (Remove (names_given (listed arguments.entry))) lasting.old.all;
     } }
 {
     for index in 0..arguments.len() {
         if let Some(text) = arguments.get(index) {
             if let Some(name) = name_given(text) {
-                registers.remove(&name);
+                lasting.registers.remove(&name);
             }
         }
     }

@@ -13,7 +13,7 @@ use Rattle.roff_store.specs.Registers.{Call, Registers, after as after_call, reg
 use Rattle.roff_store.specs.declared.register.Register.{Register}
 use Rattle.run_model.specs.Registers.{AllRegisters, Change, SetTo, FormatAs, is_page, is_read_only}
 use Rattle.run_model.specs.Registers.Capped.{Capped, admitted, after, is_past_cap, with_change}
-use Rattle.read_registers.specs.Registers.Kept.{IsCounted, capped_of}
+use Rattle.read_registers.specs.Registers.Kept.{IsCounted, with_table}
 
 -- a call leaves the names counted
 pub IsCounted-after : (call : Call) (t u : Table Register) → u ≡ after_call call t → IsCounted t → IsCounted u
@@ -41,31 +41,31 @@ by_room-by_limit false true go stay differ = refl
 by_room-by_limit false false go stay differ = cc
 
 -- a choice of tables, as one of registers
-capped_of-cond : (b : Bool) (t u : Table Register) (rs : AllRegisters) (line : ℕ)
-    → capped_of (cond b t u) rs line ≡ cond b (capped_of t rs line) (capped_of u rs line)
-capped_of-cond true t u rs line = refl
-capped_of-cond false t u rs line = refl
+with_table-cond : (b : Bool) (t u : Table Register) (rs : AllRegisters) (line : ℕ)
+    → with_table (cond b t u) rs line ≡ cond b (with_table t rs line) (with_table u rs line)
+with_table-cond true t u rs line = refl
+with_table-cond false t u rs line = refl
 
 -- a change that gives a name of a table this register
 pub record GivesTo (name : List ℕ) (r : Register) (t : Table Register) (rs : AllRegisters) (line : ℕ) (change : Change) : Type 0 where
-  pub changed : with_change change (capped_of t rs line) ≡ capped_of (record t { entries = with_entry name r t.entries }) rs line
+  pub changed : with_change change (with_table t rs line) ≡ with_table (record t { entries = with_entry name r t.entries }) rs line
 
 -- the table answers what asking for the change does
 pub admitted-given : (name : List ℕ) (r : Register) (t : Table Register) (rs : AllRegisters) (line : ℕ) (change : Change)
-    → length t.entries ≤ t.cap → GivesTo name r t rs line change → admitted_name name t ≡ admitted change (capped_of t rs line)
+    → length t.entries ≤ t.cap → GivesTo name r t rs line change → admitted_name name t ≡ admitted change (with_table t rs line)
 admitted-given name r t rs line change within gives =
     let refusing : Capped → Result (Unit {0}) Limit = λ next. if is_past_cap next then Err Names else Ok tt in
     by_room-by_limit (has_room name t) _ (Ok tt) (Err Names) (past-with_entry name r t within) ∙ ap refusing (sym gives.changed)
 
 -- and is what is left behind it
-pub capped_of-given : (name : List ℕ) (r : Register) (t : Table Register) (rs : AllRegisters) (line : ℕ) (change : Change)
+pub with_table-given : (name : List ℕ) (r : Register) (t : Table Register) (rs : AllRegisters) (line : ℕ) (change : Change)
     → length t.entries ≤ t.cap → GivesTo name r t rs line change
-    → capped_of (put_into name r t) rs line ≡ after change (capped_of t rs line)
-capped_of-given name r t rs line change within gives =
+    → with_table (put_into name r t) rs line ≡ after change (with_table t rs line)
+with_table-given name r t rs line change within gives =
     let u : Table Register = record t { entries = with_entry name r t.entries } in
-    let chosen : Capped → Capped = λ next. if is_past_cap next then capped_of t rs line else next in
-    capped_of-cond (has_room name t) u t rs line
-    ∙ by_room-by_limit (has_room name t) _ (capped_of u rs line) (capped_of t rs line) (past-with_entry name r t within)
+    let chosen : Capped → Capped = λ next. if is_past_cap next then with_table t rs line else next in
+    with_table-cond (has_room name t) u t rs line
+    ∙ by_room-by_limit (has_room name t) _ (with_table u rs line) (with_table t rs line) (past-with_entry name r t within)
     ∙ ap chosen (sym gives.changed)
 
 -- a change of a name that is neither read-only nor the page number's changes the named registers

@@ -4,7 +4,7 @@ use Rattle.std.specs.Prelude.{map, slice_index_or, take, Option}
 use Rattle.std.specs.List.{AllByRecursion}
 use Rattle.std.proofs.lemmas.List.{map-append}
 use Rattle.run_model.specs.TitleTexts.{TitleText, with_bytes}
-use Rattle.read_registers.specs.Registers.Fronts.{kept_byte}
+use Rattle.read_registers.specs.Titles.Fronts.{kept_byte}
 use Rattle.run_state.proofs.TitleTexts.{bytes_added_again}
 
 -- what holds of the first of them, and of the next one, holds of those

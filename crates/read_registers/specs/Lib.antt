@@ -1,1 +1,3 @@
+pub mod Lasting
 pub mod Registers
+pub mod Titles

@@ -1,7 +1,8 @@
 //! The number registers of a run: those that a document sets, the page number, and the read-only
-//! ones (manual, section 8). Beside them stands what else a run keeps.
+//! ones (manual, section 8).
 
-ghost use Rattle.std.specs.Prelude.{◌≡◌, [], ◌∷◌, Ok, IfOk, IfSome, if◌then◌else◌, false};
+ghost use Rattle.std.specs.Prelude.{◌≡◌, [], ◌∷◌, IfOk, IfSome, if◌then◌else◌, false, length};
+ghost use Rattle.std.specs.Prelude.{nat_lt, Option};
 ghost use Rattle.std.specs.Option.{option_to_list};
 ghost use Rattle.roff_num.specs.Ranges.{is_in_range};
 ghost use Rattle.roff_num.specs.RegisterText.{register_text};
@@ -12,13 +13,12 @@ ghost use Rattle.run_model.specs.declared.message.Message.TheVariants.{BadNumber
 mod read_only;
 mod stepping;
 mod texts;
-mod titles;
 
 use read_only::{is_read_only, query_of};
 use roff_num::{Direction, Format, Limit, Name, Num, NumText, ShortName};
 use roff_store::{RegTable, Register};
 use run_model::Message;
-use run_state::{Composer, TitleText};
+use run_state::Composer;
 use std::alloc::{AllocError, Global};
 use std::marker::Model;
 use texts::written;
@@ -34,26 +34,6 @@ pub struct Facts<'a> {
     pub arguments: usize,
 }
 
-/// A change that a request makes.
-#[derive(Drop)]
-pub enum Change {
-    /// `nr`: a value and an increment.
-    SetTo {
-        name: Name,
-        value: Num,
-        increment: Num,
-    },
-    /// `af`: a format.
-    FormatAs {
-        name: Name,
-        format: Format,
-    },
-    /// `em`: the macro that is read behind the input, if there is one.
-    ReadLast(Option<ShortName>),
-    /// `pc`: the character that stands for the page number in titles, if one does.
-    CharacterIs(Option<u8>),
-}
-
 /// What the escape `\n` gives.
 #[derive(Drop)]
 pub struct Interpolated {
@@ -66,8 +46,7 @@ pub struct Interpolated {
 }
 
 /// The registers that can be set: those by name, and of the page number `%`, whose value is the
-/// pages', the increment and the format; the macro that is read behind the input; the character
-/// that stands for the page number in titles, the title that was read last, and one that is kept.
+/// pages', the increment and the format.
 ///
 /// All memory is reserved as they are made.
 #[derive(Drop)]
@@ -75,56 +54,65 @@ pub struct RunRegisters {
     named: RegTable,
     page_increment: Num,
     page_format: Format,
-    last_macro: Option<ShortName>,
-    page_character: Option<u8>,
-    title: TitleText,
-    kept_title: TitleText,
-    /// How many bytes a title may have.
-    line: usize,
 }
 
 impl Model for RunRegisters {
-    ghost use Rattle.run_model.specs.Registers.Capped.{Capped};
+    ghost use Rattle.read_registers.specs.Lasting.{NumbersKept};
 
-    ghost Value = { Capped };
+    ghost Value = { NumbersKept };
 
-    ghost use Rattle.read_registers.specs.Registers.Kept.{kept_by, IsSound};
+    ghost use Rattle.read_registers.specs.Registers.Kept.{numbers_by, IsSound};
 
-    ghost view = { kept_by };
+    ghost view = { numbers_by };
 
     ghost invariant = { IsSound };
 }
 
 impl RunRegisters {
-    ghost use Rattle.run_model.specs.Registers.{Remove, SetTo, FormatAs, StepBy, ReadLast, is_page};
-    ghost use Rattle.run_model.specs.Registers.{known_stepped, no_registers, page_register};
+    ghost use Rattle.run_model.specs.Registers.{Remove, SetTo, FormatAs, StepBy, is_page};
+    ghost use Rattle.run_model.specs.Registers.{known_stepped, page_register};
     ghost use Rattle.run_model.specs.Registers.{page_stepped, settable, step_messages};
     ghost use Rattle.run_model.specs.Registers.{text_of_register, value_in_force};
     ghost use Rattle.run_model.specs.Registers.Capped.{admitted, after, with_change};
-    ghost use Rattle.read_registers.specs.Registers.Coded.{AreOf, change_of};
+    ghost use Rattle.read_registers.specs.Lasting.{TitlesKept, capped_of, no_numbers};
+    ghost use Rattle.read_registers.specs.Registers.Coded.{AreNumbersOf, AreOf};
+    ghost use Rattle.roff_num.specs.declared.short_name.ShortName.{ShortName as NameOf};
     ghost use Rattle.run_model.specs.Registers.{Known};
     ghost use Rattle.run_model.specs.Starts.{given_change};
 
-    /// No register is set; so many names may have one, and a title so many bytes.
-    pub fn new(alloc: Global, cap: u32, line: u32) -> Result<Self, AllocError>
-        ensures { IfOk result (λ r. r ≡ record { all = no_registers; cap = cap; line = line }) }
+    /// No register is set; so many names may have one.
+    ///
+    /// # Errors
+    ///
+    /// [`AllocError`] if the memory for them can't be had.
+    pub fn new(alloc: Global, cap: u32) -> Result<Self, AllocError>
+        ensures { IfOk result (λ r. r ≡ no_numbers cap) }
     {
         Ok(RunRegisters {
             named: RegTable::new(alloc, cap)?,
             page_increment: Num(0),
             page_format: Format::Decimal(1),
-            last_macro: None,
-            page_character: Some(b'%'),
-            title: TitleText::new(alloc, line)?,
-            kept_title: TitleText::new(alloc, line)?,
-            line: line as usize,
         })
+    }
+
+    /// No more names have a register than may.
+    pub fn stay_within(&self)
+        ensures { nat_lt self.now.cap (length self.now.named) ≡ false }
+    {
+        let _ = &self.named;
+    }
+
+    /// The format of the page number.
+    pub fn page_format(&self) -> Format
+        ensures { result ≡ self.now.page_format }
+    {
+        self.page_format
     }
 
     /// The register that a name reads as, if it isn't read-only.
     #[inline(always)]
     pub(crate) fn settable(&self, name: &Name, facts: Facts<'_>) -> Register
-        ensures { (k : Known) → AreOf k facts.entry → k.registers ≡ self.now.all
+        ensures { (k : Known) → AreOf k facts.entry → AreNumbersOf k self.now
             → result ≡ settable name.now k }
     {
         if is_page(name) {
@@ -136,7 +124,7 @@ impl RunRegisters {
 
     /// The page number's register.
     fn page(&self, facts: Facts<'_>) -> Register
-        ensures { (k : Known) → AreOf k facts.entry → k.registers ≡ self.now.all
+        ensures { (k : Known) → AreOf k facts.entry → AreNumbersOf k self.now
             → result ≡ page_register k }
     {
         Register {
@@ -149,7 +137,7 @@ impl RunRegisters {
     /// The text of a register.
     #[inline(always)]
     pub fn text(&self, name: &Name, facts: Facts<'_>) -> NumText
-        ensures { (k : Known) → AreOf k facts.entry → k.registers ≡ self.now.all
+        ensures { (k : Known) → AreOf k facts.entry → AreNumbersOf k self.now
             → result.items ≡ text_of_register k name.now }
     {
         match query_of(name) {
@@ -163,7 +151,7 @@ impl RunRegisters {
 
     /// The value in force under a name, of a read-only register too.
     pub fn value_in_force(&self, name: &Name, facts: Facts<'_>) -> Num
-        ensures { (k : Known) → AreOf k facts.entry → k.registers ≡ self.now.all
+        ensures { (k : Known) → AreOf k facts.entry → AreNumbersOf k self.now
             → result ≡ value_in_force k name.now }
     {
         match query_of(name) {
@@ -176,7 +164,7 @@ impl RunRegisters {
     /// number's.
     #[inline(always)]
     pub fn set_value(&self, name: &Name) -> Option<Num>
-        ensures { IfSome result (λ value. (k : Known) → k.registers ≡ self.now.all
+        ensures { IfSome result (λ value. (k : Known) → AreNumbersOf k self.now
             → value ≡ value_in_force k name.now) }
     {
         if is_page(name) {
@@ -188,34 +176,6 @@ impl RunRegisters {
         }
     }
 
-    /// Makes a change that a request asks for. One of a read-only register changes nothing.
-    ///
-    /// # Errors
-    ///
-    /// [`Limit::Names`] if more names than may would have a register; the registers are then as
-    /// they were.
-    pub fn apply(&mut self, change: &Change) -> Result<(), Limit>
-        ensures answer { result ≡ admitted (change_of change.now) self.old }
-        ensures registers { self.new ≡ after (change_of change.now) self.old }
-    {
-        match change {
-            Change::SetTo {
-                name,
-                value,
-                increment,
-            } => self.set(name, *value, *increment),
-            Change::FormatAs { name, format } => self.set_format(name, *format),
-            Change::ReadLast(name) => {
-                self.read_last(*name);
-                Ok(())
-            }
-            Change::CharacterIs(character) => {
-                self.set_page_character(*character);
-                Ok(())
-            }
-        }
-    }
-
     /// Sets a register that is given to a run, of a name of one byte, to a value, without an
     /// increment.
     ///
@@ -224,8 +184,11 @@ impl RunRegisters {
     /// [`Limit::Names`] if more names than may would have a register; the registers are then as
     /// they were.
     pub fn give(&mut self, name: u8, value: Num) -> Result<(), Limit>
-        ensures answer { result ≡ admitted (given_change name value) self.old }
-        ensures registers { self.new ≡ after (given_change name value) self.old }
+        ensures answer { (t : TitlesKept) (last : Option NameOf)
+            → result ≡ admitted (given_change name value) (capped_of self.old t last) }
+        ensures registers { (t : TitlesKept) (last : Option NameOf)
+            → capped_of self.new t last
+            ≡ after (given_change name value) (capped_of self.old t last) }
     {
         let name = ShortName {
             first: name,
@@ -234,24 +197,10 @@ impl RunRegisters {
         self.set(&name.name(), value, Num(0))
     }
 
-    /// The macro that is read behind the input, if there is one.
-    pub fn last_macro(&self) -> Option<ShortName>
-        ensures { result ≡ self.now.all.last_macro }
-    {
-        self.last_macro
-    }
-
-    /// Sets the macro that is read behind the input.
-    fn read_last(&mut self, name: Option<ShortName>)
-        ensures registers { self.new ≡ with_change (ReadLast name) self.old }
-        ensures room { admitted (ReadLast name) self.old ≡ Ok tt }
-    {
-        self.last_macro = name;
-    }
-
     /// Removes the register of a name (`rr`). The page number stays.
     pub fn remove(&mut self, name: &Name)
-        ensures { self.new ≡ with_change (Remove (name.now ∷ [])) self.old }
+        ensures { (t : TitlesKept) (last : Option NameOf) → capped_of self.new t last
+            ≡ with_change (Remove (name.now ∷ [])) (capped_of self.old t last) }
     {
         self.named.remove(name);
     }
@@ -263,12 +212,13 @@ impl RunRegisters {
         name: &Name,
         facts: Facts<'_>,
     ) -> Interpolated
-        ensures registers { self.new ≡ with_change (StepBy name.now direction) self.old }
-        ensures message { (k : Known) → AreOf k facts.entry → k.registers ≡ self.old.all
+        ensures registers { (t : TitlesKept) (last : Option NameOf) → capped_of self.new t last
+            ≡ with_change (StepBy name.now direction) (capped_of self.old t last) }
+        ensures message { (k : Known) → AreOf k facts.entry → AreNumbersOf k self.old
             → option_to_list result.message ≡ step_messages (Some direction) name.now k }
-        ensures number { (k : Known) → AreOf k facts.entry → k.registers ≡ self.old.all
+        ensures number { (k : Known) → AreOf k facts.entry → AreNumbersOf k self.old
             → result.number ≡ page_stepped (Some direction) name.now k }
-        ensures text { (k : Known) → AreOf k facts.entry → k.registers ≡ self.old.all
+        ensures text { (k : Known) → AreOf k facts.entry → AreNumbersOf k self.old
             → result.text.items
             ≡ text_of_register (known_stepped (Some direction) name.now k) name.now }
     {
@@ -287,8 +237,9 @@ impl RunRegisters {
     /// step is out of range and so not made.
     fn step(&mut self, direction: Direction, name: &Name) -> Option<Message>
         requires named { is_page name.now ≡ false }
-        ensures registers { self.new ≡ with_change (StepBy name.now direction) self.old }
-        ensures message { (k : Known) → k.registers ≡ self.old.all
+        ensures registers { (t : TitlesKept) (last : Option NameOf) → capped_of self.new t last
+            ≡ with_change (StepBy name.now direction) (capped_of self.old t last) }
+        ensures message { (k : Known) → AreNumbersOf k self.old
             → option_to_list result ≡ step_messages (Some direction) name.now k }
     {
         if is_read_only(name) {
@@ -308,8 +259,11 @@ impl RunRegisters {
     /// they were.
     #[inline(always)]
     pub fn set(&mut self, name: &Name, value: Num, increment: Num) -> Result<(), Limit>
-        ensures answer { result ≡ admitted (SetTo name.now value increment) self.old }
-        ensures registers { self.new ≡ after (SetTo name.now value increment) self.old }
+        ensures answer { (t : TitlesKept) (last : Option NameOf)
+            → result ≡ admitted (SetTo name.now value increment) (capped_of self.old t last) }
+        ensures registers { (t : TitlesKept) (last : Option NameOf)
+            → capped_of self.new t last
+            ≡ after (SetTo name.now value increment) (capped_of self.old t last) }
     {
         let RunRegisters {
             named,
@@ -327,9 +281,12 @@ impl RunRegisters {
     }
 
     /// Sets how a register is written.
-    fn set_format(&mut self, name: &Name, format: Format) -> Result<(), Limit>
-        ensures answer { result ≡ admitted (FormatAs name.now format) self.old }
-        ensures registers { self.new ≡ after (FormatAs name.now format) self.old }
+    pub(crate) fn set_format(&mut self, name: &Name, format: Format) -> Result<(), Limit>
+        ensures answer { (t : TitlesKept) (last : Option NameOf)
+            → result ≡ admitted (FormatAs name.now format) (capped_of self.old t last) }
+        ensures registers { (t : TitlesKept) (last : Option NameOf)
+            → capped_of self.new t last
+            ≡ after (FormatAs name.now format) (capped_of self.old t last) }
     {
         let RunRegisters {
             named,

@@ -21,8 +21,8 @@ use Rattle.run_model.specs.Registers.{AllRegisters, Change, changed_by, changed_
 use Rattle.run_model.specs.Registers.Capped.{Capped, is_past_cap}
 use Rattle.read_registers.specs.Registers.Coded.{change_of}
 use Rattle.read_requests.specs.Request.Coded.{calls_of, changes_of}
-use Rattle.read_registers.specs.declared.registers.Change.{Change as CodedChange}
-use Rattle.read_registers.specs.declared.registers.Change.TheVariants.{SetTo, FormatAs, ReadLast, CharacterIs}
+use Rattle.read_registers.specs.declared.lasting.Change.{Change as CodedChange}
+use Rattle.read_registers.specs.declared.lasting.Change.TheVariants.{SetTo, FormatAs, ReadLast, CharacterIs}
 use Rattle.read_requests.specs.declared.requests.effects.Changes.{Changes}
 use Rattle.read_requests.specs.declared.requests.effects.Changes.TheVariants.{Nothing, One, RemoveGiven, RemoveNamesGiven, Rename as RenameGiven}
 use Rattle.run_model.specs.TitleTexts.{TitleText, title_length}

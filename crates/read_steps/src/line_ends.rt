@@ -69,7 +69,7 @@ pub(crate) fn obey(
 {
     unread.finish_arguments();
     let step = act(
-        &mut reader.registers,
+        &mut reader.lasting,
         &mut reader.meaning,
         breaks,
         request,

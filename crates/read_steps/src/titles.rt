@@ -67,7 +67,8 @@ fn end_empty_title(
     ensures { TakesAs (λ k. empty_title_ended k unread.old.input)
         composer.now reader.old reader.new unread.old unread.new result }
 {
-    reader.registers.begin_title(&[])?;
+    let lasting = &mut reader.lasting;
+    lasting.titles.begin_title(&[])?;
     obey(reader, false, Request::Title, composer, unread)
 }
 
@@ -77,7 +78,8 @@ fn open_title(reader: &mut Reader, delimiter: u8, bytes: &[u8]) -> Result<Step, 
         → TakesAs (λ k. title_opened u.input delimiter bytes.now)
         es reader.old reader.new u u result }
 {
-    reader.registers.begin_title(bytes)?;
+    let lasting = &mut reader.lasting;
+    lasting.titles.begin_title(bytes)?;
     Ok(reader.read_on(LineState::Title { delimiter }))
 }
 
@@ -86,7 +88,7 @@ fn byte_for(reader: &Reader, byte: u8) -> Option<u8>
     ensures { (k : Known) → k.registers ≡ reader.now.registers.all
         → option_to_list result ≡ bytes_for k byte }
 {
-    if reader.registers.page_character() == Some(byte) {
+    if reader.lasting.titles.page_character() == Some(byte) {
         return Some(PAGE_NUMBER);
     }
     if byte == b' ' {
@@ -104,13 +106,14 @@ pub(crate) fn end_title_part(reader: &mut Reader, delimiter: u8) -> Step
         → TakesAs (λ k. behind_part u.input delimiter k.registers.title.part)
         es reader.old reader.new u u (Ok result) }
 {
-    match reader.registers.title_part() {
+    let lasting = &mut reader.lasting;
+    match lasting.titles.title_part() {
         TitlePart::Right => reader.read_on(LineState::Collecting(Purpose::Arguments {
             breaks: false,
             request: Request::Title,
         })),
         _ => {
-            reader.registers.end_title_part();
+            lasting.titles.end_title_part();
             reader.read_on(LineState::Title { delimiter })
         }
     }
@@ -184,7 +187,8 @@ fn take_front_of_title<S: ByteSource>(
         return unread.stays_within();
     }
     let count = reader
-        .registers
+        .lasting
+        .titles
         .add_front_to_title(unread.front(source), delimiter);
     unread.pass(source, count);
     unread.stays_within();
@@ -217,7 +221,8 @@ fn put_in_title(reader: &mut Reader, delimiter: u8, bytes: &[u8]) -> Result<Step
         → TakesAs (λ k. part_taking u.input delimiter bytes.now)
         es reader.old reader.new u u result }
 {
-    reader.registers.add_to_title(bytes)?;
+    let lasting = &mut reader.lasting;
+    lasting.titles.add_to_title(bytes)?;
     Ok(reader.read_on(LineState::Title { delimiter }))
 }
 
@@ -259,7 +264,8 @@ fn read_motion_of_title(
         → TakesAs (λ k. title_motion u.input delimiter columns (remark_messages remark))
         es reader.old reader.new u u result }
 {
-    reader.registers.add_blanks_to_title(columns)?;
+    let lasting = &mut reader.lasting;
+    lasting.titles.add_blanks_to_title(columns)?;
     reader.reading = LineState::Title { delimiter };
     match remark {
         None => Ok(Step::Nothing),

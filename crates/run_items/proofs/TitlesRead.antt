@@ -27,7 +27,7 @@ use Rattle.run_model.specs.TitleTexts.{TitleText, title_length}
 use Rattle.run_model.specs.declared.line_state.LineState.{LineState}
 use Rattle.run_model.specs.declared.line_state.LineState.TheVariants.{Title as InTitle}
 use Rattle.run_state.proofs.TitleTexts.{bytes_added_again, bytes_added_length}
-use Rattle.read_registers.specs.Registers.Fronts.{is_plain, kept_byte}
+use Rattle.read_registers.specs.Titles.Fronts.{is_plain, kept_byte}
 use Rattle.read_lines.proofs.TakesAs.{few_names_in}
 
 -- what a byte is that stands for the page number, a blank or itself

@@ -30,7 +30,7 @@ use Rattle.run_model.specs.declared.line_state.LineState.{LineState}
 use Rattle.run_model.specs.declared.line_state.LineState.TheVariants.{Title as InTitle}
 use Rattle.run_model.specs.declared.phase.Phase.{Phase}
 use Rattle.run_state.proofs.TitleTexts.{none_added}
-use Rattle.read_registers.specs.Registers.Fronts.{IsPlain, is_plain, kept_byte}
+use Rattle.read_registers.specs.Titles.Fronts.{IsPlain, is_plain, kept_byte}
 use Rattle.read_shortcuts.proofs.PrintedRuns.{counted-behind, turns-counted}
 use Rattle.read_lines.specs.Reader.State.{ReaderState}
 use Rattle.read_lines.specs.Reader.Titles.{ReadsTitle, TitleBytes}

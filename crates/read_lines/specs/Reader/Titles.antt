@@ -4,7 +4,7 @@ use Rattle.std.specs.List.{AllByRecursion}
 use Rattle.input_source.specs.Tape.{Tape}
 use Rattle.input_model.specs.Unread.{IsWithin, Stays}
 use Rattle.roff_scan.specs.Unread.Calls.{PassesFront}
-use Rattle.read_registers.specs.Registers.Fronts.{IsPlain, kept_byte}
+use Rattle.read_registers.specs.Titles.Fronts.{IsPlain, kept_byte}
 use Rattle.read_lines.specs.Reader.State.{ReaderState}
 use Rattle.run_model.specs.Reading.Items.{PageUnread}
 use Rattle.run_model.specs.Registers.{TitleGets}

@@ -74,7 +74,8 @@ impl Reader {
             (last_called self.old.registers.all.last_macro unread.old.input) LineStart)
             es self.old self.new unread.old unread.new result }
     {
-        match self.registers.last_macro() {
+        let lasting = &self.lasting;
+        match lasting.last_macro {
             None => Ok(self.read_on(LineState::LineStart)),
             Some(name) => self.read_last(name, unread),
         }

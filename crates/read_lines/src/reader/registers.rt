@@ -34,7 +34,8 @@ impl Reader {
             composer.now self.old self.new unread.old unread.new result }
     {
         let facts = facts(composer, unread);
-        let given = self.registers.interpolate(step, name, facts);
+        let lasting = &mut self.lasting;
+        let given = lasting.registers.interpolate(step, name, facts);
         unread.push(&given.text)?;
         match given.number {
             None => Ok(self.say(given.message)),
@@ -64,7 +65,8 @@ impl Reader {
         ensures { TakesAs (λ k. interpolating k unread.old.input self.now.reading None name.now)
             composer.now self.now self.now unread.old unread.new result }
     {
-        let text = self.registers.text(name, facts(composer, unread));
+        let lasting = &self.lasting;
+        let text = lasting.registers.text(name, facts(composer, unread));
         unread.push(&text)?;
         Ok(Step::Nothing)
     }
@@ -81,7 +83,10 @@ impl Reader {
             → result.items ≡ text_of_register
             (known_at h self.now.registers.all unread.now.input) (name_bytes name) }
     {
-        self.registers.text(&name.name(), facts(composer, unread))
+        let lasting = &self.lasting;
+        lasting
+            .registers
+            .text(&name.name(), facts(composer, unread))
     }
 
     /// Steps the register of a name, unless something is said of that, or the page gets a number.
@@ -91,6 +96,7 @@ impl Reader {
         ensures steps { result ≡ true → StepsReader direction (name_bytes name) self.old self.new }
         ensures unchanged { result ≡ false → self.new ≡ self.old }
     {
-        self.registers.step_quietly(direction, &name.name())
+        let lasting = &mut self.lasting;
+        lasting.registers.step_quietly(direction, &name.name())
     }
 }

@@ -13,14 +13,15 @@ impl Reader {
     pub fn title(&self, which: WhichTitle) -> &TitleText
         ensures { result.now.text ≡ title_of self.now.registers.all which }
     {
-        self.registers.title(which)
+        let lasting = &self.lasting;
+        lasting.titles.title(which)
     }
 
     /// The format in which the page number is put into titles.
     pub fn page_format(&self) -> Format
         ensures { result ≡ self.now.registers.all.page_format }
     {
-        self.registers.page_format()
+        self.lasting.registers.page_format()
     }
 
     /// An event as it is put back: a title that was read last is kept, and another may be read.
@@ -34,7 +35,8 @@ impl Reader {
     {
         match event {
             PageEvent::Title(WhichTitle::Read) => {
-                self.registers.keep_title();
+                let lasting = &mut self.lasting;
+                lasting.titles.keep_title();
                 PageEvent::Title(WhichTitle::Kept)
             }
             event => event,

@@ -1,7 +1,8 @@
 -- What the code of the registers is given, as the definition's.
 use Rattle.std.specs.Prelude.{◌≡◌, ℕ, List}
-use Rattle.read_registers.specs.declared.registers.Change.{Change as CodedChange}
-use Rattle.read_registers.specs.declared.registers.Change.TheVariants.{SetTo as CodedSetTo, FormatAs as CodedFormatAs, ReadLast as CodedReadLast, CharacterIs as CodedCharacterIs}
+use Rattle.read_registers.specs.Lasting.{NumbersKept}
+use Rattle.read_registers.specs.declared.lasting.Change.{Change as CodedChange}
+use Rattle.read_registers.specs.declared.lasting.Change.TheVariants.{SetTo as CodedSetTo, FormatAs as CodedFormatAs, ReadLast as CodedReadLast, CharacterIs as CodedCharacterIs}
 use Rattle.read_registers.specs.declared.registers.Facts.{Facts}
 use Rattle.run_model.specs.declared.query.Query.{Query}
 use Rattle.read_registers.specs.declared.registers.read_only.ReadOnly.{ReadOnly}
@@ -19,6 +20,12 @@ pub record AreOf (k : Known) (facts : Facts) : Type 0 where
   pub newlines : facts.newlines ≡ k.newlines
   pub arguments : facts.arguments ≡ k.arguments
   pub pages : StandsAs k.layout facts.composer.now.pages
+
+-- these are the number registers that are known
+pub record AreNumbersOf (k : Known) (n : NumbersKept) : Type 0 where
+  pub named : n.named ≡ k.registers.named
+  pub page_increment : n.page_increment ≡ k.registers.page_increment
+  pub page_format : n.page_format ≡ k.registers.page_format
 
 -- a change that a request makes
 abbrev pub change_of : CodedChange → Change

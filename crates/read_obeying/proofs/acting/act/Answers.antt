@@ -18,7 +18,7 @@ unbroken breaks events = ap (λ (b : Bool). behind_break b events) (sym (and_fal
 
 pub returns-in-Break : goal.returns-in-Break
 returns-in-Break c = rw c.in-Break.is (record {
-  acts = λ l h stands. quiet-effect [] (behind_break (c.args.breaks && true) []) (kept c.args.registers.now c.args.meaning.now) (kept c.args.registers.now c.args.meaning.now) c.args.unread.now c.broken.result refl
+  acts = λ l h stands. quiet-effect [] (behind_break (c.args.breaks && true) []) (kept c.args.lasting.now c.args.meaning.now) (kept c.args.lasting.now c.args.meaning.now) c.args.unread.now c.broken.result refl
       (c.broken.ensures.says _) (c.broken.ensures.means _ ∙ by_table c.args.breaks []);
 })
 
@@ -27,27 +27,27 @@ returns-in-NumberRegister c = rw c.in-NumberRegister.is (c.set_register.ensures 
 
 pub returns-in-WithoutEffect : goal.returns-in-WithoutEffect
 returns-in-WithoutEffect c = rw c.in-WithoutEffect.is (record {
-  acts = λ l h stands. quiet-effect [] (behind_break (c.args.breaks && false) []) (kept c.args.registers.now c.args.meaning.now) (kept c.args.registers.now c.args.meaning.now) c.args.unread.now Nothing refl
+  acts = λ l h stands. quiet-effect [] (behind_break (c.args.breaks && false) []) (kept c.args.lasting.now c.args.meaning.now) (kept c.args.lasting.now c.args.meaning.now) c.args.unread.now Nothing refl
       refl (unbroken c.args.breaks []);
 })
 
 pub returns-in-Fill : goal.returns-in-Fill
 returns-in-Fill c = let done = c.set_always in let events : List PageEvent = Text (Set (Filling true)) ∷ [] in rw c.in-Fill.is (record {
-  acts = λ l h stands. quiet-effect [] (behind_break (c.args.breaks && true) events) (kept c.args.registers.now c.args.meaning.now) (kept c.args.registers.now done.new.meaning) c.args.unread.now done.result
+  acts = λ l h stands. quiet-effect [] (behind_break (c.args.breaks && true) events) (kept c.args.lasting.now c.args.meaning.now) (kept c.args.lasting.now done.new.meaning) c.args.unread.now done.result
       refl done.ensures.says (done.ensures.kept ∙ by_table c.args.breaks events);
 })
 
 pub returns-in-NoFill : goal.returns-in-NoFill
 returns-in-NoFill c = let done = c.set_always-in-NoFill in let events : List PageEvent = Text (Set (Filling false)) ∷ [] in rw c.in-NoFill.is (record {
-  acts = λ l h stands. quiet-effect [] (behind_break (c.args.breaks && true) events) (kept c.args.registers.now c.args.meaning.now) (kept c.args.registers.now done.new.meaning) c.args.unread.now done.result
+  acts = λ l h stands. quiet-effect [] (behind_break (c.args.breaks && true) events) (kept c.args.lasting.now c.args.meaning.now) (kept c.args.lasting.now done.new.meaning) c.args.unread.now done.result
       refl done.ensures.says (done.ensures.kept ∙ by_table c.args.breaks events);
 })
 
 pub returns-in-NoAdjust : goal.returns-in-NoAdjust
 returns-in-NoAdjust c = let done = c.set_always-in-NoAdjust in let events : List PageEvent = Text (Set (Adjusting false)) ∷ [] in rw c.in-NoAdjust.is (record {
-  acts = λ l h stands. quiet-effect [] (behind_break (c.args.breaks && false) events) (kept c.args.registers.now c.args.meaning.now) (kept c.args.registers.now done.new.meaning) c.args.unread.now done.result
+  acts = λ l h stands. quiet-effect [] (behind_break (c.args.breaks && false) events) (kept c.args.lasting.now c.args.meaning.now) (kept c.args.lasting.now done.new.meaning) c.args.unread.now done.result
       refl done.ensures.says (done.ensures.kept ∙ unbroken c.args.breaks events);
 })
 
 pub returns-in-Indent : goal.returns-in-Indent
-returns-in-Indent c = rw c.in-Indent.is (c.set_indent.ensures c.args.registers.now)
+returns-in-Indent c = rw c.in-Indent.is (c.set_indent.ensures c.args.lasting.now)

@@ -11,7 +11,7 @@ returns c = λ l h stands.
     let as_given : List (List ℕ) = texts_read u in
     let argument : (n : ℕ) → _ = λ n. ap (λ (texts : List (List ℕ)). slice_get texts n) c.arguments-arguments.ensures in
     let first : option_copied c.get.result ≡ slice_get as_given 0 = c.get.ensures ∙ argument 0 in
-    c.response.ensures (known_at h c.args.registers.now.all u.input) as_given
+    c.response.ensures (known_at h c.args.lasting.now.all u.input) as_given
     (record {
       settings = settings-in_force l h c.args.composer.now stands;
       limits = l;

@@ -15,7 +15,7 @@ pub returns-in-None : goal.returns-in-None
 returns-in-None c = λ breaks. record {
   acts = λ l h stands.
       let u = c.args.unread.now in
-      let old : Kept = kept c.args.registers.now c.args.meaning.now in
+      let old : Kept = kept c.args.lasting.now c.args.meaning.now in
       let k : Known = known_at h old.registers.all u.input in
       let given = c.get.ensures ∙ ap (λ (texts : List (List ℕ)). slice_get texts 0) c.arguments-arguments.ensures in
       let unnamed = sym (c.register_named.ensures (texts_read u) given) ∙ c.in-None.is in
@@ -27,7 +27,7 @@ pub returns-in-None-get : goal.returns-in-None-get
 returns-in-None-get c = λ breaks. record {
   acts = λ l h stands.
       let u = c.args.unread.now in
-      let old : Kept = kept c.args.registers.now c.args.meaning.now in
+      let old : Kept = kept c.args.lasting.now c.args.meaning.now in
       let k : Known = known_at h old.registers.all u.input in
       let none : None ≡ slice_get (texts_read u) 1 = rw c.in-None-get.is at (c.get-in-Some.ensures ∙ ap (λ (texts : List (List ℕ)). slice_get texts 1) c.arguments-arguments.ensures) in
       let nothing = quiet-effect [] [] old old u Nothing refl refl refl in
@@ -38,7 +38,7 @@ pub returns-in-Some-get : goal.returns-in-Some-get
 returns-in-Some-get c = λ breaks. record {
   acts = λ l h stands.
       let u = c.args.unread.now in
-      let old : Kept = kept c.args.registers.now c.args.meaning.now in
+      let old : Kept = kept c.args.lasting.now c.args.meaning.now in
       let as_given : List (List ℕ) = texts_read u in
       let k : Known = known_at h old.registers.all u.input in
       let name : List ℕ = c.in-Some.name in
@@ -53,7 +53,7 @@ returns-in-Some-get c = λ breaks. record {
       ∙ ap (λ r. set_to name r (increment_given (drop 2 as_given))) (c.value_beside-in_force.ensures l h stands)
       ∙ sym (set_register-named k as_given name text (value_in_force k name) named second known) in
       let done = c.set_to in
-      let new : Kept = kept done.new.registers done.new.meaning in
+      let new : Kept = kept done.new.lasting done.new.meaning in
       subst (λ (b : Bool). DoesEffect (meant_by b (set_register k as_given)) old new u u done.result) (sym (and_false breaks))
       (subst (λ (r : Response). DoesEffect (meant_by false r) old new u u done.result) is (done.ensures u));
 }

@@ -20,7 +20,7 @@ returns-in-None c = λ u.
     let behind = LineStart in
     let es = c.args.composer.now in
     let old = c.args.reader.now in
-    let new : ReaderState = record { reading = behind; registers = c.reader.inside.registers; meaning = c.reader.inside.meaning } in
+    let new : ReaderState = record { reading = behind; registers = c.reader.inside.lasting; meaning = c.reader.inside.meaning } in
     let m = Nothing in
     let none : Option TextLine = None in
     TakesAs-asked (λ k line. meaning_events u.input behind (interrupted_end line)) (λ k. k.interrupted) none es old new u u (Ok m)
@@ -35,7 +35,7 @@ returns-in-Some c = λ u.
     let old = c.args.reader.now in
     let line : Option TextLine = Some c.in-Some.line in
     let kept = c.keep_line.new.self in
-    let new : ReaderState = record { reading = behind; registers = c.reader.inside.registers; meaning = kept } in
+    let new : ReaderState = record { reading = behind; registers = c.reader.inside.lasting; meaning = kept } in
     let events : kept.events ≡ interrupted_end line =
     ap (λ (m : MeaningKept). m.events) c.keep_line.ensures
     ∙ ap (λ (events : List PageEvent). Text Resume ∷ events) (c.line.ensures ∙ c.end.ensures.means []) in

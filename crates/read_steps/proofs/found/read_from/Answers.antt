@@ -14,7 +14,7 @@ returns c =
     let r = c.args.reading in
     let read = c.read_byte-found in
     let done = c.read_collected in
-    let set : ReaderState = record { reading = r; registers = c.reader.inside.registers; meaning = c.reader.inside.meaning } in
+    let set : ReaderState = record { reading = r; registers = c.reader.inside.lasting; meaning = c.reader.inside.meaning } in
     TakesAs-set (λ k. read_by (λ i. collected k i r) u.input (byte_read (place_in k r) u.input.escapes c.args.byte)) es c.args.reader.now set done.new.reader u done.new.unread done.result
     (ap (λ (s : ReaderState). s.registers) c.reader.view_is)
     (TakesAs-read_at (λ k i found. collected k i r found) (λ k. place_in k r) c.place-place.result es c.place-place.ensures set done.new.reader u read.new.self done.new.unread read.result

@@ -12,6 +12,6 @@ returns c =
     let u = c.args.unread.now in
     let place : LineState = Collecting (InArguments c.args.breaks c.args.request) in
     let done = c.read_collected in
-    let set : ReaderState = record { reading = place; registers = c.reader.inside.registers; meaning = c.reader.inside.meaning } in
+    let set : ReaderState = record { reading = place; registers = c.reader.inside.lasting; meaning = c.reader.inside.meaning } in
     TakesAs-set (λ k. found_in k u.input place c.args.found) c.args.composer.now c.args.reader.now set done.new.reader u done.new.unread done.result
     (ap (λ (s : ReaderState). s.registers) c.reader.view_is) done.ensures

@@ -11,7 +11,7 @@ returns-in_err-step c =
     let es = c.args.composer.now in
     let limit = c.in_err-step.field-0.0 in
     let mid = c.finish_arguments.new.self in
-    let acted : Kept = kept c.act.new.registers c.act.new.meaning in
+    let acted : Kept = kept c.act.new.lasting c.act.new.meaning in
     let refused : c.from_residual.result ≡ Err limit = search rules in
     rw refused
     (TakesAs-not_acted es c.args.reader.now acted _ c.args.unread.now mid c.act.new.unread c.act.new.unread c.args.breaks c.args.request limit c.finish_arguments.ensures.change
@@ -22,8 +22,8 @@ returns c =
     let es = c.args.composer.now in
     let mid = c.finish_arguments.new.self in
     let step = c.in_ok-step.step in
-    let acted : Kept = kept c.act.new.registers c.act.new.meaning in
-    let set : ReaderState = record { reading = c.behind_line-behind.result; registers = c.act.new.registers; meaning = c.act.new.meaning } in
+    let acted : Kept = kept c.act.new.lasting c.act.new.meaning in
+    let set : ReaderState = record { reading = c.behind_line-behind.result; registers = c.act.new.lasting; meaning = c.act.new.meaning } in
     TakesAs-acted es c.args.reader.now acted set c.args.unread.now mid c.act.new.unread c.begin_arguments.new.self c.args.breaks c.args.request step c.finish_arguments.ensures.change
     (subst (λ (k : Kept). Acts c.args.breaks c.args.request es k acted mid c.act.new.unread (Ok step)) (ap kept_of c.reader.view_is) c.in_ok-step.ensures)
     c.begin_arguments.ensures.change refl refl (c.behind_line-behind.ensures ∙ ap (λ (r : Row). reading_behind r.line) c.row.ensures)

@@ -44,7 +44,7 @@ pub returns-in-Asks : goal.returns-in-Asks
 returns-in-Asks c =
     let u = c.args.unread.now in
     let done = c.read_name_of_title in
-    let set : ReaderState = record { reading = InTitle c.args.delimiter; registers = c.reader.inside.registers; meaning = c.reader.inside.meaning } in
+    let set : ReaderState = record { reading = InTitle c.args.delimiter; registers = c.reader.inside.lasting; meaning = c.reader.inside.meaning } in
     rw c.in-Asks.is
     (TakesAs-set (λ k. title_name k u.input c.args.delimiter c.in-Asks.purpose c.in-Asks.name) c.args.composer.now c.args.reader.now set done.new.reader u
     done.new.unread done.result (ap (λ (s : ReaderState). s.registers) c.reader.view_is) done.ensures)

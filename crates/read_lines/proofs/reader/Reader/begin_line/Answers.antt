@@ -11,7 +11,7 @@ use Rattle.read_lines.proofs.reader.Reader.begin_line.Goals as goal
 pub returns-in-Asks : goal.returns-in-Asks
 returns-in-Asks c =
     let u = c.args.unread.now in
-    let set : ReaderState = record { reading = c.args.at; registers = c.self.inside.registers; meaning = c.self.inside.meaning } in
+    let set : ReaderState = record { reading = c.args.at; registers = c.self.inside.lasting; meaning = c.self.inside.meaning } in
     let done = c.begin_with_name in
     rw c.in-Asks.is
     (TakesAs-set (λ k. first_name k u.input c.args.at c.in-Asks.purpose c.in-Asks.name) c.args.composer.now c.args.self.now set done.new.self u

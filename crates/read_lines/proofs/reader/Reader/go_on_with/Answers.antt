@@ -20,7 +20,7 @@ returns c = λ es u.
     let behind = read.result.0 in
     let old = c.args.self.now in
     let kept = c.keep_line.new.self in
-    let new : ReaderState = record { reading = behind; registers = c.self.inside.registers; meaning = kept } in
+    let new : ReaderState = record { reading = behind; registers = c.self.inside.lasting; meaning = kept } in
     let told : List PageEvent = Text Resume ∷ events_of [] read.result.1 in
     let events : kept.events ≡ told = ap (λ (m : MeaningKept). m.events) c.keep_line.ensures ∙ ap (λ (events : List PageEvent). Text Resume ∷ events) c.line.ensures in
     let quiet : messages_of kept.message Meaning ≡ [] = ap (λ (m : MeaningKept). option_to_list m.message) c.keep_line.ensures in

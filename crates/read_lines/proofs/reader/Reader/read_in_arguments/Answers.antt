@@ -10,7 +10,7 @@ returns-in-Holds c = rw c.in-Holds.is (c.hold_text.ensures c.args.composer.now)
 pub returns-in-Asks : goal.returns-in-Asks
 returns-in-Asks c =
     let u = c.args.unread.now in
-    let set : ReaderState = record { reading = c.args.reading; registers = c.self.inside.registers; meaning = c.self.inside.meaning } in
+    let set : ReaderState = record { reading = c.args.reading; registers = c.self.inside.lasting; meaning = c.self.inside.meaning } in
     rw c.in-Asks.is
     (TakesAs-set (λ k. asking k u.input c.args.reading c.in-Asks.purpose c.in-Asks.name) c.args.composer.now c.args.self.now set c.ask.new.self u
     c.ask.new.unread c.ask.result (ap (λ (s : ReaderState). s.registers) c.self.view_is) c.ask.ensures)

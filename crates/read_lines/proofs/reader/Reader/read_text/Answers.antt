@@ -47,7 +47,7 @@ returns-in-Tells c = rw c.in-Tells.is (c.tell.ensures c.args.composer.now c.args
 pub returns-in-Asks : goal.returns-in-Asks
 returns-in-Asks c =
     let u = c.args.unread.now in
-    let set : ReaderState = record { reading = Text c.args.line; registers = c.self.inside.registers; meaning = c.self.inside.meaning } in
+    let set : ReaderState = record { reading = Text c.args.line; registers = c.self.inside.lasting; meaning = c.self.inside.meaning } in
     rw c.in-Asks.is
     (TakesAs-set (λ k. name_taking k u.input (Text c.args.line) c.args.line c.in-Asks.purpose c.in-Asks.name) c.args.composer.now c.args.self.now set c.read_name.new.self u
     c.read_name.new.unread c.read_name.result (ap (λ (s : ReaderState). s.registers) c.self.view_is) c.read_name.ensures)

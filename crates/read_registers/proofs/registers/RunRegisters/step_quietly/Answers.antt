@@ -3,8 +3,4 @@ use Rattle.read_registers.proofs.RegisterTables.{IsCounted-after}
 use Rattle.read_registers.proofs.registers.RunRegisters.step_quietly.Goals as goal
 
 pub invariant_of-self-2 : goal.invariant_of-self-2
-invariant_of-self-2 c = record {
-  counted = IsCounted-after (Step c.args.name.now c.args.direction) c.self.inside.named _ c.step.ensures.table c.self.invariant.counted;
-  title = c.self.invariant.title;
-  kept_title = c.self.invariant.kept_title;
-}
+invariant_of-self-2 c = IsCounted-after (Step c.args.name.now c.args.direction) c.self.inside.named _ c.step.ensures.table c.self.invariant

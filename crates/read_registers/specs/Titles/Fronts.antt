@@ -4,9 +4,8 @@ use Rattle.std.specs.List.{AllByRecursion}
 use Rattle.page_model.specs.Glyphs.{glyph_blank}
 use Rattle.page_model.specs.Titles.{page_mark}
 use Rattle.run_model.specs.Reading.Titles.{is_page_character}
-use Rattle.run_model.specs.Registers.{TitleGets}
-use Rattle.run_model.specs.Registers.Capped.{Capped, with_change}
-use Rattle.run_model.specs.TitleTexts.{title_length}
+use Rattle.read_registers.specs.Lasting.{TitlesKept}
+use Rattle.run_model.specs.TitleTexts.{title_length, with_bytes}
 
 -- whether a byte is no control byte, no backslash, and not the delimiter
 abbrev pub is_plain : ℕ → ℕ → Bool
@@ -21,10 +20,10 @@ abbrev pub IsPlain : ℕ → ℕ → Type 0
 IsPlain delimiter b = is_plain delimiter b ≡ true
 
 -- so many of these bytes were read of the part that comes: each of them is such a byte, and the title has no more than it may
-pub record AddsFront (front : List ℕ) (delimiter count : ℕ) (old new : Capped) : Type 0 where
+pub record AddsFront (front : List ℕ) (delimiter count : ℕ) (old new : TitlesKept) : Type 0 where
   pub some : count ≤ length front
   pub plain : AllByRecursion (IsPlain delimiter) (take count front)
-  pub added : new ≡ with_change (TitleGets (map (kept_byte old.all.page_character) (take count front))) old
-  pub within : title_length new.all.title ≤ new.line
+  pub added : new ≡ record old { title = with_bytes (map (kept_byte old.page_character) (take count front)) old.title }
+  pub within : title_length new.title ≤ new.line
   -- they go as far as there are such bytes, and the title has room
-  pub goes : count < length front → (is_plain delimiter (slice_index_or front count 0) ≡ false) ⊎ (title_length new.all.title ≡ new.line)
+  pub goes : count < length front → (is_plain delimiter (slice_index_or front count 0) ≡ false) ⊎ (title_length new.title ≡ new.line)

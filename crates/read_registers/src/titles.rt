@@ -1,26 +1,67 @@
-//! What is kept of titles: the one that is read, one that waits, and the page number's character.
+//! What is kept of titles: the one that is read, one that waits, and the page number's character
+//! (manual, section 14).
 
-ghost use Rattle.std.specs.Prelude.{◌≡◌, ◌∷◌, [], Ok, replicate};
+ghost use Rattle.std.specs.Prelude.{◌≡◌, [], IfOk, replicate};
 ghost use Rattle.page_model.specs.Glyphs.{glyph_blank};
-ghost use Rattle.read_registers.specs.Registers.Fronts.{AddsFront, is_plain, kept_byte};
+ghost use Rattle.read_registers.specs.Lasting.{no_titles, title_allowed, title_in, titles_with};
+ghost use Rattle.read_registers.specs.Titles.Fronts.{AddsFront, is_plain, kept_byte};
 ghost use Rattle.run_model.specs.Reading.Titles.{is_page_character};
-ghost use Rattle.run_model.specs.Titles.{title_of, with_title_kept};
-ghost use Rattle.run_model.specs.Registers.{CharacterIs, PartEnds, TitleBegins, TitleGets};
-ghost use Rattle.run_model.specs.Registers.Capped.{admitted, title_admitted, title_after};
-ghost use Rattle.run_model.specs.Registers.Capped.{with_change};
+ghost use Rattle.run_model.specs.TitleTexts.{part_ended, title_begun, with_bytes};
 
-use super::RunRegisters;
 use page_bytes::PAGE_NUMBER;
 use page_model::UNPADDABLE;
-use roff_num::{Format, Limit};
+use roff_num::Limit;
 use run_model::{TitlePart, WhichTitle};
 use run_state::TitleText;
+use std::alloc::{AllocError, Global};
+use std::marker::Model;
 use std::mem;
 
-impl RunRegisters {
+/// The title that was read last, one that is kept, and the character that stands for the page
+/// number in them.
+///
+/// All memory is reserved as they are made.
+#[derive(Drop)]
+pub struct Titles {
+    title: TitleText,
+    kept_title: TitleText,
+    page_character: Option<u8>,
+    /// How many bytes a title may have.
+    line: usize,
+}
+
+impl Model for Titles {
+    ghost use Rattle.read_registers.specs.Lasting.{TitlesKept};
+
+    ghost Value = { TitlesKept };
+
+    ghost use Rattle.read_registers.specs.Titles.Kept.{titles_by, HaveRoom};
+
+    ghost view = { titles_by };
+
+    ghost invariant = { HaveRoom };
+}
+
+impl Titles {
+    /// No title was read, of which each may have so many bytes; `%` stands for the page number.
+    ///
+    /// # Errors
+    ///
+    /// [`AllocError`] if the memory for them can't be had.
+    pub fn new(alloc: Global, line: u32) -> Result<Self, AllocError>
+        ensures { IfOk result (λ r. r ≡ no_titles line) }
+    {
+        Ok(Titles {
+            title: TitleText::new(alloc, line)?,
+            kept_title: TitleText::new(alloc, line)?,
+            page_character: Some(b'%'),
+            line: line as usize,
+        })
+    }
+
     /// The text of a title.
     pub fn title(&self, which: WhichTitle) -> &TitleText
-        ensures { result.now.text ≡ title_of self.now.all which }
+        ensures { result.now.text ≡ title_in self.now which }
     {
         match which {
             WhichTitle::Read => &self.title,
@@ -30,29 +71,21 @@ impl RunRegisters {
 
     /// The part of a title that is read.
     pub fn title_part(&self) -> TitlePart
-        ensures { result ≡ self.now.all.title.part }
+        ensures { result ≡ self.now.title.part }
     {
         self.title.part()
     }
 
-    /// The format of the page number.
-    pub fn page_format(&self) -> Format
-        ensures { result ≡ self.now.all.page_format }
-    {
-        self.page_format
-    }
-
     /// The character that stands for the page number in titles, if one does.
     pub fn page_character(&self) -> Option<u8>
-        ensures { result ≡ self.now.all.page_character }
+        ensures { result ≡ self.now.page_character }
     {
         self.page_character
     }
 
     /// Sets it.
-    pub(super) fn set_page_character(&mut self, character: Option<u8>)
-        ensures registers { self.new ≡ with_change (CharacterIs character) self.old }
-        ensures room { admitted (CharacterIs character) self.old ≡ Ok tt }
+    pub fn set_page_character(&mut self, character: Option<u8>)
+        ensures { self.new ≡ record self.old { page_character = character } }
     {
         self.page_character = character;
     }
@@ -63,8 +96,8 @@ impl RunRegisters {
     ///
     /// [`Limit::Line`] if these are more than a title may have.
     pub fn begin_title(&mut self, bytes: &[u8]) -> Result<(), Limit>
-        ensures answer { result ≡ title_admitted (TitleBegins bytes.now) self.old }
-        ensures registers { self.new ≡ title_after (TitleBegins bytes.now) self.old }
+        ensures answer { result ≡ title_allowed (title_begun bytes.now) self.old }
+        ensures titles { self.new ≡ titles_with (title_begun bytes.now) self.old }
     {
         if bytes.len() > self.line {
             return Err(Limit::Line);
@@ -80,8 +113,9 @@ impl RunRegisters {
     ///
     /// [`Limit::Line`] if a title would have more than it may; it is as it was then.
     pub fn add_to_title(&mut self, bytes: &[u8]) -> Result<(), Limit>
-        ensures answer { result ≡ title_admitted (TitleGets bytes.now) self.old }
-        ensures registers { self.new ≡ title_after (TitleGets bytes.now) self.old }
+        ensures answer { result ≡ title_allowed (with_bytes bytes.now self.old.title) self.old }
+        ensures titles { self.new
+            ≡ titles_with (with_bytes bytes.now self.old.title) self.old }
     {
         if bytes.len() > self.title.room_left() {
             return Err(Limit::Line);
@@ -97,7 +131,7 @@ impl RunRegisters {
     pub fn add_front_to_title(&mut self, front: &[u8], delimiter: u8) -> usize
         ensures adds { AddsFront front.now delimiter result self.old self.new }
     {
-        let RunRegisters {
+        let Titles {
             title,
             page_character,
             ..
@@ -121,10 +155,10 @@ impl RunRegisters {
     ///
     /// [`Limit::Line`] if a title would have more bytes than it may; it is as it was then.
     pub fn add_blanks_to_title(&mut self, count: u32) -> Result<(), Limit>
-        ensures answer { result
-            ≡ title_admitted (TitleGets (replicate count glyph_blank)) self.old }
-        ensures registers { self.new
-            ≡ title_after (TitleGets (replicate count glyph_blank)) self.old }
+        ensures answer { result ≡ title_allowed
+            (with_bytes (replicate count glyph_blank) self.old.title) self.old }
+        ensures titles { self.new ≡ titles_with
+            (with_bytes (replicate count glyph_blank) self.old.title) self.old }
     {
         let count = count as usize;
         if count > self.title.room_left() {
@@ -136,7 +170,7 @@ impl RunRegisters {
 
     /// The part of the title that was read has ended.
     pub fn end_title_part(&mut self)
-        ensures { self.new ≡ with_change PartEnds self.old }
+        ensures { self.new ≡ record self.old { title = part_ended self.old.title } }
     {
         self.title.end_part();
     }
@@ -144,7 +178,10 @@ impl RunRegisters {
     /// The title that was read last is kept: it waits behind a macro that sprang. Nothing is read
     /// of another yet.
     pub fn keep_title(&mut self)
-        ensures { self.new ≡ record self.old { all = with_title_kept self.old.all } }
+        ensures { self.new ≡ record self.old {
+          title = title_begun [];
+          kept_title = self.old.title;
+        } }
     {
         mem::swap(&mut self.title, &mut self.kept_title);
         self.title.begin();
