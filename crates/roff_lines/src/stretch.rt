@@ -111,58 +111,33 @@ impl Stretch {
         self.len += times;
     }
 
-    /// Adds the first of these bytes, so many and so many columns wide, of which none is a gap.
+    /// Adds the first of these bytes, so many and so many columns wide, with so many gaps.
     #[tactic(auto, using(crate::proofs::Widths::text_width_le))]
-    pub(crate) fn extend(&mut self, bytes: &[u8], count: usize, width: u64)
+    pub(crate) fn extend(&mut self, bytes: &[u8], count: usize, width: u64, gaps: u64)
         requires count { count ≤ length bytes.now }
         requires room { length self.old.text + count ≤ self.old.room }
-        requires gaps { gaps_in (take count bytes.now) ≡ 0 }
+        requires gaps { gaps_in (take count bytes.now) ≡ gaps }
         requires width { text_width (take count bytes.now) ≡ width }
         ensures { self.new ≡ record self.old { text = self.old.text ++ take count bytes.now } }
     {
         fill(&mut self.bytes, self.len + count + STEP);
         copy_front(bytes, count, self.bytes.as_mut_slice(), self.len);
         self.width += width;
-        self.len += count;
-    }
-
-    /// Adds a gap of so many blanks, and words behind it: so many bytes in front with so many gaps.
-    /// Each is a column wide.
-    #[tactic(auto, using(crate::proofs::Widths::text_width_le))]
-    pub(crate) fn push_words(&mut self, blanks: usize, text: &[u8], count: usize, gaps: u64)
-        requires some { 0 < blanks }
-        requires count { count ≤ length text.now }
-        requires room { length self.old.text + (blanks + count) ≤ self.old.room }
-        requires gaps { gaps_in (take count text.now) ≡ gaps }
-        requires width { text_width (take count text.now) ≡ count }
-        ensures { self.new ≡ record self.old {
-          text = self.old.text ++ (gap_text blanks ++ take count text.now);
-        } }
-    {
-        let begin = self.len + blanks;
-        fill(&mut self.bytes, begin + count + STEP);
-        put_gap(self.bytes.as_mut_slice(), self.len, blanks);
-        copy_front(text, count, self.bytes.as_mut_slice(), begin);
-        self.width += (blanks + count) as u64;
-        self.gaps += gaps + 1;
-        self.len = begin + count;
-    }
-
-    /// Adds words directly behind the text, so many bytes in front with so many gaps. Each is a
-    /// column wide.
-    #[tactic(auto, using(crate::proofs::Widths::text_width_le))]
-    pub(crate) fn extend_by_words(&mut self, text: &[u8], count: usize, gaps: u64)
-        requires count { count ≤ length text.now }
-        requires room { length self.old.text + count ≤ self.old.room }
-        requires gaps { gaps_in (take count text.now) ≡ gaps }
-        requires width { text_width (take count text.now) ≡ count }
-        ensures { self.new ≡ record self.old { text = self.old.text ++ take count text.now } }
-    {
-        fill(&mut self.bytes, self.len + count + STEP);
-        copy_front(text, count, self.bytes.as_mut_slice(), self.len);
-        self.width += count as u64;
         self.gaps += gaps;
         self.len += count;
+    }
+
+    /// Adds a gap of so many blanks.
+    pub(crate) fn push_gap(&mut self, blanks: usize)
+        requires some { 0 < blanks }
+        requires room { length self.old.text + blanks ≤ self.old.room }
+        ensures { self.new ≡ record self.old { text = self.old.text ++ gap_text blanks } }
+    {
+        fill(&mut self.bytes, self.len + blanks + STEP);
+        put_gap(self.bytes.as_mut_slice(), self.len, blanks);
+        self.width += blanks as u64;
+        self.gaps += 1;
+        self.len += blanks;
     }
 
     /// Adds another text.

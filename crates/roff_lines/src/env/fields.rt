@@ -342,7 +342,7 @@ impl Env {
         let before = gap == 0 && self.ends_sentence;
         self.field.push_times(UNPADDABLE, gap);
         self.blanks = 0;
-        self.field.extend(bytes, count, width);
+        self.field.extend(bytes, count, width, 0);
         self.has_glyph = true;
         let (front, _) = bytes.split_at(count);
         self.ends_sentence = ends_sentence_behind(front, before);

@@ -196,8 +196,8 @@ impl Env {
         requires no_field { self.old.field ≡ None }
         ensures { self.new ≡ with_words (take count bytes.now) self.old }
     {
-        self.line
-            .push_words(self.blanks as usize, bytes, count, gaps);
+        self.line.push_gap(self.blanks as usize);
+        self.line.extend(bytes, count, count as u64, gaps);
         self.blanks = 1;
         self.has_glyph = true;
         let (text, _) = bytes.split_at(count);
@@ -249,7 +249,7 @@ impl Env {
     {
         let before = self.ends_in_word();
         self.begin_gap();
-        self.word.extend(bytes, count, width);
+        self.word.extend(bytes, count, width, 0);
         self.is_open = true;
         self.has_glyph = true;
         let (front, _) = bytes.split_at(count);

@@ -60,7 +60,7 @@ impl Env {
         ensures kept { self.new ≡ with_line_put (take count bytes.now) self.old }
         ensures line { shaped result self.new.finished ≡ line_of (take count bytes.now) self.old }
     {
-        self.word.extend_by_words(bytes, count, gaps);
+        self.word.extend(bytes, count, count as u64, gaps);
         mem::swap(&mut self.finished, &mut self.word);
         self.word.clear();
         self.indent = match self.temporary_indent {
