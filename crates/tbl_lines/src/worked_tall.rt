@@ -46,6 +46,7 @@ pub fn over_rows()
         ++ rows_under (plain_key 0 Above 0 ∷ plain_key 0 Left 1 ∷ []) (codes "\\^:c" ∷ []))
         ≡ codes "\\&+---+---+\n\\&|   | b |\n\\&| a +---+\n\\&|   | c |\n\\&+---+---+\n" }
     ensures three { tall_lines not_boxed (0 ∷ 0 ∷ [])
-        (rows_under (plain_key 0 Left 0 ∷ plain_key 0 Left 1 ∷ []) (codes "a:b" ∷ codes "\\^:c" ∷ codes "\\^:d" ∷ codes "e:\\^" ∷ []))
+        (rows_under (plain_key 0 Left 0 ∷ plain_key 0 Left 1 ∷ [])
+        (codes "a:b" ∷ codes "\\^:c" ∷ codes "\\^:d" ∷ codes "e:\\^" ∷ []))
         ≡ codes "\\&    b\n\\&a   c\n\\&    d\n\\&e\n" }
 {}

@@ -42,7 +42,8 @@ pub fn pictures()
     ensures rule_row { lines_after 65 (codes "l l l" ∷ codes "___" ∷ codes "l l l."
         ∷ codes "a\tb\tc" ∷ codes "d\te\tf" ∷ codes "g" ∷ [])
         ≡ codes "\\&a   b   c\n\\&---------\n\\&d   e   f\n\\&g\n" }
-    ensures short_row { lines_after 65 (codes "l l" ∷ codes "l _." ∷ codes "ab\tcd" ∷ codes "e" ∷ [])
+    ensures short_row { lines_after 65 (codes "l l" ∷ codes "l _."
+        ∷ codes "ab\tcd" ∷ codes "e" ∷ [])
         ≡ codes "\\&ab   cd\n\\&e    --\n" }
     ensures last_rule_row { lines_after 65 (codes "l" ∷ codes "_." ∷ codes "ab" ∷ codes "c" ∷ [])
         ≡ codes "\\&ab\n\\&--\n" }

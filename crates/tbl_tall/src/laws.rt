@@ -20,7 +20,8 @@ ghost use Rattle.tbl_line_cells.specs.declared.cells.CellLeft.{CellLeft};
 /// Below a row, the rules that a box adds inside count as one line where no other rule stands.
 pub fn over_boxed()
     ensures { (boxing : Boxing) (keys : List FormatKey) (cell : ℕ) (heights : List ℕ)
-        (elements : List Element) → lines_over keys cell 0 heights (ruled_inside boxing true elements)
+        (elements : List Element)
+        → lines_over keys cell 0 heights (ruled_inside boxing true elements)
         ≡ lines_below boxing.is_inside keys cell 0 heights elements }
 {}
 

@@ -311,7 +311,8 @@ fn begun(
 
 /// What stands in a cell that begins with its row.
 fn own_entry(entry: Entry) -> Entry
-    ensures field { (bytes : List ℕ) → content_of bytes result ≡ own_field (content_of bytes entry) }
+    ensures field { (bytes : List ℕ)
+        → content_of bytes result ≡ own_field (content_of bytes entry) }
     ensures lies { (bytes : List ℕ) → Lies bytes entry → Lies bytes result }
     ensures laid { (bytes : List ℕ) (key : Key) → IsLaid bytes key entry
         → IsLaid bytes key result }

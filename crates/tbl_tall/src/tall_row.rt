@@ -297,9 +297,9 @@ impl TallRow {
         requires room { columns ≤ self.old.room }
         requires empty { self.old.cells ≡ [] }
         requires few { rules < 2 ^ 62 }
-        ensures comes { (bytes : List ℕ) (formats : List FormatRow) (boxing : OneBoxing) (rows : KeptRows)
-            (s : Sheet) (lefts : List Left) (beside : Beside) (heights : List ℕ) (keys : List FormatKey)
-            (all : List Element)
+        ensures comes { (bytes : List ℕ) (formats : List FormatRow) (boxing : OneBoxing)
+            (rows : KeptRows) (s : Sheet) (lefts : List Left) (beside : Beside)
+            (heights : List ℕ) (keys : List FormatKey) (all : List Element)
             → StandsBelow bytes formats boxing rows s self.old lefts beside
             → length rows.columns ≡ columns → RulesThen rules all []
             → Comes bytes formats s self.new heights

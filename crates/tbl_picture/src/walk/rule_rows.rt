@@ -189,7 +189,8 @@ impl Walk {
         requires above { IsRowThere rows.now.elements self.now.above }
         requires below { IsRowThere rows.now.elements below }
         requires rules { rules.first + rules.count ≤ length (all_rows format.now.format) }
-        ensures { (bytes : List ℕ) (sign : RuleSign) → result ≡ met_at_edge self.now.bars (Whole sign)
+        ensures { (bytes : List ℕ) (sign : RuleSign)
+            → result ≡ met_at_edge self.now.bars (Whole sign)
             (line_beside bytes (all_rows format.now.format) false rows.now.elements self.now.above)
             (behind_rules (rows_of (all_rows format.now.format) rules)
             (line_beside bytes (all_rows format.now.format) true rows.now.elements below)) at }
