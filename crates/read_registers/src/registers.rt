@@ -85,7 +85,7 @@ impl RunRegisters {
     /// # Errors
     ///
     /// [`AllocError`] if the memory for them can't be had.
-    pub fn new(alloc: Global, cap: u32) -> Result<Self, AllocError>
+    pub(crate) fn new(alloc: Global, cap: u32) -> Result<Self, AllocError>
         ensures { IfOk result (λ r. r ≡ no_numbers cap) }
     {
         Ok(RunRegisters {
@@ -96,7 +96,7 @@ impl RunRegisters {
     }
 
     /// No more names have a register than may.
-    pub fn stay_within(&self)
+    pub(crate) fn stay_within(&self)
         ensures { nat_lt self.now.cap (length self.now.named) ≡ false }
     {
         let _ = &self.named;

@@ -48,7 +48,7 @@ impl Titles {
     /// # Errors
     ///
     /// [`AllocError`] if the memory for them can't be had.
-    pub fn new(alloc: Global, line: u32) -> Result<Self, AllocError>
+    pub(crate) fn new(alloc: Global, line: u32) -> Result<Self, AllocError>
         ensures { IfOk result (λ r. r ≡ no_titles line) }
     {
         Ok(Titles {
@@ -84,7 +84,7 @@ impl Titles {
     }
 
     /// Sets it.
-    pub fn set_page_character(&mut self, character: Option<u8>)
+    pub(crate) fn set_page_character(&mut self, character: Option<u8>)
         ensures { self.new ≡ record self.old { page_character = character } }
     {
         self.page_character = character;
