@@ -11,7 +11,7 @@ use Rattle.tbl_kept.specs.RowsLaying.{element_at}
 use Rattle.tbl_layout.specs.Entries.{Element, Row}
 use Rattle.tbl_layout.specs.declared.columns.Column.{Column}
 use Rattle.tbl_lines.specs.CellsLeft.{Left, all_keys, all_stopped, bars_at_end, cells_next}
-use Rattle.tbl_lines.specs.LinesLeft.{Beside, OfRow, overs}
+use Rattle.tbl_lines.specs.LinesLeft.{OfRow, overs}
 use Rattle.tbl_lines.specs.PictureLines.{Sheet, boxed_from}
 use Rattle.tbl_options.specs.declared.options.Boxing.{Boxing}
 use Rattle.tbl_tall.proofs.CellsNext.{all-at, all-drop, fronts-lie, get-drop}
@@ -22,7 +22,7 @@ use Rattle.tbl_tall.proofs.StopsSet.{stops-have}
 use Rattle.tbl_tall.specs.Bands.{BandFits, GoThrough, ShowBars, keys_in}
 use Rattle.tbl_line_cells.specs.KeptCells.{AllLeft, behind_rules}
 use Rattle.tbl_tall.specs.LinesOver.{heights_kept}
-use Rattle.tbl_tall.specs.RowsNext.{HasKeys, RowIsAt, RulesThen, StandsBelow, boxed_behind, cell_kept, cells_by, rules_in_front}
+use Rattle.tbl_tall.specs.RowsNext.{HasKeys, LeftAbove, RowIsAt, RulesThen, StandsBelow, boxed_behind, cell_kept, cells_by, drawn_on, rules_in_front}
 use Rattle.tbl_tall.specs.TallRows.{Comes, ElementLies, KeptTall, RowLies, RowsLie}
 use Rattle.tbl_tall.specs.declared.next_cells.RowComing.{RowComing}
 
@@ -50,9 +50,9 @@ pub record IsFilled (bytes : List ℕ) (formats : List FormatRow) (boxing : Boxi
   pub room : t.room ≡ told.room
 
 module _ (bytes : List ℕ) (formats : List FormatRow) (boxing : Boxing) (rows : KeptRows) (s : Sheet) (row : RowComing) (rules : ℕ) (told t : KeptTall)
-    (keys : List FormatKey) (lefts : List Left) (beside : Beside) (all : List Element) (lie : RowsLie formats rows) (at : row.at < length rows.elements)
-    (is : RowIsAt rows.elements row) (stand : StandsBelow bytes formats boxing rows s told lefts beside)
-    (filled : IsFilled bytes formats boxing rows row rules told t keys lefts) (few : rules < 2305843009213693952) (few_keys : row.rules < 4294967296)
+    (up : LeftAbove) (all : List Element) (lie : RowsLie formats rows) (at : row.at < length rows.elements)
+    (is : RowIsAt rows.elements row) (stand : StandsBelow (drawn_on s bytes formats boxing rows) told up)
+    (filled : IsFilled bytes formats boxing rows row rules told t up.keys up.cells) (few : rules < 2305843009213693952) (few_keys : row.rules < 4294967296)
     (some : 0 < length rows.columns) (enough : length rows.columns ≤ told.room) (small : told.room < 4294967296)
     (within : row.keys < 18446744073709551616) where
   abbrev n : ℕ
@@ -72,7 +72,7 @@ module _ (bytes : List ℕ) (formats : List FormatRow) (boxing : Boxing) (rows :
 
   abbrev cells_of : ℕ → KeptElement → List Left
   cells_of m e = all_stopped m format.keys (elements_of bytes formats es) 0
-      (cells_by (cell_kept bytes formats boxing.is_inside keys lefts e es) 0 (all_keys m format))
+      (cells_by (cell_kept bytes formats boxing.is_inside up.keys up.cells e es) 0 (all_keys m format))
 
   abbrev cells : List Left
   cells = cells_of n own
@@ -107,8 +107,8 @@ module _ (bytes : List ℕ) (formats : List FormatRow) (boxing : Boxing) (rows :
       (subst (λ (m : ℕ). ShowBars boxing (columns_of (keys_in t.cells)) t.band.below
       (OfRow (map (behind_rules (t.band.wholes + t.band.count)) cells) m)) last (filled.below cells kept))))
 
-  shown-above : ShowBars s.bars.boxing n t.band.above beside
-  shown-above = subst (λ (xs : List ℕ). ShowBars s.bars.boxing n xs beside) (sym filled.above) stand.shown
+  shown-above : ShowBars s.bars.boxing n t.band.above up.line
+  shown-above = subst (λ (xs : List ℕ). ShowBars s.bars.boxing n xs up.line) (sym filled.above) stand.shown
 
   as-many : length t.band.through ≡ n
   as-many = filled.as_many ∙ cover.all ∙ same
@@ -125,12 +125,12 @@ module _ (bytes : List ℕ) (formats : List FormatRow) (boxing : Boxing) (rows :
     small = omega (arith, filled.most, filled.count, few, few_keys);
   }
 
-  keeps : RowKeeps bytes formats s t cells format wholes (row.keys - row.rules) row.rules row.height beside
+  keeps : RowKeeps bytes formats s t cells format wholes (row.keys - row.rules) row.rules row.height up.line
   keeps = record {
     left = kept;
     keys = stops-have n format.keys (elements_of bytes formats es) 0
-        (cells_by (cell_kept bytes formats boxing.is_inside keys lefts own es) 0 (all_keys n format)) (all_keys n format)
-        (keys-kept bytes formats boxing.is_inside keys lefts own es (all_keys n format));
+        (cells_by (cell_kept bytes formats boxing.is_inside up.keys up.cells own es) 0 (all_keys n format)) (all_keys n format)
+        (keys-kept bytes formats boxing.is_inside up.keys up.cells own es (all_keys n format));
     fits = fits;
     as_many = as-many;
     through = filled.through cells s.columns kept (sym (cover.all ∙ same));
@@ -150,15 +150,15 @@ module _ (bytes : List ℕ) (formats : List FormatRow) (boxing : Boxing) (rows :
 
   pub filled-comes : RulesThen rules all (boxed_behind bytes formats boxing (is_some row.above) rules (drop row.at rows.elements))
       → Comes bytes formats s t (heights_kept (drop row.at rows.elements))
-      (cells_next n keys lefts (heights_kept (drop row.at rows.elements)) all) beside all
+      (cells_next n up.keys up.cells (heights_kept (drop row.at rows.elements)) all) up.line all
   filled-comes then_come =
       let here = subst (λ (xs : List KeptElement). RulesThen rules all (boxed_behind bytes formats boxing (is_some row.above) rules xs)) is.is then_come in
       let fields = fields_of bytes format is.entries in
       let then_row : RulesThen wholes all (Row (rows_in_front formats row.keys row.rules) format fields ∷ boxed_from boxing true (elements_of bytes formats es))
       = step-row bytes formats boxing (is_some row.above) rules all row.keys row.rules row.height is.entries es in-front here in
       let fronts = fronts-lie formats (length rows.columns) es (all-drop (ElementLies formats (length rows.columns)) rows.elements (suc row.at) lie) in
-      let next = cells-come bytes formats boxing n wholes row.keys row.rules row.height is.entries es keys lefts all fronts then_row in
-      subst (λ (xs : List KeptElement). Comes bytes formats s t (heights_kept xs) (cells_next n keys lefts (heights_kept xs) all) beside all) (sym is.is)
-      (subst (λ (cs : List Left). Comes bytes formats s t (row.height ∷ heights_kept es) cs beside all) (sym next)
+      let next = cells-come bytes formats boxing n wholes row.keys row.rules row.height is.entries es up.keys up.cells all fronts then_row in
+      subst (λ (xs : List KeptElement). Comes bytes formats s t (heights_kept xs) (cells_next n up.keys up.cells (heights_kept xs) all) up.line all) (sym is.is)
+      (subst (λ (cs : List Left). Comes bytes formats s t (row.height ∷ heights_kept es) cs up.line all) (sym next)
       (keeps-comes bytes formats s t cells row.keys row.rules row.height wholes fields (boxed_from boxing true (elements_of bytes formats es))
-      (heights_kept es) beside all keeps in-front then_row))
+      (heights_kept es) up.line all keeps in-front then_row))

@@ -10,7 +10,7 @@ use Rattle.tbl_layout.specs.Entries.{Command, Element, Rule, field_at}
 use Rattle.tbl_layout.specs.Heights.{cell_above}
 use Rattle.tbl_layout.specs.declared.data_lines.RuleSign.{RuleSign}
 use Rattle.tbl_layout.specs.declared.entry.Entry.{Entry}
-use Rattle.tbl_lines.specs.CellsLeft.{Left, begun, cell_by, gone_on, nothing_left}
+use Rattle.tbl_lines.specs.CellsLeft.{Left, begun, cell_by, cells_next, gone_on, nothing_left}
 use Rattle.tbl_lines.specs.LinesLeft.{Beside}
 use Rattle.tbl_lines.specs.PictureLines.{Sheet, boxed_from}
 use Rattle.tbl_lines.specs.RulePlaces.{HavePlaces}
@@ -20,7 +20,7 @@ use Rattle.tbl_line_cells.specs.KeptCells.{AllLeft, IsLeft}
 use Rattle.tbl_tall.specs.LinesOver.{lines_kept}
 use Rattle.tbl_line_cells.specs.declared.cells.CellLeft.{CellLeft}
 use Rattle.tbl_tall.specs.declared.next_cells.RowComing.{RowComing}
-use Rattle.tbl_tall.specs.TallRows.{BarsFit, KeptTall}
+use Rattle.tbl_tall.specs.TallRows.{BarsFit, Comes, KeptTall}
 
 -- elements begin with so many rules, among commands, and then come these
 pub data RulesThen : ℕ → List Element → List Element → Type 0 where
@@ -95,16 +95,37 @@ pub record GoesOnWith (bytes : List ℕ) (other : Option ℕ) (lefts : List Left
   pub kept : IsLeft bytes c left
   pub is : cell_by other lefts new ≡ gone_on new.key left
 
+-- a table that is drawn on a sheet: its bytes, the rows of its formats, how it is boxed, and its rows as they are kept
+pub record TableDrawn : Type 0 where
+  pub bytes : List ℕ
+  pub formats : List FormatRow
+  pub boxing : Boxing
+  pub rows : KeptRows
+  pub sheet : Sheet
+
+abbrev pub drawn_on : Sheet → List ℕ → List FormatRow → Boxing → KeptRows → TableDrawn
+drawn_on s bytes formats boxing rows = record { bytes = bytes; formats = formats; boxing = boxing; rows = rows; sheet = s }
+
+-- what is left above a row that comes: the keys of the row there, its cells as they are left, and the line above
+pub record LeftAbove : Type 0 where
+  pub keys : List FormatKey
+  pub cells : List Left
+  pub line : Beside
+
 -- below cells that are left so and a line whose bars are kept, in a picture for whose bars there are places
-pub record StandsBelow (bytes : List ℕ) (formats : List FormatRow) (boxing : Boxing) (rows : KeptRows) (s : Sheet) (t : KeptTall) (lefts : List Left)
-    (above : Beside) : Type 0 where
-  pub columns : s.columns ≡ rows.columns
-  pub boxed : s.bars.boxing ≡ boxing
-  pub places : HavePlaces formats s
-  pub laid : RowsLaid bytes formats boxing.is_inside rows
-  pub left : AllLeft bytes t.above lefts
-  pub shown : ShowBars s.bars.boxing (length s.columns) t.band.above above
-  pub fit : BarsFit s above
+pub record StandsBelow (d : TableDrawn) (t : KeptTall) (a : LeftAbove) : Type 0 where
+  pub columns : d.sheet.columns ≡ d.rows.columns
+  pub boxed : d.sheet.bars.boxing ≡ d.boxing
+  pub places : HavePlaces d.formats d.sheet
+  pub laid : RowsLaid d.bytes d.formats d.boxing.is_inside d.rows
+  pub left : AllLeft d.bytes t.above a.cells
+  pub shown : ShowBars d.sheet.bars.boxing (length d.sheet.columns) t.band.above a.line
+  pub fit : BarsFit d.sheet a.line
+
+-- below what is left, the row that comes first of elements with these heights comes next: its cells begin, or go on with those above
+abbrev pub ComesBelow : TableDrawn → KeptTall → LeftAbove → List ℕ → List Element → Type 0
+ComesBelow d t a heights elements =
+    Comes d.bytes d.formats d.sheet t heights (cells_next (length d.sheet.columns) a.keys a.cells heights elements) a.line elements
 
 -- the elements from one on, behind a row or not, and so many rules
 abbrev pub boxed_behind : List ℕ → List FormatRow → Boxing → Bool → ℕ → List KeptElement → List Element

@@ -3,10 +3,8 @@
 
 ghost use Rattle.std.specs.Prelude.{◌≡◌, ℕ, suc, ◌+◌, ◌<◌, ◌≤◌, ◌^◌, [], List, drop, length};
 ghost use Rattle.std.specs.Prelude.{IfOk, IfSome, None, is_some, nat_lt, true};
-ghost use Rattle.tbl_format.specs.Format.{FormatRow};
 ghost use Rattle.tbl_format.specs.RowsServed.{all_rows, row_at};
-ghost use Rattle.tbl_format.specs.declared.format.FormatKey.{FormatKey};
-ghost use Rattle.tbl_kept.specs.Rows.{KeptRows, Row, RowsLaid, elements_of};
+ghost use Rattle.tbl_kept.specs.Rows.{Row, RowsLaid, elements_of};
 ghost use Rattle.tbl_kept.specs.RowsLaying.{element_at};
 ghost use Rattle.tbl_layout.specs.Entries.{Element};
 ghost use Rattle.tbl_layout.specs.declared.entry.Entry.{Entry};
@@ -15,7 +13,6 @@ ghost use Rattle.tbl_lines.specs.LinesLeft.{Beside, Nothing};
 ghost use Rattle.tbl_lines.specs.PictureLines.{Sheet, boxed, boxed_from};
 ghost use Rattle.tbl_lines.specs.RowsLent.{LiesInColumns, lent_entries, lent_row};
 ghost use Rattle.tbl_lines.specs.RulePlaces.{HavePlaces};
-ghost use Rattle.tbl_options.specs.declared.options.Boxing.{Boxing as OneBoxing};
 ghost use Rattle.tbl_line_cells.specs.LinesDrawn.{Draws, laid_row};
 ghost use Rattle.tbl_tall.specs.LinesOver.{heights_kept};
 
@@ -68,8 +65,8 @@ impl Model for TallRow {
 
 impl TallRow {
     ghost use Rattle.tbl_tall.specs.Bands.{wholes_left};
-    ghost use Rattle.tbl_tall.specs.RowsNext.{RowAbove, RowIsAt, RulesThen, StandsBelow};
-    ghost use Rattle.tbl_tall.specs.RowsNext.{boxed_behind};
+    ghost use Rattle.tbl_tall.specs.RowsNext.{ComesBelow, LeftAbove, RowAbove, RowIsAt, RulesThen};
+    ghost use Rattle.tbl_tall.specs.RowsNext.{StandsBelow, TableDrawn, boxed_behind, drawn_on};
     ghost use Rattle.tbl_tall.specs.TallRows.{Comes, RowEnded, RowsLie};
 
     /// Room for a table of so many columns.
@@ -207,15 +204,13 @@ impl TallRow {
         requires empty { self.old.cells ≡ [] }
         requires before { before ≤ 1 }
         requires come { self.old.come < 2 ^ 63 }
-        ensures comes { (bytes : List ℕ) (s : Sheet) (keys : List FormatKey) (lefts : List Left)
-            (beside : Beside) (all : List Element)
-            → StandsBelow bytes (all_rows format.now.format) boxing rows.now s self.old lefts beside
-            → RowAbove (all_rows format.now.format) rows.now.elements above keys
-            → RulesThen before all (boxed_behind bytes (all_rows format.now.format) boxing
-            (is_some above) before (drop first rows.now.elements))
-            → let heights = heights_kept (drop first rows.now.elements) in
-            Comes bytes (all_rows format.now.format) s self.new heights
-            (cells_next (length s.columns) keys lefts heights all) beside all }
+        ensures comes { (bytes : List ℕ) (s : Sheet) (a : LeftAbove) (all : List Element)
+            → let d = drawn_on s bytes (all_rows format.now.format) boxing rows.now in
+            let elements = drop first rows.now.elements in
+            StandsBelow d self.old a → RowAbove d.formats rows.now.elements above a.keys
+            → RulesThen before all
+            (boxed_behind bytes d.formats boxing (is_some above) before elements)
+            → ComesBelow d self.new a (heights_kept elements) all }
         ensures come { self.new.come ≡ self.old.come }
         ensures room { self.new.room ≡ self.old.room }
     {
@@ -261,15 +256,13 @@ impl TallRow {
         requires few { rules < 2 ^ 61 }
         requires few_keys { row.rules < 2 ^ 32 }
         requires come { self.old.come < 2 ^ 63 }
-        ensures comes { (bytes : List ℕ) (s : Sheet) (keys : List FormatKey) (lefts : List Left)
-            (beside : Beside) (all : List Element)
-            → StandsBelow bytes (all_rows format.now.format) boxing rows.now s self.old lefts beside
-            → RowAbove (all_rows format.now.format) rows.now.elements row.above keys
-            → RulesThen rules all (boxed_behind bytes (all_rows format.now.format) boxing
-            (is_some row.above) rules (drop row.at rows.now.elements))
-            → let heights = heights_kept (drop row.at rows.now.elements) in
-            Comes bytes (all_rows format.now.format) s self.new heights
-            (cells_next (length s.columns) keys lefts heights all) beside all }
+        ensures comes { (bytes : List ℕ) (s : Sheet) (a : LeftAbove) (all : List Element)
+            → let d = drawn_on s bytes (all_rows format.now.format) boxing rows.now in
+            let elements = drop row.at rows.now.elements in
+            StandsBelow d self.old a → RowAbove d.formats rows.now.elements row.above a.keys
+            → RulesThen rules all
+            (boxed_behind bytes d.formats boxing (is_some row.above) rules elements)
+            → ComesBelow d self.new a (heights_kept elements) all }
         ensures come { self.new.come ≡ self.old.come }
         ensures room { self.new.room ≡ self.old.room }
     {
@@ -297,13 +290,9 @@ impl TallRow {
         requires room { columns ≤ self.old.room }
         requires empty { self.old.cells ≡ [] }
         requires few { rules < 2 ^ 62 }
-        ensures comes { (bytes : List ℕ) (formats : List FormatRow) (boxing : OneBoxing)
-            (rows : KeptRows) (s : Sheet) (lefts : List Left) (beside : Beside)
-            (heights : List ℕ) (keys : List FormatKey) (all : List Element)
-            → StandsBelow bytes formats boxing rows s self.old lefts beside
-            → length rows.columns ≡ columns → RulesThen rules all []
-            → Comes bytes formats s self.new heights
-            (cells_next (length s.columns) keys lefts heights all) beside all }
+        ensures comes { (d : TableDrawn) (a : LeftAbove) (heights : List ℕ) (all : List Element)
+            → StandsBelow d self.old a → length d.rows.columns ≡ columns → RulesThen rules all []
+            → ComesBelow d self.new a heights all }
         ensures come { self.new.come ≡ self.old.come }
         ensures room { self.new.room ≡ self.old.room }
     {

@@ -49,7 +49,7 @@ invariant_of-self c = record {
 }
 
 pub returns-clause-comes : goal.returns-clause-comes
-returns-clause-comes c = λ bytes s keys lefts beside all stand above then_come.
+returns-clause-comes c = λ bytes s up all stand above then_come.
     let a = c.self.inside in
     let rows = c.args.rows.now in
     let formats = all_rows c.args.format.now.format in
@@ -75,10 +75,10 @@ returns-clause-comes c = λ bytes s keys lefts beside all stand above then_come.
     let same_count = ap (λ (b : KeptBand). b.count) rest in
     let set_wholes = ap (λ (b : KeptBand). b.wholes) lines in
     let same_lines : c.set_lines.new.self.wholes + c.set_lines.new.self.count ≡ new.band.wholes + new.band.count = omega (arith, same_wholes, same_count) in
-    filled-comes bytes formats c.args.boxing rows s c.args.row c.args.rules (kept_by a) new keys lefts beside all c.requires.lie c.requires.at c.requires.row here
+    filled-comes bytes formats c.args.boxing rows s c.args.row c.args.rules (kept_by a) new up all c.requires.lie c.requires.at c.requires.row here
     (record {
-      left = c.fill_cells.ensures.left bytes keys lefts here.laid.elements above
-          (subst (λ (cs : List CellLeft). AllLeft bytes cs lefts) (sym c.as_slice.ensures.value) here.left);
+      left = c.fill_cells.ensures.left bytes up.keys up.cells here.laid.elements above
+          (subst (λ (cs : List CellLeft). AllLeft bytes cs up.cells) (sym c.as_slice.ensures.value) here.left);
       has = c.fill_cells.ensures.keys;
       through = λ lefts_own columns kept many. (rw own at c.end.ensures.through) bytes lefts_own columns kept many;
       below = λ lefts_own kept.

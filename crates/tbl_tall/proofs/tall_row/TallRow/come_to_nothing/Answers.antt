@@ -45,8 +45,9 @@ invariant_of-self c = record {
 }
 
 pub returns-clause-comes : goal.returns-clause-comes
-returns-clause-comes c = λ bytes formats boxing rows s lefts beside heights keys all stand many then_none.
+returns-clause-comes c = λ d up heights all stand many then_none.
     let a = c.self.inside in
+    let s = d.sheet in
     let here = rw (← c.self.view_is) at stand in
     let room = rw (← c.self.view_is) at c.requires.room in
     let lines = c.set_lines.ensures.lines in
@@ -66,7 +67,7 @@ returns-clause-comes c = λ bytes formats boxing rows s lefts beside heights key
       room = a.room;
     } in
     let above : new.band.above ≡ a.band.above.items = ap (λ (b : KeptBand). b.above) rest ∙ ap (λ (b : KeptBand). b.above) lines in
-    let shown : ShowBars s.bars.boxing n new.band.above beside = subst (λ (xs : List ℕ). ShowBars s.bars.boxing n xs beside) (sym above) here.shown in
+    let shown : ShowBars s.bars.boxing n new.band.above up.line = subst (λ (xs : List ℕ). ShowBars s.bars.boxing n xs up.line) (sym above) here.shown in
     let below : ShowBars s.bars.boxing n new.band.below Nothing
     = subst (λ (m : ℕ). ShowBars s.bars.boxing m new.band.below Nothing) same (c.end_nothing.ensures.below s.bars.boxing) in
     let as_many : length new.band.through ≡ n = c.end_nothing.ensures.columns ∙ same in
@@ -74,8 +75,8 @@ returns-clause-comes c = λ bytes formats boxing rows s lefts beside heights key
     let wholes = ap (λ (b : KeptBand). b.wholes) rest ∙ ap (λ (b : KeptBand). b.wholes) lines in
     let first = ap (λ (b : KeptBand). b.first) rest ∙ ap (λ (b : KeptBand). b.first) lines in
     let count = ap (λ (b : KeptBand). b.count) rest ∙ ap (λ (b : KeptBand). b.count) lines in
-    nothing-comes bytes formats s new c.args.rules keys lefts heights beside all (record {
-      left = subst (λ (m : ℕ). AllLeft bytes c.fill_nothing.new.cells.items (map nothing_left (keys_behind m 0 0))) same (c.fill_nothing.ensures.left bytes);
+    nothing-comes d.bytes d.formats s new c.args.rules up.keys up.cells heights up.line all (record {
+      left = subst (λ (m : ℕ). AllLeft d.bytes c.fill_nothing.new.cells.items (map nothing_left (keys_behind m 0 0))) same (c.fill_nothing.ensures.left d.bytes);
       fits = record {
         some = omega (arith, as_many, same, c.requires.some);
         few = omega (arith, as_many, same, room, c.self.invariant.few);

@@ -4,15 +4,14 @@ use Rattle.tbl_format.specs.RowsServed.{all_rows}
 use Rattle.tbl_kept.specs.Rows.{KeptElement, lent}
 use Rattle.tbl_kept.specs.declared.rows.Lent.{Lent}
 use Rattle.tbl_layout.specs.declared.columns.Column.{Column}
-use Rattle.tbl_lines.specs.CellsLeft.{cells_next}
 use Rattle.tbl_lines.specs.PictureLines.{frame_rules}
 use Rattle.tbl_tall.proofs.CellsNext.{drop-past}
 use Rattle.tbl_tall.proofs.RowsComing.{frame-last, step-command, step-end, step-rule}
 use Rattle.tbl_tall.proofs.tall_row.TallRow.come_to_row.Goals as goal
 use Rattle.tbl_tall.proofs.tall_row.TallRow.come_to_row.Goals.{in-Rule, in-Command}
 use Rattle.tbl_tall.specs.LinesOver.{heights_kept}
-use Rattle.tbl_tall.specs.RowsNext.{RulesThen, StandsBelow, boxed_behind}
-use Rattle.tbl_tall.specs.TallRows.{Comes, KeptTall}
+use Rattle.tbl_tall.specs.RowsNext.{ComesBelow, RulesThen, StandsBelow, boxed_behind, drawn_on}
+use Rattle.tbl_tall.specs.TallRows.{KeptTall}
 
 pub loop-at-preserved : goal.loop-at-preserved
 loop-at-preserved c =
@@ -94,14 +93,14 @@ pub returns-clause-room : goal.returns-clause-room
 returns-clause-room c = c.come_to_nothing.ensures.room ∙ ap (λ (t : KeptTall). t.room) c.loop-at.invariant.same
 
 pub returns-in-Row-clause-comes : goal.returns-in-Row-clause-comes
-returns-in-Row-clause-comes c = λ bytes s keys lefts beside all stand above first.
+returns-in-Row-clause-comes c = λ bytes s up all stand above first.
     let i = c.loop-at.invariant in
-    subst (λ (hs : List ℕ). Comes bytes (all_rows c.args.format.now.format) s c.come_to.new.self hs (cells_next (length s.columns) keys lefts hs all) beside all)
-    (sym i.heights) (c.come_to.ensures.comes bytes s keys lefts beside all
-    (subst (λ (t : KeptTall). StandsBelow bytes (all_rows c.args.format.now.format) c.args.boxing c.args.rows.now s t lefts beside) (sym i.same) stand) above (i.then_come bytes all first))
+    let d = drawn_on s bytes (all_rows c.args.format.now.format) c.args.boxing c.args.rows.now in
+    subst (λ (heights : List ℕ). ComesBelow d c.come_to.new.self up heights all) (sym i.heights)
+    (c.come_to.ensures.comes bytes s up all (subst (λ (t : KeptTall). StandsBelow d t up) (sym i.same) stand) above (i.then_come bytes all first))
 
 pub returns-clause-comes : goal.returns-clause-comes
-returns-clause-comes c = λ bytes s keys lefts beside all stand above first.
+returns-clause-comes c = λ bytes s up all stand above first.
     let i = c.loop-at.invariant in
     let elements = c.args.rows.now.elements in
     let formats = all_rows c.args.format.now.format in
@@ -114,6 +113,7 @@ returns-clause-comes c = λ bytes s keys lefts beside all stand above first.
     (subst (λ (xs : List KeptElement). RulesThen c.loop-at.rules all (boxed_behind bytes formats boxing is_below c.loop-at.rules xs)) none
     (i.then_come bytes all first)) in
     let frame : c.loop-at.rules + length (frame_rules boxing) ≡ c.loop-at.rules + c.frame_lines.result = omega (arith, c.frame_lines.ensures.value) in
-    c.come_to_nothing.ensures.comes bytes formats boxing c.args.rows.now s lefts beside (heights_kept (drop c.args.first elements)) keys all
-    (subst (λ (t : KeptTall). StandsBelow bytes formats boxing c.args.rows.now s t lefts beside) (sym i.same) stand) many
+    let d = drawn_on s bytes formats boxing c.args.rows.now in
+    c.come_to_nothing.ensures.comes d up (heights_kept (drop c.args.first elements)) all
+    (subst (λ (t : KeptTall). StandsBelow d t up) (sym i.same) stand) many
     (subst (λ (n : ℕ). RulesThen n all []) frame (frame-last boxing c.loop-at.rules all behind))

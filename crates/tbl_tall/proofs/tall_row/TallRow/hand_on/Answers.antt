@@ -36,7 +36,8 @@ returns-clause-comes c = λ bytes s cells above keys rules height entries column
     subst (λ (at : ℕ). Comes bytes formats s c.come_to_row.new.self (heights_kept (drop at elements))
     (cells_next n own cells (heights_kept (drop at elements)) (boxed_from boxing true (elements_of bytes formats (drop at elements)))) above
     (boxed_from boxing true (elements_of bytes formats (drop at elements)))) next
-    (c.come_to_row.ensures.comes bytes s own cells above (boxed_from boxing true (elements_of bytes formats (drop (c.args.element + 1) elements)))
+    (c.come_to_row.ensures.comes bytes s (record { keys = own; cells = cells; line = above })
+    (boxed_from boxing true (elements_of bytes formats (drop (c.args.element + 1) elements)))
     (record {
       columns = columns;
       boxed = boxed;

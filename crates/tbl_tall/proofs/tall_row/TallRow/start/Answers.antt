@@ -31,7 +31,7 @@ returns-clause-comes c = λ bytes s columns boxed_so places laid.
     let es = elements_of bytes (all_rows c.args.format.now.format) rows.elements in
     let same : length c.columns.result.now ≡ length s.columns
     = ap (λ (cs : List Column). length cs) c.columns.ensures ∙ ap (λ (cs : List Column). length cs) (sym columns) in
-    c.come_to_row.ensures.comes bytes s [] [] Nothing (boxed boxing es) (record {
+    c.come_to_row.ensures.comes bytes s (record { keys = []; cells = []; line = Nothing }) (boxed boxing es) (record {
       columns = columns;
       boxed = boxed_so;
       places = places;
