@@ -10,7 +10,8 @@ use Rattle.std.specs.Prelude.{Result, Ok, Err, if◌then◌else◌, option_and_t
 use Rattle.std.specs.Str.Parse.{ParsesSigned, digits_value}
 use Rattle.clap.specs.Words.{Text}
 use Rattle.roff_num.specs.declared.num.Num.{Num}
-use Rattle.cli_words.specs.PagesAsked.{are_digits, comma, in_front, next_range, page_written, parts_at, ranges_behind, split_at}
+use Rattle.input_source.specs.Bytes.{comma}
+use Rattle.cli_words.specs.PagesAsked.{are_digits, in_front, next_range, page_written, parts_at, ranges_behind, split_at}
 use Rattle.cli_words.specs.RegistersAsked.{Adds}
 
 -- where there is no such byte nothing is split off

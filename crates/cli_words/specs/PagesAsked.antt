@@ -5,6 +5,8 @@ use Rattle.std.specs.List.{list_all}
 use Rattle.std.specs.Str.Parse.{digits_value}
 use Rattle.clap.specs.Words.{Row, Text, first_of}
 use Rattle.roff_num.specs.declared.num.Num.{Num}
+use Rattle.page_model.specs.Turning.{most_ranges}
+use Rattle.input_source.specs.Bytes.{comma}
 use Rattle.cli_words.specs.declared.pages.Pages.{Pages}
 use Rattle.cli_words.specs.declared.pages.Pages.TheVariants.{Listed, Bad}
 
@@ -16,10 +18,7 @@ page n = record { 0 = pos n }
 abbrev pub greatest_page : ℕ
 greatest_page = 2147483647
 
--- a list has commas between its ranges, and a range has a hyphen
-abbrev pub comma : ℕ
-comma = 44
-
+-- a range has a hyphen between its first page and its last one
 abbrev pub hyphen : ℕ
 hyphen = 45
 
@@ -66,11 +65,7 @@ unfoldable pub parts_at : ℕ → Text → List Text
 parts_at mark [] = [] ∷ []
 parts_at mark (b ∷ text) = if b == mark then [] ∷ parts_at mark text else in_front b (parts_at mark text)
 
--- so many ranges are listed at most
-abbrev pub most_ranges : ℕ
-most_ranges = 32
-
--- the range that a text writes behind these, if there is room for it
+-- the range that a text writes behind these, if no more are listed than may be
 abbrev pub next_range : List (Num × Num) → Text → Option (Num × Num)
 next_range done text = if nat_lt (length done) most_ranges then range_written text else None
 
@@ -79,7 +74,7 @@ unfoldable pub ranges_behind : List (Num × Num) → List Text → Option (List 
 ranges_behind done [] = Some done
 ranges_behind done (part ∷ parts) = option_and_then (λ range. ranges_behind (done ++ range ∷ []) parts) (next_range done part)
 
--- the ranges that a list writes
+-- the ranges that a list writes, with commas between them
 abbrev pub ranges_written : Text → Option (List (Num × Num))
 ranges_written text = ranges_behind [] (parts_at comma text)
 

@@ -6,10 +6,12 @@ use Rattle.std.proofs.lemmas.Bool.{cases_Bool, ltb-true}
 use Rattle.std.proofs.lemmas.Bool.Decides.{nat_tests}
 use Rattle.std.proofs.lemmas.List.{drop-append-le, drop_all, length-reverse, reverse-reverse, reverse-append}
 use Rattle.input_model.specs.Arguments.{Arguments, with_byte, with_whole, total_length, held, has_byte, kept_by_place, kept, only_kept}
-use Rattle.input_arguments.specs.ArgumentTexts.Ends.{texts_ending, last_end, is_kept, EndWithin}
+use Rattle.roff_num.specs.Lists.{last_end}
+use Rattle.input_arguments.specs.ArgumentTexts.Ends.{texts_ending, is_kept, EndWithin}
 use Rattle.input_model.specs.declared.place.Place.{Place}
 use Rattle.input_model.specs.declared.place.Place.TheVariants.{Between}
-use Rattle.input_arguments.proofs.Ends.{EndWithin-last, last_end-append, texts_ending-append_block, texts_ending-append, slice_range-rest, length-texts_ending, total_length-texts_ending}
+use Rattle.roff_num.proofs.Lists.{last_end-append}
+use Rattle.input_arguments.proofs.Ends.{EndWithin-last, texts_ending-append_block, texts_ending-append, slice_range-rest, length-texts_ending, total_length-texts_ending}
 use Rattle.input_model.proofs.KeptArguments.{reverse-cons, total_length-reverse}
 use Rattle.input_model.proofs.KeptTexts.{zero-nat_lt, nat_lt-zero, suc-nat_lt, if_kept, kept_behind-append, length-kept_behind}
 

@@ -4,7 +4,8 @@ use Rattle.std.specs.Prelude.{slice_get, Some, None}
 use Rattle.std.specs.List.{slice_range}
 use Rattle.std.proofs.lemmas.List.{take-append-le, drop-append-le, take-append-drop, take_rest, length-take-le}
 use Rattle.input_model.specs.Arguments.{total_length}
-use Rattle.input_arguments.specs.ArgumentTexts.Ends.{texts_ending, last_end, EndWithin}
+use Rattle.roff_num.specs.Lists.{last_end}
+use Rattle.input_arguments.specs.ArgumentTexts.Ends.{texts_ending, EndWithin}
 
 -- the first begins within the block, and so does what lies behind the last
 pub EndWithin-first : (len from : ℕ) (ends : List ℕ) → EndWithin len from ends → from ≤ len
@@ -29,11 +30,6 @@ EndWithin-more len more from (end ∷ ends) le within = (within.0, EndWithin-mor
 pub EndWithin-append : (len from : ℕ) (ends : List ℕ) → EndWithin len from ends → EndWithin len from (ends ++ len ∷ [])
 EndWithin-append len from [] within = (within, omega arith)
 EndWithin-append len from (end ∷ ends) within = (within.0, EndWithin-append len end ends within.1)
-
--- the last of them
-pub last_end-append : (from end : ℕ) (ends : List ℕ) → last_end from (ends ++ end ∷ []) ≡ end
-last_end-append from end [] = refl
-last_end-append from end (e ∷ ends) = last_end-append e end ends
 
 -- bytes behind the block change no text in it
 slice_range-append : (block more : List ℕ) (from end : ℕ) → from ≤ end → end ≤ length block
@@ -80,19 +76,6 @@ total_length-texts_ending block from [] within = omega arith
 total_length-texts_ending block from (end ∷ ends) within =
     let end_within : end ≤ length block = EndWithin-first (length block) end ends within.1 in
     omega (arith, within.0, length-slice_range block from end end_within, total_length-texts_ending block end ends within.1)
-
--- the last end is the last of the list
-slice_get-last : (from end : ℕ) (ends : List ℕ) → slice_get (end ∷ ends) (length ends) ≡ Some (last_end from (end ∷ ends))
-slice_get-last from end [] = refl
-slice_get-last from end (e ∷ ends) = slice_get-last end e ends
-
-pub last_end-slice_get : (ends : List ℕ) (last : ℕ) → slice_get ends (length ends - 1) ≡ Some last → last ≡ last_end 0 ends
-last_end-slice_get [] last is = absurd (cc)
-last_end-slice_get (end ∷ ends) last is =
-    let before : length (end ∷ ends) - 1 ≡ length ends = omega arith in
-    let same : Some last ≡ Some (last_end 0 (end ∷ ends)) =
-    sym is ∙ ap (λ at. slice_get (end ∷ ends) at) before ∙ slice_get-last 0 end ends in
-    cc
 
 -- a text by its index: it begins where the one before it ends
 pub slice_get-texts_ending : (block : List ℕ) (from : ℕ) (ends : List ℕ) (index end : ℕ) → slice_get ends index ≡ Some end

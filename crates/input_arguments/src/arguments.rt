@@ -8,7 +8,8 @@ ghost use Rattle.input_model.specs.Arguments.{is_behind_quote, with_argument_byt
 ghost use Rattle.input_model.specs.Arguments.{with_plain, with_byte, with_whole, settled};
 ghost use Rattle.input_model.specs.Arguments.{finished, held, is_held, kept, in_argument};
 ghost use Rattle.input_model.specs.Arguments.{total_length};
-ghost use Rattle.input_arguments.specs.ArgumentTexts.Ends.{is_kept, last_end, EndWithin};
+ghost use Rattle.roff_num.specs.Lists.{last_end};
+ghost use Rattle.input_arguments.specs.ArgumentTexts.Ends.{is_kept, EndWithin};
 ghost use Rattle.input_arguments.specs.ArgumentTexts.Ends.{EndWithin-prop, texts_ending};
 
 use input_escapes::CopyUnit;

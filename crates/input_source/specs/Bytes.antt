@@ -21,6 +21,9 @@ quote = 34
 abbrev pub apostrophe : ℕ
 apostrophe = 39
 
+abbrev pub comma : ℕ
+comma = 44
+
 abbrev pub dot : ℕ
 dot = 46
 

@@ -159,11 +159,11 @@ abbrev pub innermost_width : List Diversion → ℕ → ℕ
 innermost_width [] width = width
 innermost_width (d ∷ ds) width = greatest_width d.boxes
 
--- of more ranges of pages than this the others are ignored
+-- so many ranges of pages are listed at most
 abbrev pub most_ranges : ℕ
 most_ranges = 32
 
--- with a range more
+-- with a range more, which is ignored where as many are listed
 abbrev pub with_range : Num × Num → List (Num × Num) → List (Num × Num)
 with_range range ranges = if nat_lt (length ranges) most_ranges then ranges ++ range ∷ [] else ranges
 

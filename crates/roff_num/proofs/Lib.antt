@@ -12,4 +12,5 @@ pub mod Comings
 pub mod LeftFold
 pub mod DefaultTexts
 pub mod SmallNumbers
+pub mod Lists
 pub mod Masks

@@ -2,12 +2,12 @@
 use Rattle.std.proofs.Common.{◌≡◌, ℕ, ◌+◌, ◌<◌, ◌≤◌, true, false, List, [], ◌∷◌, length, is_some, refl, ap, ◌∙◌, arith}
 use Rattle.std.proofs.lemmas.Bool.Decides.{nat_tests}
 use Rattle.std.specs.Prelude.{if◌then◌else◌, ◌&&◌}
-use Rattle.roff_num.specs.Ranges.{is_in_range}
+use Rattle.roff_num.specs.Ranges.{is_in_range, number}
 use Rattle.roff_store.specs.declared.register.Register.{Register}
 use Rattle.roff_num.specs.declared.direction.Direction.{Direction}
 use Rattle.roff_store.specs.Named.{Named, Table, EachOnce, entry_of, with_entry, without_entry, has_room, put_into}
 use Rattle.roff_store.specs.Registers.{Call, Set, SetFormat, Step, Remove, after, after_all, next_value, register_of, with_step}
-use Rattle.roff_store.specs.Laws.{number, register_after, register_after_all, stepped_register}
+use Rattle.roff_store.specs.Laws.{register_after, register_after_all, stepped_register}
 use Rattle.roff_store.proofs.Entries.{bytes_eq_tells, entry_of-with_entry, entry_of-without_entry, length-with_entry, EachOnce-with_entry, EachOnce-without_entry}
 
 -- a table in which no name has two registers, and which isn't past its limit

@@ -2,16 +2,11 @@
 use Rattle.std.specs.Prelude.{ℕ, List, [], ◌∷◌, ℤ, Option, Some, None, unwrap_or, if◌then◌else◌}
 use Rattle.std.specs.Str.{bytes_eq}
 use Rattle.roff_num.specs.declared.format.Format.{Format}
-use Rattle.roff_num.specs.declared.num.Num.{Num}
-use Rattle.roff_num.specs.Ranges.{is_in_range}
+use Rattle.roff_num.specs.Ranges.{is_in_range, number}
 use Rattle.roff_store.specs.declared.register.Register.{Register}
 use Rattle.roff_num.specs.declared.direction.Direction.{Direction}
 use Rattle.roff_store.specs.Named.{Table}
 use Rattle.roff_store.specs.Registers.{Call, Set, SetFormat, Step, Remove, Registers, after_all, next_value, unset_register}
-
--- a number
-abbrev pub number : ℤ → Num
-number z = record { 0 = z }
 
 -- a register of this value, format and increment
 abbrev pub register : ℤ → Format → ℤ → Register

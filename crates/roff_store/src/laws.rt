@@ -7,12 +7,13 @@ ghost use Rattle.roff_num.specs.declared.format.Format.TheVariants.{Decimal, Rom
 ghost use Rattle.roff_num.specs.declared.format.Format.TheVariants.{AlphaUpper};
 ghost use Rattle.roff_num.specs.declared.limit.Limit.TheVariants.{Names};
 ghost use Rattle.roff_num.specs.declared.num.NumFault.TheVariants.{Range};
+ghost use Rattle.roff_num.specs.Ranges.{number};
 ghost use Rattle.roff_num.specs.declared.direction.Direction.TheVariants.{Up, Down};
 ghost use Rattle.roff_store.specs.declared.register.Register.{Register};
 ghost use Rattle.roff_store.specs.Named.{Table, EachOnce, admitted, entry_of};
 ghost use Rattle.roff_store.specs.Registers.{Call, SetFormat, Step, Remove, after, after_all};
 ghost use Rattle.roff_store.specs.Registers.{stepped, unset_register};
-ghost use Rattle.roff_store.specs.Laws.{after_calls, no_registers, number, register};
+ghost use Rattle.roff_store.specs.Laws.{after_calls, no_registers, register};
 ghost use Rattle.roff_store.specs.Laws.{register_after_all, sets, table_after};
 
 /// What setting a register's value, increment and format gives.

@@ -3,7 +3,8 @@ use Rattle.std.proofs.Common.{◌≡◌, ℕ, zero, suc, ◌+◌, ◌-◌, ◌<�
 use Rattle.std.proofs.lemmas.List.{drop-append-le, drop_all, take-append-drop, take-append-le, take_all}
 use Rattle.tbl_format.specs.Format.{Format, FormatRow, asking, asking_for_bars, at_fault, columns_of, fault_if, further, has_some, is_spanned, keys_with, last_changed, most_bars, nothing_asked, plain_key, with_asked, with_columns, with_end, with_last, with_whole, widened}
 use Rattle.tbl_format.specs.FormatRows.{key_count, keys_of, rows_kept, rows_with}
-use Rattle.tbl_format.specs.Parts.{EndWithin, last_end, parts_ending}
+use Rattle.roff_num.specs.Lists.{last_end}
+use Rattle.tbl_format.specs.Parts.{EndWithin, parts_ending}
 use Rattle.tbl_format.specs.declared.format.Asked.{Asked}
 use Rattle.tbl_format.specs.declared.format.FormatKey.{FormatKey}
 use Rattle.tbl_format.specs.RowsServed.{first_format, row_at}
@@ -14,7 +15,8 @@ use Rattle.std.specs.List.{slice_range}
 use Rattle.tbl_format.specs.declared.format.Key.{Key}
 use Rattle.tbl_format.proofs.KeyCounting.{has_some-long, has_some-none}
 use Rattle.tbl_format.proofs.KeysWith.{columns_of-append, has_some-columns, keys_with-own, keys_with-wide}
-use Rattle.tbl_format.proofs.Parts.{EndWithin-first, EndWithin-last, EndWithin-order, last_end-append, length-parts, length-slice_range, parts_ending-append, part-read, parts_ending-more, slice_range-rest}
+use Rattle.roff_num.proofs.Lists.{last_end-append}
+use Rattle.tbl_format.proofs.Parts.{EndWithin-first, EndWithin-last, EndWithin-order, length-parts, length-slice_range, parts_ending-append, part-read, parts_ending-more, slice_range-rest}
 
 -- all keys are in a row, or in the one begun
 keys_of-with : (keys : List FormatKey) (from : ℕ) (ends bars : List ℕ) → EndWithin (length keys) from ends

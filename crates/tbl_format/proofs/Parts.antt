@@ -1,9 +1,9 @@
 -- Parts that lie in one list, one after another.
 use Rattle.std.proofs.Common.{◌≡◌, ℕ, zero, suc, ◌+◌, ◌-◌, ◌<◌, ◌≤◌, List, [], ◌∷◌, ◌++◌, length, take, drop, get_or, refl, sym, ap, ◌∙◌, arith, length-drop}
-use Rattle.std.specs.Prelude.{slice_get, Some}
 use Rattle.std.specs.List.{slice_range}
 use Rattle.std.proofs.lemmas.List.{drop-append-le, length-take-le, take-append-le, take_rest}
-use Rattle.tbl_format.specs.Parts.{EndInOrder, EndWithin, last_end, parts_ending}
+use Rattle.roff_num.specs.Lists.{last_end}
+use Rattle.tbl_format.specs.Parts.{EndInOrder, EndWithin, parts_ending}
 
 -- the last of them ends within the list
 pub EndWithin-last : (len from : ℕ) (ends : List ℕ) → EndWithin len from ends → last_end from ends ≤ len
@@ -65,10 +65,6 @@ pub EndWithin-append : (len from : ℕ) (ends : List ℕ) → last_end from ends
 EndWithin-append len from [] some within = (some, omega arith)
 EndWithin-append len from (end ∷ ends) some within = (within.0, EndWithin-append len end ends some within.1)
 
-pub last_end-append : (from end : ℕ) (ends : List ℕ) → last_end from (ends ++ end ∷ []) ≡ end
-last_end-append from end [] = refl
-last_end-append from end (e ∷ ends) = last_end-append e end ends
-
 module _ {A : Type 0} where
   -- elements behind the list change no part of it
   pub slice_range-append : (items more : List A) (from end : ℕ) → from ≤ end → end ≤ length items
@@ -127,16 +123,3 @@ module _ {A : Type 0} where
   length-slice_range items from end within =
       let inside : end - from ≤ length (drop from items) = omega (arith, length-drop from items) in
       length-take-le (end - from) (drop from items) inside
-
--- the last end is the last of the list
-slice_get-last : (from end : ℕ) (ends : List ℕ) → slice_get (end ∷ ends) (length ends) ≡ Some (last_end from (end ∷ ends))
-slice_get-last from end [] = refl
-slice_get-last from end (e ∷ ends) = slice_get-last end e ends
-
-pub last_end-slice_get : (ends : List ℕ) (last : ℕ) → slice_get ends (length ends - 1) ≡ Some last → last ≡ last_end 0 ends
-last_end-slice_get [] last is = absurd (cc)
-last_end-slice_get (end ∷ ends) last is =
-    let before : length (end ∷ ends) - 1 ≡ length ends = omega arith in
-    let same : Some last ≡ Some (last_end 0 (end ∷ ends)) =
-    sym is ∙ ap (λ at. slice_get (end ∷ ends) at) before ∙ slice_get-last 0 end ends in
-    cc

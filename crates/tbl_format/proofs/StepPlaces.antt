@@ -2,7 +2,8 @@
 use Rattle.std.proofs.Common.{◌≡◌, ℕ, zero, suc, ◌+◌, ◌≤◌, ◌-◌, ◌*◌, max, min, Bool, true, false, List, [], ◌∷◌, ◌++◌, length, drop, Option, None, Some, subst, sym, refl, nat_le, nat_lt, not, ◌&&◌, ◌||◌, codes, arith, length-append, if◌then◌else◌, ◌==◌}
 use Rattle.input_source.specs.Bytes.{newline, dot, is_digit}
 use Rattle.tbl_format.specs.Format.{Format, asking_for_bars, done, fault_if, format_byte, format_byte_at, has_some, is_misplaced, looked_again, most_bars, read_behind, stepped, with_any_key, with_asked, with_whole}
-use Rattle.tbl_format.specs.FormatSteps.{again, among_keys, among_keys_by, among_others, at_closing, behind, between, fault, greatest_number, step, step_of, to, widening, width_of}
+use Rattle.roff_num.specs.Ranges.{greatest_number}
+use Rattle.tbl_format.specs.FormatSteps.{again, among_keys, among_keys_by, among_others, at_closing, behind, between, fault, step, step_of, to, widening, width_of}
 use Rattle.tbl_format.specs.KeyCounts.{IsOnLine, StandsOnLine}
 use Rattle.tbl_format.specs.Keys.{is_between, is_one_of, key_of, separates_rows}
 use Rattle.tbl_options.specs.Options.{closing, opening}

@@ -1,6 +1,7 @@
 -- One step of a format's reading: what a byte does, by where the reading stands (Lesk, "Tbl": Format).
 use Rattle.std.specs.Prelude.{ℕ, suc, zero, nat_le, ◌+◌, ◌-◌, ◌*◌, ◌/◌, min, ℤ, pos, negsuc, true, false, ◌||◌, ◌&&◌, List, length, drop, Option, None, Some, Result, Ok, Err, codes, if◌then◌else◌, ◌==◌}
 use Rattle.roff_num.specs.Expressions.{value_at}
+use Rattle.roff_num.specs.Ranges.{greatest_number}
 use Rattle.roff_num.specs.Rounding.{rounded}
 use Rattle.roff_num.specs.declared.num.Num.{Num}
 use Rattle.roff_num.specs.declared.num.NumFault.{NumFault}
@@ -71,9 +72,6 @@ behind_key b =
     else among_keys b
 
 -- a number is digits alone; greater ones read as the greatest
-abbrev pub greatest_number : ℕ
-greatest_number = 2147483647
-
 abbrev pub in_number : ℕ → ℕ → FormatStep
 in_number n b = if is_digit b then to (Number (min (n * 10 + (b - 48)) greatest_number)) else again (Separate n)
 

@@ -1,8 +1,8 @@
 -- The keys and letters of a format (Lesk, "Tbl": Format).
 use Rattle.std.specs.Prelude.{ℕ, Bool, ◌||◌, List, Option, None, Some, codes, if◌then◌else◌, ◌==◌}
 use Rattle.std.specs.List.{list_any}
-use Rattle.input_source.specs.Bytes.{tab, newline, blank}
-use Rattle.tbl_options.specs.Options.{comma, as_small}
+use Rattle.input_source.specs.Bytes.{tab, newline, blank, comma}
+use Rattle.tbl_options.specs.Options.{as_small}
 use Rattle.tbl_format.specs.declared.format.Key.{Key}
 use Rattle.tbl_format.specs.declared.format.Key.TheVariants.{Above, Alphabetic, Center, DoubleRule, Left, Numeric, Right, Rule, Spanned}
 

@@ -7,11 +7,6 @@ abbrev pub parts_ending : {A : Type 0} → List A → ℕ → List ℕ → List 
 parts_ending items from [] = []
 parts_ending items from (end ∷ ends) = slice_range items from end ∷ parts_ending items end ends
 
--- where the last of them ends, or that place if there is none
-abbrev pub last_end : ℕ → List ℕ → ℕ
-last_end from [] = from
-last_end from (end ∷ ends) = last_end end ends
-
 -- from that place on each end is further on than the one before it, and they are within so many items
 abbrev pub EndWithin : ℕ → ℕ → List ℕ → Type 0
 EndWithin len from [] = from ≤ len

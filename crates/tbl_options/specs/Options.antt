@@ -1,6 +1,6 @@
 -- The options of a table: what its first line says up to a `;` (Lesk, "Tbl": Options).
 use Rattle.std.specs.Prelude.{ℕ, suc, ◌+◌, ◌-◌, Bool, true, false, not, ◌&&◌, ◌||◌, List, [], ◌∷◌, ◌++◌, length, map, fold, max, take, slice_index, slice_range, nat_le, nat_lt, Option, None, Some, is_some, bytes_eq, codes, if◌then◌else◌, ◌==◌}
-use Rattle.input_source.specs.Bytes.{tab, blank}
+use Rattle.input_source.specs.Bytes.{tab, blank, comma}
 use Rattle.tbl_options.specs.declared.options.Boxing.{Boxing}
 use Rattle.tbl_options.specs.declared.options.Options.{Options}
 use Rattle.tbl_options.specs.declared.options.TableOption.{TableOption}
@@ -12,9 +12,6 @@ opening = 40
 
 abbrev pub closing : ℕ
 closing = 41
-
-abbrev pub comma : ℕ
-comma = 44
 
 abbrev pub semicolon : ℕ
 semicolon = 59

@@ -2,17 +2,13 @@
 use Rattle.std.specs.Prelude.{ℕ, ◌≤◌, Bool, ◌||◌, List, [], ◌∷◌, length, nat_lt}
 use Rattle.std.specs.Coded.{×_prop, le_prop}
 use Rattle.std.specs.List.{slice_range}
+use Rattle.roff_num.specs.Lists.{last_end}
 use Rattle.input_model.specs.Arguments.{kept_by_place}
 
 -- the texts that end there, the first of which begins at a place
 abbrev pub texts_ending : List ℕ → ℕ → List ℕ → List (List ℕ)
 texts_ending block from [] = []
 texts_ending block from (end ∷ ends) = slice_range block from end ∷ texts_ending block end ends
-
--- where the last of them ends, or that place if there is none
-abbrev pub last_end : ℕ → List ℕ → ℕ
-last_end from [] = from
-last_end from (end ∷ ends) = last_end end ends
 
 -- whether an argument is kept that lies behind others, by where they end, and ends there itself
 abbrev pub is_kept : List ℕ → ℕ → Bool

@@ -3,7 +3,8 @@ use Rattle.std.specs.Prelude.{◌≡◌, ℕ, ◌+◌, ◌<◌, ◌≤◌, ◌^�
 use Rattle.std.specs.List.{AllByRecursion}
 use Rattle.input_model.specs.Arguments.{Arguments, HeldFewer, bytes_held, kept, only_kept, AreFewer}
 use Rattle.input_source.specs.Bytes.{is_argument_byte}
-use Rattle.input_arguments.specs.ArgumentTexts.Ends.{texts_ending, last_end, EndWithin}
+use Rattle.roff_num.specs.Lists.{last_end}
+use Rattle.input_arguments.specs.ArgumentTexts.Ends.{texts_ending, EndWithin}
 use Rattle.input_arguments.specs.declared.arguments.ArgumentTexts.TheInside.{Inside}
 
 -- the arguments, and how many bytes there is room for

@@ -1,6 +1,7 @@
 -- What is kept of calls that aren't over.
 use Rattle.std.specs.Prelude.{◌≡◌, ℕ, ◌+◌, ◌*◌, ◌≤◌, List, [], ◌∷◌, drop, length, reverse, take, vec_capacity}
-use Rattle.input_arguments.specs.ArgumentTexts.Ends.{texts_ending, last_end, EndWithin}
+use Rattle.roff_num.specs.Lists.{last_end}
+use Rattle.input_arguments.specs.ArgumentTexts.Ends.{texts_ending, EndWithin}
 use Rattle.input_arguments.specs.declared.calls.CallStart.{CallStart}
 use Rattle.input_arguments.specs.declared.calls.Calls.TheInside.{Inside}
 

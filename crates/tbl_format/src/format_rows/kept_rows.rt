@@ -2,7 +2,7 @@
 
 ghost use Rattle.std.specs.Prelude.{◌≡◌, ◌<◌, ◌≤◌, ◌^◌, length, drop};
 ghost use Rattle.tbl_format.specs.KeyCounts.{Counts};
-ghost use Rattle.tbl_format.specs.Parts.{last_end};
+ghost use Rattle.roff_num.specs.Lists.{last_end};
 ghost use Rattle.tbl_format.specs.RowsServed.{all_rows, first_format, row_at};
 
 use super::FormatRows;

@@ -1,6 +1,6 @@
 use Rattle.std.proofs.Common.{rules}
 use Rattle.cli_words.proofs.PageLists.{bad_last, bad_range, last_range, left-shorter, one_range}
-use Rattle.cli_words.specs.PagesAsked.{comma}
+use Rattle.input_source.specs.Bytes.{comma}
 use Rattle.cli_words.proofs.pages.read_list.Goals as goal
 
 pub loop-range-init : goal.loop-range-init

@@ -1,5 +1,6 @@
 use Rattle.std.proofs.Common.{◌≡◌, IsUtf8, length}
-use Rattle.cli_words.specs.PagesAsked.{comma, parts_at, ranges_behind, ranges_written}
+use Rattle.input_source.specs.Bytes.{comma}
+use Rattle.cli_words.specs.PagesAsked.{parts_at, ranges_behind, ranges_written}
 use Rattle.cli_words.proofs.pages.read_list.Given as goal
 
 -- the rest is text, and behind those read is what it writes

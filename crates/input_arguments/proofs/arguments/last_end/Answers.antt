@@ -1,5 +1,5 @@
 use Rattle.std.proofs.Common.{sym}
-use Rattle.input_arguments.proofs.Ends.{last_end-slice_get}
+use Rattle.roff_num.proofs.Lists.{last_end-slice_get}
 use Rattle.input_arguments.proofs.arguments.last_end.Goals as goal
 
 pub returns-in-Some : goal.returns-in-Some

@@ -1,7 +1,7 @@
 use Rattle.std.proofs.Common.{◌≡◌, ℕ, ◌<◌, ◌≤◌, List, ◌∙◌, ap, sym, get_or, Some}
 use Rattle.std.specs.Prelude.{length, take, slice_get}
 use Rattle.std.proofs.lemmas.Option.{slice_get-get_or, slice_get_past}
-use Rattle.input_arguments.specs.ArgumentTexts.Ends.{last_end}
+use Rattle.roff_num.specs.Lists.{last_end}
 use Rattle.input_arguments.specs.declared.arguments.ArgumentList.{ArgumentList}
 use Rattle.input_arguments.proofs.Ends.{slice_get-texts_ending, slice_get-no_text, EndWithin-at}
 use Rattle.input_arguments.proofs.arguments.ArgumentList.get.Goals as goal

@@ -1,7 +1,7 @@
 use Rattle.std.proofs.Common.{drop, length, ◌∙◌, ap, sym}
 use Rattle.std.specs.Prelude.{reverse}
 use Rattle.std.proofs.lemmas.List.{reverse-reverse}
-use Rattle.input_arguments.specs.ArgumentTexts.Ends.{last_end}
+use Rattle.roff_num.specs.Lists.{last_end}
 use Rattle.input_arguments.specs.ArgumentTexts.Kept.{KeptArguments}
 use Rattle.input_arguments.proofs.Ends.{EndWithin-last}
 use Rattle.input_arguments.proofs.arguments.ArgumentTexts.begun.Goals as goal

@@ -1,6 +1,6 @@
 use Rattle.std.proofs.Common.{drop, refl, sym, arith}
 use Rattle.tbl_format.specs.FormatRows.{rows_kept}
-use Rattle.tbl_format.specs.Parts.{last_end}
+use Rattle.roff_num.specs.Lists.{last_end}
 use Rattle.tbl_format.proofs.FormatBlocks.{length-rows}
 use Rattle.tbl_format.proofs.FormatReading.{has_some-drop, has_some-take}
 use Rattle.tbl_format.proofs.RowsWithin.{has_some-begun}

@@ -2,9 +2,10 @@ use Rattle.std.proofs.Common.{◌≡◌, ◌<◌, ◌∷◌, [], length, drop, s
 use Rattle.std.proofs.lemmas.List.{drop_all}
 use Rattle.tbl_format.specs.Format.{Format}
 use Rattle.tbl_format.specs.FormatRows.{AreWithin, KeptFormat}
-use Rattle.tbl_format.specs.Parts.{last_end}
+use Rattle.roff_num.specs.Lists.{last_end}
 use Rattle.tbl_format.proofs.FormatBlocks.{format-whole}
-use Rattle.tbl_format.proofs.Parts.{EndWithin-append, EndWithin-count, EndWithin-last, last_end-append}
+use Rattle.roff_num.proofs.Lists.{last_end-append}
+use Rattle.tbl_format.proofs.Parts.{EndWithin-append, EndWithin-count, EndWithin-last}
 use Rattle.tbl_format.proofs.RowsWithin.{all-append, within-none}
 use Rattle.tbl_format.proofs.format_rows.FormatRows.end_row.Goals as goal
 

@@ -2,7 +2,8 @@ use Rattle.std.proofs.Common.{◌≡◌, ℕ, ◌<◌, ◌-◌, length, drop, sy
 use Rattle.std.specs.List.{AllByRecursion}
 use Rattle.tbl_format.specs.Format.{Format, said_by}
 use Rattle.tbl_format.specs.FormatRows.{AreWithin, KeptFormat}
-use Rattle.tbl_format.specs.Parts.{EndWithin, last_end}
+use Rattle.roff_num.specs.Lists.{last_end}
+use Rattle.tbl_format.specs.Parts.{EndWithin}
 use Rattle.tbl_format.proofs.FormatBlocks.{format-said, set-changed}
 use Rattle.tbl_format.proofs.RowsWithin.{said_by-end, within-said}
 use Rattle.tbl_format.proofs.format_rows.FormatRows.say.Goals as goal

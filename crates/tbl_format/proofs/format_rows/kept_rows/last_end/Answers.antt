@@ -1,5 +1,5 @@
 use Rattle.std.proofs.Common.{sym}
-use Rattle.tbl_format.proofs.Parts.{last_end-slice_get}
+use Rattle.roff_num.proofs.Lists.{last_end-slice_get}
 use Rattle.tbl_format.proofs.format_rows.kept_rows.last_end.Goals as goal
 
 pub returns-in-Some : goal.returns-in-Some
