@@ -237,8 +237,8 @@ impl<E: Copy> PushedTexts<E> {
         self.take_known()
     }
 
-    /// The same where the caller knows what it is: that is put into place, and nothing is asked
-    /// twice.
+    /// Takes the front item, where the caller knows what it is: the compiler puts that into place,
+    /// and nothing is asked twice.
     #[inline(always)]
     pub fn take_known(&mut self) -> PushedItem<E>
         requires { is_none_ahead self.old.ahead ≡ false }
@@ -385,7 +385,7 @@ fn put_reversed(bytes: &mut Vec<u8>, text: &[u8])
     bytes.as_mut_slice()[below..].reverse();
 }
 
-/// The same, one by one.
+/// Puts the bytes of a short text on top of the others one by one, the last one first.
 fn put_few(bytes: &mut Vec<u8>, text: &[u8])
     requires { vec_len bytes.old + length text.now ≤ vec_capacity bytes.old }
     ensures items { bytes.new.items ≡ bytes.old.items ++ reverse text.now }

@@ -270,7 +270,7 @@ impl ArgumentTexts {
 impl<'a> ArgumentList<'a> {
     ghost use Rattle.input_arguments.specs.ArgumentList.{listed};
 
-    /// Those that end there, in a block.
+    /// The arguments that lie one behind another in a block of bytes, each of which ends there.
     pub fn new(bytes: &'a [u8], ends: &'a [u32]) -> Self
         requires { EndWithin (length bytes.now) 0 ends.now }
         ensures { listed result ≡ texts_ending bytes.now 0 ends.now }

@@ -52,7 +52,9 @@ pub fn register_escapes()
         ≡ (Asks (Register step) (Some (x ∷ y ∷ [])) ∷ [], names) }
 {}
 
-/// So do those of a string, `\*x` and `\*(xx`, and of an argument, `\$x`.
+/// The escapes of a string, `\*x` and `\*(xx`, and of an argument, `\$x`, read byte by byte, find
+/// its name and nothing else: where nothing is half read, and also within names, if fewer than may
+/// be; they stay half read.
 pub fn text_escapes()
     ensures short { (base : Surroundings) (names : List OpenEscape) (x : ℕ)
         → AreNames names → length names < most_names

@@ -38,7 +38,8 @@ impl Looked {
         }
     }
 
-    /// The same once nothing more is taken of it.
+    /// What was looked at of the source, once nothing more is taken of it: a byte that was looked
+    /// at stays.
     pub fn closing(self) -> Looked
         ensures { result ≡ closing self }
     {

@@ -78,7 +78,8 @@ pub fn text_in_front(bytes: &[u8]) -> usize
     last + text_of_step(bytes, last)
 }
 
-/// The same of few bytes, byte by byte.
+/// How many of these few bytes are plain text, up to the first that is none. Each is looked at by
+/// itself.
 #[inline(always)]
 fn text_of_few(bytes: &[u8]) -> usize
     ensures { result ≡ length (take_while is_text_byte bytes.now) }

@@ -22,7 +22,8 @@ pub enum LayoutEvent {
     /// The page is ejected that is the one of this number in turn, unless no-space mode is on
     /// (manual, section 3, the request `bp`).
     Eject(u32),
-    /// The same in no-space mode too; the next page gets this number.
+    /// The page is ejected that is the one of the first number in turn, in no-space mode too; the
+    /// next page gets the second number (`bp` with an argument).
     EjectTo(u32, Num),
     /// Ejecting the page of this number in turn goes on behind a macro that was sprung.
     EjectOn(u32),

@@ -41,9 +41,11 @@ pub enum Param {
     NoStops,
     /// One more tab stop, at this column. Of more than 32 the first ones are kept.
     Stop(u32),
-    /// The same: text ends at it.
+    /// One more tab stop, at this column, at which text ends. Of more than 32 the first ones are
+    /// kept.
     RightStop(u32),
-    /// The same: text has its middle at it.
+    /// One more tab stop, at this column, at which text has its middle. Of more than 32 the first
+    /// ones are kept.
     CentredStop(u32),
 }
 

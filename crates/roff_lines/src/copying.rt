@@ -33,7 +33,7 @@ pub(crate) fn copy_front(text: &[u8], count: usize, out: &mut [u8], place: usize
     }
 }
 
-/// The same, byte by byte.
+/// Copies so many bytes in front of a short text byte by byte to a place of a buffer.
 #[inline(always)]
 fn copy_few(text: &[u8], count: usize, out: &mut [u8], place: usize)
     requires text { count ≤ length text.now }

@@ -19,7 +19,7 @@ pub(crate) struct Shape {
 }
 
 impl Shape {
-    /// An empty line's.
+    /// The shape of an empty line.
     pub(crate) fn empty(settings: Settings) -> Shape
         ensures { shaped result [] ≡ empty_line settings }
     {
@@ -32,7 +32,7 @@ impl Shape {
         }
     }
 
-    /// That of a line as it is finished, by a word that doesn't fit or by a break.
+    /// The shape of a line as it is finished, by a word that doesn't fit or by a break.
     pub(crate) fn of(settings: Settings, by_word: bool, indent: u32, line: &Stretch) -> Shape
         requires { line.now.room < 2 ^ 32 }
         ensures line { shaped result line.now.text

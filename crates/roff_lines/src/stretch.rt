@@ -197,7 +197,7 @@ fn fill(bytes: &mut Vec<u8>, needed: usize)
     }
 }
 
-/// The same where it has fewer.
+/// Fills a buffer that has fewer bytes than these with blanks up to so many.
 #[inline(never)]
 fn fill_more(bytes: &mut Vec<u8>, needed: usize)
     requires capacity { needed ≤ vec_capacity bytes.old }

@@ -185,7 +185,8 @@ pub(crate) fn measured_glyphs(text: &[u8], most: usize) -> (usize, u64)
     (count, width_of_bytes(front))
 }
 
-/// The same, byte by byte.
+/// How many bytes of glyphs stand in front of a text, at most so many, and how wide they are, in
+/// columns. Each byte is measured by itself.
 #[inline(always)]
 fn measured_singly(text: &[u8], most: usize) -> (usize, u64)
     ensures text { result.0 ≤ length text.now }

@@ -26,7 +26,7 @@ impl ShortName {
         })
     }
 
-    /// The same as a name.
+    /// This name as one of any length: its one or two bytes.
     #[inline(always)]
     pub fn name(self) -> Name
         ensures { result ≡ name_bytes self }

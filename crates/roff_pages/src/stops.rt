@@ -65,7 +65,8 @@ impl Stops {
         stop.place
     }
 
-    /// The same where one trap more was planted, behind so many others, and the stop was known.
+    /// The next stop beyond a place as one trap more is planted, behind so many others, where the
+    /// stop was known. All others are forgotten. Answers where it lies.
     pub(crate) fn plant(
         &mut self,
         lines: u32,

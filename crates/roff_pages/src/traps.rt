@@ -135,7 +135,7 @@ pub(crate) fn passed_in_diversion(height: u64, lines: u64, trap: Option<Trap>) -
     }
 }
 
-/// The same of a trap that is there.
+/// The name of this trap of a diversion, if so many lines more pass it.
 fn passed_beyond(height: u64, lines: u64, trap: Trap) -> Option<ShortName>
     ensures { (from more : ℕ) → height ≡ counted from → counted lines ≡ counted more
         → result ≡ diversion_trap_passed from (from + more) (Some trap) }

@@ -13,7 +13,8 @@ pub enum RunKind {
     Blanks,
     /// Bytes behind a request's name are held in the arguments of the line.
     Arguments,
-    /// The same behind the name of a body, as long as fewer than so many arguments are whole.
+    /// Bytes behind the name of a body are held in the arguments of the line, as long as fewer than
+    /// so many arguments are whole.
     CallArguments(usize),
     /// Bytes in the front of an escape that reads a name change what is half read.
     Name,

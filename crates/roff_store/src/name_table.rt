@@ -175,7 +175,7 @@ fn bucket_of(name: &Name) -> usize
     }
 }
 
-/// The same of these bytes.
+/// The bucket of a name with these bytes: the remainder of a number whose digits they are.
 fn bucket_of_bytes(bytes: &[u8]) -> usize
     ensures value { result ≡ bucket_of bytes.now }
     ensures within { result < BUCKETS }

@@ -26,7 +26,7 @@ pub struct EndMark {
 }
 
 impl EndMark {
-    /// That of the line that ends with this name, or with two dots.
+    /// The mark of the line that ends a definition, with this name, or with two dots.
     pub fn of(end: Option<ShortName>) -> EndMark
         ensures { result.bytes.items ≡ end_mark end }
     {
@@ -71,7 +71,7 @@ impl EndMark {
         }
     }
 
-    /// The same of a byte.
+    /// What a byte makes of a line of which so many bytes of the mark are read, and nothing else.
     fn line_with_byte(&self, matched: u8, byte: u8) -> DefinitionLine
         ensures { result ≡ line_with (drop matched self.now.bytes.items) matched (byte ∷ []) }
     {

@@ -266,7 +266,7 @@ impl Request {
         }
     }
 
-    /// Its row.
+    /// The row of this request in the table of requests.
     #[rattlefmt::skip]
     #[inline(always)]
     pub fn row(self) -> Row

@@ -33,7 +33,7 @@ pub enum Step {
 }
 
 impl Step {
-    /// Its events, if the reader keeps none for it.
+    /// The events of this step, if the reader keeps none for it.
     pub fn line(self) -> LineEvents
         ensures { line_events result ≡ events_of [] self }
     {

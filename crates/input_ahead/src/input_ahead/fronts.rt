@@ -31,7 +31,8 @@ impl<E: Copy> InputAhead<E> {
         count
     }
 
-    /// The same of one byte. Returns whether it was given.
+    /// Gives the byte in front to what is half read, if it is one of a pushed text, and is taken
+    /// where a condition is read. Returns whether it was given; else nothing happens.
     #[inline(always)]
     fn give_byte(&mut self, escapes: &mut OpenEscapes) -> bool
         requires { bytes_ahead self.old.ahead + texts_held escapes.old.escapes ≤ escapes.old.room }
@@ -88,7 +89,8 @@ impl<E: Copy> InputAhead<E> {
         self.pass_all(count);
     }
 
-    /// The same, where the bytes may be the last ones of a body, or of several texts.
+    /// Takes so many bytes in front at once, which may be the last ones of a body, or of several
+    /// texts.
     #[inline(never)]
     fn pass_all(&mut self, count: usize)
         requires { count ≤ length (leading self.old.ahead) }

@@ -90,7 +90,9 @@ impl<E: Copy> InputAhead<E> {
         }
     }
 
-    /// The same, where no byte may be left.
+    /// Puts the body of a name as a line calls it in front, with an end of a call and this code, if
+    /// it has so many bytes at the most. These are counted with the newline that it may lack.
+    /// Returns whether it did.
     #[inline(never)]
     fn call_long(&mut self, name: &Name, back: u8, most: usize) -> bool
         requires bytes { most + bytes_ahead self.old.ahead ≤ self.old.most_bytes }

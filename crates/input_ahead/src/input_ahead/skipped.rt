@@ -59,7 +59,8 @@ impl<E: Copy> InputAhead<E> {
         }
     }
 
-    /// The same, if it is the last byte of its body.
+    /// Takes a newline in front, if it is the last byte of a body; the body's lease ends then.
+    /// Returns whether it did.
     #[inline(never)]
     fn pass_last_newline(&mut self) -> bool
         ensures taken { result ≡ true

@@ -120,7 +120,8 @@ impl<E: Copy> InputAhead<E> {
         }
     }
 
-    /// The same, if what is half read waits for the byte.
+    /// Takes the byte in front, if what is half read waits for it, and it is one of a pushed text,
+    /// or of a body and not its last. Otherwise nothing happens.
     #[inline(always)]
     pub fn take_waiting(&mut self, escapes: &OpenEscapes) -> Option<u8>
         ensures taken { IfSome result (λ b.

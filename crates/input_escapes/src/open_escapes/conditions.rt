@@ -74,7 +74,8 @@ impl OpenEscapes {
         }
     }
 
-    /// The same of an expression on top, behind a `!` or not.
+    /// Ends the expression on top, whose bytes are held from a place on, behind a `!` or not, if it
+    /// is a number: it decides next. Returns whether it did; else nothing happens.
     #[inline(always)]
     fn decide_number(&mut self, negated: bool, begin: usize) -> bool
         requires nested { IsNested self.old.escapes }

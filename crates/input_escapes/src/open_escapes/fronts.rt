@@ -32,7 +32,8 @@ impl OpenEscapes {
         count
     }
 
-    /// The same of one byte. Returns whether it was read.
+    /// Reads a byte, if it is in the front of an escape that reads a name. Returns whether it was
+    /// read; else nothing happens.
     #[inline(always)]
     fn read_on(&mut self, byte: u8) -> bool
         ensures { ReadsByte byte result self.old self.new }
@@ -45,7 +46,7 @@ impl OpenEscapes {
         }
     }
 
-    /// The same where a backslash begins an escape, and nothing else is read.
+    /// Reads a byte where it may begin an escape: only a backslash is read. Returns whether it was.
     #[inline(always)]
     fn begin_escape(&mut self, byte: u8) -> bool
         requires nested { IsNested (OpenBackslash ∷ self.old.escapes) }
@@ -59,7 +60,8 @@ impl OpenEscapes {
         true
     }
 
-    /// The same behind a backslash.
+    /// Reads a byte behind a backslash, if it begins a name, and not too much is half read for one.
+    /// Returns whether it was read; else nothing happens.
     #[inline(always)]
     pub(super) fn name_escape(&mut self, byte: u8) -> bool
         requires nested { IsNested self.old.escapes }
@@ -77,7 +79,8 @@ impl OpenEscapes {
         true
     }
 
-    /// The same in a name of which so much is read.
+    /// Reads a byte of the name on top, of which so much is read, if the name goes on behind it.
+    /// Returns whether it was read.
     #[inline(always)]
     fn read_on_in_name(&mut self, purpose: NameUse, part: NamePart, byte: u8) -> bool
         requires nested { IsNested self.old.escapes }
@@ -125,7 +128,8 @@ impl OpenEscapes {
         }
     }
 
-    /// The same in a condition of which so much is read.
+    /// Takes a byte in the condition on top, of which so much is read, where it changes only what
+    /// is half read. Returns whether it was taken.
     #[inline(always)]
     fn take_on_in_condition(&mut self, part: ConditionPart, begin: usize, byte: u8) -> bool
         requires room { texts_held self.old.escapes < self.old.room }
@@ -151,8 +155,8 @@ impl OpenEscapes {
         }
     }
 
-    /// The same where nothing of the condition is read but blanks and a `!`: a digit begins an
-    /// expression.
+    /// Takes a byte behind the blanks and the `!` of a condition, of which nothing else is read: a
+    /// digit begins an expression. Returns whether it was taken.
     fn take_first(&mut self, negated: bool, begin: usize, byte: u8) -> bool
         requires room { texts_held self.old.escapes < self.old.room }
         requires nested { IsNested self.old.escapes }
@@ -168,7 +172,8 @@ impl OpenEscapes {
         true
     }
 
-    /// The same of a byte that is no digit: it says what is asked, unless it begins an expression.
+    /// Takes a byte that is no digit behind the blanks and the `!` of a condition: it says what is
+    /// asked, unless it begins an expression. Returns whether it was taken.
     #[inline(always)]
     fn pass_first(&mut self, negated: bool, begin: usize, byte: u8) -> bool
         requires nested { IsNested self.old.escapes }
@@ -186,7 +191,8 @@ impl OpenEscapes {
         true
     }
 
-    /// The same of two texts that are compared.
+    /// Takes a byte of two texts that are compared, of which the first may be whole: the delimiter
+    /// ends one of them, and others are held. Returns whether it was taken.
     fn take_on_in_texts(
         &mut self,
         negated: bool,

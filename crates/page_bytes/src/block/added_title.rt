@@ -111,7 +111,8 @@ fn add_part_text(bytes: &mut Vec<u8>, part: &[u8], number: &[u8]) -> bool
     true
 }
 
-/// The same of one byte of the part.
+/// Adds to those of a block one byte of a title's part as it is printed; a page number is added
+/// whole. Tells whether it had room for that.
 #[inline(always)]
 fn add_part_byte(bytes: &mut Vec<u8>, byte: u8, number: &[u8]) -> bool
     requires capacity { 8192 ≤ vec_capacity bytes.old }

@@ -45,7 +45,8 @@ impl Block {
         self.put_counted_line(line, columns, after, room, out)
     }
 
-    /// The same of any line: its bytes are counted first.
+    /// Writes any line as [`Block::put_line_behind`] does, if that takes so many bytes at most, and
+    /// tells how many. They are counted before one is written.
     #[inline(never)]
     fn put_counted_line<O: ByteSink>(
         &mut self,
@@ -93,7 +94,8 @@ impl Block {
         self.put_counted_title(title, columns, room, out)
     }
 
-    /// The same of a title that a block has no room for: its bytes are counted first.
+    /// Writes a title that a block has no room for behind so many columns, if that takes so many
+    /// bytes at most, and tells how many. They are counted before one is written.
     #[inline(never)]
     fn put_counted_title<O: ByteSink>(
         &mut self,

@@ -227,7 +227,8 @@ fn copy_glyphs(text: &[u8], taken: usize, out: &mut [u8], end: usize) -> usize
     copy_last_glyphs(text, taken, out, end)
 }
 
-/// The same, byte by byte, up to the end of the text.
+/// Copies the glyphs of a text behind a place byte by byte to a place of a buffer, up to the first
+/// byte that is none or the end of the text. Tells how many these are.
 #[inline(always)]
 fn copy_last_glyphs(text: &[u8], taken: usize, out: &mut [u8], end: usize) -> usize
     requires text { taken < length text.now }

@@ -58,7 +58,8 @@ impl Env {
         self.finish_field()
     }
 
-    /// The same, said of what is kept.
+    /// Ends the open field, if one is open: blanks that no adjusting widens move its text to its
+    /// stop. Nothing happens if the pending line would pass its limit by that ([`Limit::Line`]).
     fn finish_field(&mut self) -> Result<(), Limit>
         ensures kept { OnOk result (self.new ≡ with_field_ended self.old) }
         ensures limit { IsErr result ↔ (self.old.cap < length_ended self.old) }
@@ -121,7 +122,8 @@ impl Env {
         self.move_to_stop()
     }
 
-    /// The same: how the line is laid out that this finishes.
+    /// Moves to the next tab stop, behind the end of the open field, if one is open. Returns how
+    /// the line is laid out that this finishes, if it finishes one.
     fn tab_told(&mut self) -> Result<Option<Shape>, Limit>
         ensures stands { OnOk result (StandsBehind self.old Tab self.new) }
         ensures line { IfOk result (λ shape. Finishes self.old Tab

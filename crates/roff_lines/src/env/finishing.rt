@@ -97,7 +97,8 @@ impl Env {
         shape
     }
 
-    /// The same, but for the count.
+    /// Finishes the pending line where words aren't measured, and else sets the gap of a line's
+    /// end. The count of lines to be centred stays.
     #[inline(always)]
     fn finish_uncounted_line(&mut self) -> Option<Shape>
         requires { self.old.field ≡ None }

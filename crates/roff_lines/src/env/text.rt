@@ -47,7 +47,9 @@ impl Env {
         self.words_front(bytes, count)
     }
 
-    /// The same where no field is open.
+    /// Adds bytes of a text line where no field is open: of so many in front, as many as finish no
+    /// line and keep the pending line within its limit. Says how many that are. A blank ends the
+    /// open word, and a gap of one blank follows; each other byte is a glyph.
     #[inline(always)]
     fn words_front(&mut self, bytes: &[u8], count: usize) -> usize
         requires text { count ≤ length bytes.now }
@@ -86,7 +88,8 @@ impl Env {
         self.words_and_glyphs(bytes, count)
     }
 
-    /// The same, whatever is in front.
+    /// Adds whole words in front, and then glyphs, as many as the limit on the pending line lets
+    /// through, whatever byte is in front. Tells how many bytes these are.
     #[inline(never)]
     fn words_and_glyphs(&mut self, bytes: &[u8], count: usize) -> usize
         requires text { count ≤ length bytes.now }

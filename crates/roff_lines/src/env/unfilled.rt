@@ -53,7 +53,8 @@ impl Env {
         shape.over(self.finished.as_slice())
     }
 
-    /// The same: how the line is laid out.
+    /// Adds so many bytes in front, among which are so many gaps, and ends the open word and a line
+    /// of the input. Returns how the line is laid out that this finishes.
     #[inline(always)]
     fn finish_line(&mut self, bytes: &[u8], count: usize, gaps: u64) -> Shape
         requires { EndsLine bytes.now count gaps self.old }

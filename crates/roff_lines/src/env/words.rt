@@ -93,7 +93,8 @@ impl Env {
         self.place = moved(self.place, u64::from(blanks));
     }
 
-    /// The same where no glyph stands on the line of the input.
+    /// Adds so many blanks to the gap between words where no glyph stands on the line of the input:
+    /// none to a gap that is there.
     #[cold]
     fn gap_before_glyphs(&mut self, blanks: u32)
         requires { self.old.has_glyph ≡ false }

@@ -78,7 +78,8 @@ impl Pages {
         self.height
     }
 
-    /// Its width: that of its widest line. No more than 2^33 columns are counted.
+    /// The width of the diversion that ended last: that of its widest line. No more than 2^33
+    /// columns are counted.
     pub fn width(&self) -> u64
         ensures { (L : Layout) → StandsAs L self.now → result ≡ counted L.width }
     {

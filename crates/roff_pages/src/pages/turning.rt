@@ -76,7 +76,8 @@ impl Pages {
         self.advance_past_stop(lines)
     }
 
-    /// The same where it may come to its next stop.
+    /// The page with so many lines more, which may come to its next stop: it ends where it is full.
+    /// Answers what springs.
     #[inline(never)]
     fn advance_past_stop(&mut self, lines: u64) -> Option<ShortName>
         ensures stands { (L : Layout) (boxes : List Box) → StandsAs L self.old

@@ -43,7 +43,8 @@ impl<E: Copy> Unread<E> {
         self.pass_front(source, count, false);
     }
 
-    /// The same, where newlines may be among them.
+    /// Takes at once so many of the bytes that stand in front, each at its cost; newlines may be
+    /// among them, if this holds.
     #[inline(always)]
     pub(super) fn pass_front<S: ByteSource>(&mut self, source: &mut S, count: usize, newlines: bool)
         requires front { IsFront count (S.ready source.old) self.old }
@@ -71,7 +72,8 @@ impl<E: Copy> Unread<E> {
         }
     }
 
-    /// The same where nothing is ahead, of one byte at least.
+    /// Takes at once so many bytes that the source has ready, one at least, where nothing is ahead.
+    /// Newlines may be among them, and count as lines.
     #[inline]
     fn pass_lines<S: ByteSource>(&mut self, source: &mut S, count: usize)
         requires some { 1 ≤ count }
@@ -92,7 +94,8 @@ impl<E: Copy> Unread<E> {
         }
     }
 
-    /// The same where none of them is a newline.
+    /// Takes at once so many bytes that the source has ready, one at least, where nothing is ahead
+    /// and none of them is a newline.
     #[inline]
     pub(super) fn pass_source<S: ByteSource>(&mut self, source: &mut S, count: usize)
         requires some { 1 ≤ count }

@@ -42,7 +42,10 @@ impl<E: Copy> Unread<E> {
         self.hold_behind(None, source, skipped)
     }
 
-    /// The same as long as fewer arguments than so many are whole.
+    /// Takes so many bytes that stand in front, then bytes behind them that are held in the
+    /// arguments of the line, as long as fewer than so many are whole, and a newline behind these,
+    /// if one stands there: no more than the limits have room for. Returns what stands behind those
+    /// that are held.
     #[inline(never)]
     pub fn hold_call<S: ByteSource>(
         &mut self,
@@ -60,7 +63,10 @@ impl<E: Copy> Unread<E> {
         self.hold_behind(Some(most), source, skipped)
     }
 
-    /// The same with a bound, if there is one.
+    /// Takes so many bytes that stand in front, then bytes behind them that are held in the
+    /// arguments of the line, where there is a bound as long as fewer than that are whole, and a
+    /// newline behind these: no more than the limits have room for. Returns what stands behind
+    /// those that are held.
     #[inline(always)]
     fn hold_behind<S: ByteSource>(
         &mut self,
@@ -132,7 +138,8 @@ impl<E: Copy> Unread<E> {
         self.end_line(source, count);
     }
 
-    /// The same.
+    /// Takes at once so many bytes that stand in front and the newline behind them, of the source
+    /// or of what is ahead.
     #[inline(always)]
     fn end_line<S: ByteSource>(&mut self, source: &mut S, count: usize)
         requires plain { NoNewline (front_bytes count (S.ready source.old) self.old) }
@@ -149,7 +156,8 @@ impl<E: Copy> Unread<E> {
         }
     }
 
-    /// The same where nothing is ahead.
+    /// Takes at once so many bytes that the source has ready and the newline behind them, where
+    /// nothing is ahead.
     #[inline(always)]
     fn end_line_ready<S: ByteSource>(&mut self, source: &mut S, count: usize)
         requires none_ahead { is_none_ahead self.old.input.ahead ≡ true }

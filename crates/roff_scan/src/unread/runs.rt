@@ -55,8 +55,9 @@ impl<E: Copy> Unread<E> {
 
     // Each kind that comes often has a copy of its own, for which the compiler knows the kind.
 
-    /// The same of bytes that are held in arguments. Returns also whether the escape of a register,
-    /// a string or an argument may stand behind them.
+    /// Takes bytes together that stand in front and are held in the arguments of a request: no more
+    /// than the limits have room for. Returns how many, and whether the escape of a register, a
+    /// string or an argument may stand behind them.
     #[inline(never)]
     pub fn take_arguments<S: ByteSource>(&mut self, source: &mut S) -> (usize, bool)
         ensures takes { TakesRun Arguments (S.gives source.old) (S.gives source.new)
@@ -67,7 +68,9 @@ impl<E: Copy> Unread<E> {
         self.take_held(RunKind::Arguments, source)
     }
 
-    /// The same where fewer than so many are whole.
+    /// Takes bytes together that stand in front and are held in the arguments of a call, as long as
+    /// fewer than so many are whole: no more than the limits have room for. Returns how many, and
+    /// whether the escape of a register, a string or an argument may stand behind them.
     #[inline(never)]
     pub fn take_call_arguments<S: ByteSource>(
         &mut self,
@@ -82,7 +85,7 @@ impl<E: Copy> Unread<E> {
         self.take_held(RunKind::CallArguments(most), source)
     }
 
-    /// The same of blanks.
+    /// Takes leading blanks of a text line together that stand in front. Returns how many.
     #[inline(never)]
     fn take_blanks<S: ByteSource>(&mut self, source: &mut S) -> usize
         ensures takes { TakesRun Blanks (S.gives source.old) (S.gives source.new)
@@ -93,7 +96,8 @@ impl<E: Copy> Unread<E> {
         self.take_lying(RunKind::Blanks, source)
     }
 
-    /// The same in the front of an escape that reads a name.
+    /// Takes bytes together that stand in the front of an escape that reads a name. Returns how
+    /// many.
     #[inline(never)]
     fn take_name<S: ByteSource>(&mut self, source: &mut S) -> usize
         ensures takes { TakesRun Name (S.gives source.old) (S.gives source.new)
@@ -104,7 +108,8 @@ impl<E: Copy> Unread<E> {
         self.take_lying(RunKind::Name, source)
     }
 
-    /// The same of a condition: of a pushed text, or as they lie together.
+    /// Takes bytes of a condition together that stand in front, of a pushed text, or as they lie
+    /// together. Returns how many.
     #[inline(never)]
     fn take_condition<S: ByteSource>(&mut self, source: &mut S) -> usize
         ensures takes { TakesRun Condition (S.gives source.old) (S.gives source.new)
@@ -119,7 +124,8 @@ impl<E: Copy> Unread<E> {
         self.take_lying(RunKind::Condition, source)
     }
 
-    /// The same of the other kinds that only pass bytes.
+    /// Takes bytes together that do this, which is none of the kinds with a copy of its own.
+    /// Returns how many.
     #[inline(never)]
     fn take_others<S: ByteSource>(&mut self, kind: RunKind, source: &mut S) -> usize
         requires { kind ≡ Definition → ⊥ }
@@ -131,8 +137,9 @@ impl<E: Copy> Unread<E> {
         self.take_lying(kind, source)
     }
 
-    /// The same of bytes of the source or of a body, as they lie together. Returns also whether the
-    /// escape of a register, a string or an argument may stand behind them.
+    /// Takes bytes of the source or of a body together that do this, as they lie together, but for
+    /// those of a definition. Returns how many, and whether the escape of a register, a string or
+    /// an argument may stand behind them.
     #[inline(always)]
     fn take_held<S: ByteSource>(&mut self, kind: RunKind, source: &mut S) -> (usize, bool)
         requires { kind ≡ Definition → ⊥ }
@@ -152,8 +159,8 @@ impl<E: Copy> Unread<E> {
         (count, meets_name)
     }
 
-    /// The same of bytes of the source or of a body, as they lie together, but for those that are
-    /// put behind a text.
+    /// Takes bytes of the source or of a body together that do this, as they lie together, but for
+    /// those of a definition. Returns how many.
     #[inline(always)]
     fn take_lying<S: ByteSource>(&mut self, kind: RunKind, source: &mut S) -> usize
         requires { kind ≡ Definition → ⊥ }
@@ -214,8 +221,9 @@ impl<E: Copy> Unread<E> {
         }
     }
 
-    /// The same of bytes of a body, as many as are copied at once: it lies among the texts that
-    /// grow.
+    /// Takes bytes of plain text ahead together, and puts them behind the newest text in the
+    /// making, as many as are copied at once: a body lies among the texts that grow. Returns how
+    /// many.
     fn add_run_ahead<S: ByteSource>(&mut self, source: &mut S) -> usize
         requires { is_none_ahead self.old.input.ahead ≡ false }
         ensures takes { TakesRun Definition (S.gives source.old) (S.gives source.new)

@@ -31,7 +31,8 @@ impl<E: Copy> Unread<E> {
         self.pass_newline_ready(source)
     }
 
-    /// The same of one of a body.
+    /// Takes a newline of a body at once that stands in front. Returns whether it did; else nothing
+    /// happens.
     #[inline(always)]
     fn pass_newline_ahead(&mut self) -> bool
         requires room { self.old.input.charge < self.old.limits.bytes }
@@ -45,7 +46,8 @@ impl<E: Copy> Unread<E> {
         true
     }
 
-    /// The same of one of the source, where nothing is ahead.
+    /// Takes a newline of the source at once, where nothing is ahead, if it stands ready and no
+    /// byte was looked at. Returns whether it did; else nothing happens.
     #[inline(always)]
     fn pass_newline_ready<S: ByteSource>(&mut self, source: &mut S) -> bool
         requires room { self.old.input.charge < self.old.limits.bytes }

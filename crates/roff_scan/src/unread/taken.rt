@@ -84,7 +84,8 @@ impl<E: Copy> Unread<E> {
         }
     }
 
-    /// The same of a byte ahead.
+    /// Takes a byte ahead, if one is in front and the limit on bytes allows it. Otherwise nothing
+    /// happens.
     #[inline(always)]
     fn take_ready_ahead(&mut self) -> Option<u8>
         requires { is_none_ahead self.old.input.ahead ≡ false }
@@ -125,7 +126,8 @@ impl<E: Copy> Unread<E> {
         self.take_waiting_ready(source)
     }
 
-    /// The same of a byte ahead.
+    /// Takes a byte ahead, if one is in front and what is half read waits for it. Otherwise nothing
+    /// happens.
     #[inline(always)]
     fn take_waiting_ahead(&mut self) -> Option<u8>
         requires room { self.old.input.charge < self.old.limits.bytes }
@@ -144,7 +146,8 @@ impl<E: Copy> Unread<E> {
         }
     }
 
-    /// The same of one of the source, where nothing is ahead.
+    /// Takes a byte of the source, where nothing is ahead, if it stands ready, no byte was looked
+    /// at and what is half read waits for it. Otherwise nothing happens.
     #[inline(always)]
     fn take_waiting_ready<S: ByteSource>(&mut self, source: &mut S) -> Option<u8>
         requires room { self.old.input.charge < self.old.limits.bytes }

@@ -100,7 +100,8 @@ impl TextStore {
         }
     }
 
-    /// As [`lease_take`](TextStore::lease_take), where a chunk or the lease may have been read.
+    /// The next byte that a lease gives, if it has one, where a chunk or the lease may have been
+    /// read.
     #[inline(never)]
     fn lease_take_last(&mut self, id: LeaseId) -> Option<u8>
         requires { IsSome (lease_of id.0 self.old) }
@@ -142,7 +143,8 @@ impl TextStore {
         }
     }
 
-    /// As [`lease_pass`](TextStore::lease_pass), where a chunk or the lease may have been read.
+    /// Takes so many bytes from a lease, as many as it still gives at most, where a chunk or the
+    /// lease may have been read.
     #[inline(never)]
     fn lease_pass_chunks(&mut self, id: LeaseId, count: usize)
         requires lives { IsSome (lease_of id.0 self.old) }

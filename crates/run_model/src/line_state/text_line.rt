@@ -61,7 +61,7 @@ impl TextLine {
         !self.has_glyph && self.leading > 0
     }
 
-    /// The same line behind so many blanks more.
+    /// This line behind so many leading blanks more. Beyond 2147483647 they don't count.
     #[inline(always)]
     pub fn behind_blanks(self, count: usize) -> Self
         ensures { result ≡ record self { leading = blanks_counted count self.leading } }
