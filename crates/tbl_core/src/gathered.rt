@@ -142,7 +142,8 @@ impl<S: ByteSource> GatheredSource<S> {
         self.gather_pieces();
     }
 
-    /// The same behind those that are gathered.
+    /// Gathers bytes that are pending, up to a message, behind those that are gathered, as many as
+    /// there is room for: at least 128 of them, or all.
     #[inline(always)]
     fn gather_pieces(&mut self)
         ensures on { GathersOn self.old self.new }
@@ -155,7 +156,8 @@ impl<S: ByteSource> GatheredSource<S> {
         }
     }
 
-    /// The same of the next bytes that lie together. Answers whether there were some.
+    /// Gathers the next bytes that are pending and lie together, behind those that are gathered, as
+    /// many as there is room for. Answers whether there were some.
     #[inline(always)]
     fn gather_piece(&mut self) -> bool
         ensures on { GathersOn self.old self.new }

@@ -34,7 +34,7 @@ pub fn end_of(keys: &[FormatKey], cell: usize) -> usize
     }
 }
 
-/// Behind which column it begins.
+/// Behind which column a cell of a row with these keys begins.
 #[inline]
 pub fn start_of(keys: &[FormatKey], cell: usize) -> usize
     requires { cell < 2 ^ 63 }
@@ -43,7 +43,8 @@ pub fn start_of(keys: &[FormatKey], cell: usize) -> usize
     start_near(keys, cell)
 }
 
-/// The same, with the most that it may be.
+/// Behind which column a cell of a row with these keys begins: behind 2 ^ 32 columns at most, and
+/// one for each cell in front of it.
 #[inline]
 fn start_near(keys: &[FormatKey], cell: usize) -> usize
     requires { cell < 2 ^ 63 }
@@ -91,7 +92,8 @@ pub fn same_cell(keys: &[FormatKey], others: &[FormatKey], cell: usize) -> Optio
     }
 }
 
-/// The same, by a search.
+/// The cell of a row with these keys that begins behind so many columns, if one does: it is found
+/// by a search among the keys.
 #[inline(never)]
 fn cell_searched(keys: &[FormatKey], column: usize) -> Option<usize>
     requires { AreCells 0 keys.now }

@@ -148,7 +148,7 @@ impl FormatKey {
         }
     }
 
-    /// The same key with one column more.
+    /// This key, with a cell that has one column more.
     pub fn widened(self) -> FormatKey
         requires { self.end < 2 ^ 32 - 1 }
         ensures { result ≡ widened self }

@@ -175,7 +175,7 @@ pub(crate) fn at_font(byte: u8) -> FormatStep
     }
 }
 
-/// Behind that byte: a capital, if there is one.
+/// Behind the byte of a font: a capital, if there is one.
 pub(crate) fn behind_font(byte: u8) -> FormatStep
     ensures { result ≡ behind_font byte }
 {

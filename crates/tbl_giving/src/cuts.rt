@@ -70,7 +70,8 @@ pub fn count_cut(
     count + below
 }
 
-/// The same on the lines of an element.
+/// In how many entries something is cut on the lines of an element: on those of a row and in front
+/// of it, or on that of a rule.
 fn cut_in_element(
     tall: &mut TallRow,
     escapes: &mut OpenEscapes,

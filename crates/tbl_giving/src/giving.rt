@@ -48,7 +48,7 @@ pub struct Giving {
     /// Whether a newline is to give behind all that.
     has_newline: bool,
     walk: Walk,
-    /// The same walk over a table with cells of several rows.
+    /// The walk over a table with cells of several rows, line by line.
     line_by_line: LineByLine,
     /// Whether the table has such cells.
     is_tall: bool,

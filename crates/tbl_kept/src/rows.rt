@@ -232,7 +232,7 @@ impl TableRows {
         self.elements.len()
     }
 
-    /// One of them.
+    /// One of the rows, rules and commands.
     pub fn element(&self, at: usize) -> Lent<'_>
         requires { at < length self.now.elements }
         ensures { drop at self.now.elements ≡ lent result ∷ drop (suc at) self.now.elements }
@@ -249,7 +249,7 @@ impl TableRows {
         }
     }
 
-    /// There are fewer of them than 2 ^ 60.
+    /// There are fewer rows, rules and commands than 2 ^ 60.
     pub fn stay_few(&self)
         ensures { length self.now.elements < 2 ^ 60 }
     {

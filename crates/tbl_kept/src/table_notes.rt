@@ -24,7 +24,7 @@ pub struct TableNotes {
     /// Those from one place up to the other are to tell.
     next: usize,
     end: usize,
-    /// And behind them so many entries of this line that are cut.
+    /// How many entries of this line that are cut are to tell behind them.
     cut: usize,
     cut_line: u32,
     note_room: usize,

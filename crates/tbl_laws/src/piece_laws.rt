@@ -33,8 +33,9 @@ pub fn row_apart()
         (shown_in_row s cells) }
 {}
 
-/// So do those of a line of rules, in front of a row of which these cells go on with the row above:
-/// where there are places for the bars that meet on it, and such cells fit their columns.
+/// The pieces of a line of rules stand apart, and the last of them ends within the picture, in
+/// front of a row of which these cells go on with the row above: where there are places for the
+/// bars that meet on it, and such cells fit their columns.
 pub fn rule_apart()
     ensures { (s : Sheet) (line : RuleLine) (cells : List Left) (above below : Beside)
         → RuleStands s line cells above below → InTurn (rule_shown s line cells above below)
@@ -49,7 +50,8 @@ pub fn row_in_turn()
         → AreSpaced (columns_of_cells s cells) → InTurn (shown_in_row s cells) }
 {}
 
-/// And so does what a line of rules shows.
+/// What a line of rules shows stands in the order of the columns, where there is a column of the
+/// page at least between these.
 pub fn rule_in_turn()
     ensures { (s : Sheet) (line : RuleLine) (cells : List Left) (above below : Beside)
         → RuleStands s line cells above below → AreSpaced s.columns
@@ -64,7 +66,8 @@ pub fn row_stands()
         → RowStands s last cells }
 {}
 
-/// So do those that go on through a line of rules.
+/// The cells that go on through a line of rules stand in order, where the columns of the table do,
+/// they cover these and fit them, and there are places for the bars.
 pub fn rule_stands()
     ensures { (s : Sheet) (line : RuleLine) (cells : List Left) (above below : Beside)
         → 0 < length s.columns → StandInOrder s.bars s.width s.columns → CellsCover s cells

@@ -29,7 +29,8 @@ pub fn text_cut()
         → IsLongestFront room (items text) (items (fitting_text room text)) }
 {}
 
-/// So has a line of a text block the first of its words, and of the next one as much as fits.
+/// A line of a text block that is cut to so many columns has the first of its words, and of the
+/// next one as much as fits.
 pub fn line_cut()
     ensures { (room : ℕ) (line : List Part) → AreWords line
         → IsLongestLine room line (line_fitted room line) }
@@ -65,8 +66,8 @@ pub fn line_apart()
         → IsApart s.width (line_by s fronts cells) fronts (all_cut s fronts cells) }
 {}
 
-/// So do those of a line of a row, where its cells would stand in order if what runs on filled its
-/// columns.
+/// The pieces of a line of a row on which entries run on stand apart, where its cells would stand
+/// in order if what runs on filled its columns.
 pub fn running_apart()
     ensures { (s : Sheet) (last : ℕ) (cells : List Left) → RowStands s last (row_filled s cells)
         → FreeToStop s (shown_in_row s cells) → InTurn (cut_in_row s last cells)
@@ -83,8 +84,8 @@ pub fn stops_in_front()
         → StopInFront (all_stopped columns keys elements cell cells) }
 {}
 
-/// And what begins there stops in front of each entry to its right in the rows below that its cell
-/// covers.
+/// What has no width in a cell that begins with its row stops in front of each entry to its right
+/// in the rows below that its cell covers.
 pub fn stops_below()
     ensures { (columns : ℕ) (keys : List FormatKey) (elements : List Element) (cell : ℕ) (c : Left)
         (others : List Left) → HaveCells columns elements → c.key.has_no_width ≡ true
@@ -92,7 +93,8 @@ pub fn stops_below()
         keys cell elements }
 {}
 
-/// Where it does in its row, nothing stands in a cell of its line up to there.
+/// Where what has no width stops in front of the cells of its row, nothing stands in a cell of its
+/// line up to there.
 pub fn free_to_stop()
     ensures { (s : Sheet) (cells : List Left) → StandInOrder s.bars s.width s.columns
         → CellsCover s (row_filled s cells) → ShowIfUsed cells → StopInFront cells

@@ -27,7 +27,7 @@ impl Bars {
         has_any: false,
     };
 
-    /// Those of a table with these formats, whose picture is boxed so.
+    /// The bars of a table with these formats, whose picture is boxed so.
     pub fn of(boxing: Boxing, format: &FormatRows) -> Bars
         ensures { result ≡ table_bars boxing format.now.format }
     {

@@ -291,7 +291,7 @@ impl Column {
         start: 0,
     };
 
-    /// Its width, if it has `e`.
+    /// The width of this column, if it has `e`, and else 0.
     fn equal_width(self, asked: Asked) -> usize
         ensures { result ≡ equal_width asked self }
     {

@@ -215,7 +215,7 @@ pub fn ends_row(is_in_block: bool, separator: u8, line: &[u8]) -> bool
     }
 }
 
-/// The same, where no text block is open.
+/// Whether a row or a command ends with a whole line, where no text block is open.
 fn line_ends_row(separator: u8, line: &[u8]) -> bool
     ensures { result ≡ kind_ends_row (line_kind line.now) separator line.now }
 {
@@ -227,7 +227,8 @@ fn line_ends_row(separator: u8, line: &[u8]) -> bool
     }
 }
 
-/// The same, where one is open.
+/// Whether a row ends with a whole line, where a text block is open: it closes that, and opens no
+/// other.
 fn block_line_ends_row(separator: u8, line: &[u8]) -> bool
     ensures { result ≡ block_kind_ends_row (block_line_kind line.now) separator line.now }
 {

@@ -141,7 +141,7 @@ impl Entry {
         }
     }
 
-    /// The same with its last line's end there.
+    /// This entry, with the end of its last line at this place in the table's bytes.
     pub fn with_end(self, to: usize) -> Entry
         requires { to < 2 ^ 32 }
         ensures { result ≡ with_end to self }

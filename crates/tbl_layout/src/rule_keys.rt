@@ -91,7 +91,8 @@ pub fn entry_at(keys: &[FormatKey], entries: &[Entry], at: usize) -> Entry
     }
 }
 
-/// The same of a column behind the last field.
+/// What stands in a column of a row with these keys behind the last field: the rule of its key, if
+/// it is a rule key, and else nothing.
 // Such a row is rare.
 #[inline(never)]
 fn entry_behind(keys: &[FormatKey], at: usize) -> Entry

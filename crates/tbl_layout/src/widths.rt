@@ -22,7 +22,8 @@ pub(crate) fn width_in_text(byte: u8) -> usize
     other_width(byte)
 }
 
-/// The same of any byte.
+/// The width of any byte of a text, in columns: of one that is dropped or silent there is nothing,
+/// nor of a tab.
 fn other_width(byte: u8) -> usize
     ensures value { result ≡ width_in_text byte }
     ensures most { result ≤ 1 }

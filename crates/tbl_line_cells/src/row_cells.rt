@@ -70,7 +70,7 @@ impl LineCells {
         self.finish();
     }
 
-    /// Its cells, and what stands in front of them and behind the last.
+    /// All cells of a row, and what stands in front of them and behind the last.
     fn lay_all(
         &mut self,
         cells: &[CellLeft],
@@ -206,7 +206,8 @@ impl LineCells {
         }
     }
 
-    /// The same of one that may be a rule, begin below the line, or run on.
+    /// A cell that may be a rule, begin below the line, or run on. Its rule, if it is one, ends at
+    /// a column of the page.
     // Such a cell is rare.
     #[inline(never)]
     fn push_any(&mut self, cell: &CellLeft, column: Column, end: usize)

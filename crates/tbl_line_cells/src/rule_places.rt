@@ -23,7 +23,7 @@ pub fn rule_begin(columns: &[Column], from: usize, at: usize) -> usize
     }
 }
 
-/// Where it ends: over the last one at a place.
+/// Where the rule over a column ends: over the last one at a place.
 pub fn rule_end(columns: &[Column], to: usize, at: usize) -> usize
     requires within { at < length columns.now }
     requires narrow { AreNarrow columns.now }
@@ -72,7 +72,7 @@ pub fn left_end(is_ruled: bool, bars: u8, columns: &[Column]) -> usize
     }
 }
 
-/// Where it ends over the last one: at a place, if it rules the edge.
+/// Where a line of rules ends over the last column: at a place, if it rules the edge.
 pub fn right_end(is_ruled: bool, right: usize, columns: &[Column]) -> usize
     requires some { 0 < length columns.now }
     requires narrow { AreNarrow columns.now }

@@ -57,7 +57,8 @@ pub fn drawn_in_front(front: Front, next: usize) -> usize
     }
 }
 
-/// The same with a cell, which may be a rule.
+/// Where the next bar or rule stands on a line from a cell on: where the cell's own rule begins, if
+/// it is one, and else where the next one behind the cell stands.
 pub fn drawn_by(cell: LaidCell, next: usize) -> usize
     requires { IsNarrow cell.column }
     ensures { (bytes : List ℕ) (s : Shown) → IsShown bytes cell s

@@ -25,8 +25,8 @@ pub enum Front {
     Nothing,
     /// Bars: the column of the page where they begin, and how many.
     Bars(usize, u8),
-    /// The same of bars that two rules of the row cross on its first line, their sign, and where
-    /// the second one's column begins.
+    /// Bars that two rules of the row cross on its first line: the column of the page where they
+    /// begin, how many, the sign of the rules, and where the second one's column begins.
     Crossed(usize, u8, RuleSign, usize),
     /// A rule with this sign from a column of the page on, which so many bars cross at another one,
     /// and which ends there.

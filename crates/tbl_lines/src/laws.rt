@@ -41,7 +41,7 @@ pub fn behind_alone()
         ≡ alone_from (suc line) cell keys fields }
 {}
 
-/// The lines of such a row are those of its cells.
+/// The lines of a row of which no cell goes on with another row are those of its cells.
 pub fn row_alone()
     ensures { (s : Sheet) (format : FormatRow) (fields : List Content)
         → AreWithin (length s.columns) format.keys → 0 < length s.columns → HaveWidth format.keys
@@ -50,8 +50,8 @@ pub fn row_alone()
         ≡ lines_from line lines (row_cells s format fields) }
 {}
 
-/// Such cells begin with a row of which none goes on with one above, and none of the next row with
-/// one of its own.
+/// Cells that go on with no other row begin with a row of which none goes on with one above, and
+/// none of the next row with one of its own.
 pub fn cells_alone()
     ensures { (keys : List FormatKey) (above : List Left) (heights : List ℕ)
         (elements : List Element) (format : FormatRow) (fields : List Content)

@@ -22,7 +22,9 @@ pub fn plain_table()
         → table_lines s elements ≡ picture_lines s elements }
 {}
 
-/// The same of a table as it is kept, with places for the bars of all rows of its formats.
+/// Where no cell of a table as it is kept goes on with one above it, and each has a width, its
+/// lines are those of its rows, each by itself. There are places for the bars of all rows of its
+/// formats.
 pub fn plain_kept()
     ensures { (bytes : List ℕ) (formats : List FormatRow) (s : Sheet) (elements : List KeptElement)
         → AllByRecursion NoneAbove (elements_of bytes formats elements)

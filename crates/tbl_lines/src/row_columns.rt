@@ -126,7 +126,7 @@ fn rule_end(row: &RowLent<'_>, at: usize, column: Column, sign: RuleSign) -> usi
     }
 }
 
-/// Where it ends in front of another cell, which a rule goes on with or not.
+/// Where a rule over a cell ends in front of another cell, whose rule goes on with it or not.
 fn rule_end_before(bars: u8, is_joined: bool, column: Column, next: Column) -> usize
     requires { IsNarrow column }
     ensures { result

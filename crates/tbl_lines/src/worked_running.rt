@@ -6,8 +6,8 @@ ghost use Rattle.tbl_format.specs.declared.format.Key.TheVariants.{Above, Center
 ghost use Rattle.tbl_lines.specs.WorkedPictures.{cut_in, each_field, free_key, not_boxed};
 ghost use Rattle.tbl_lines.specs.WorkedPictures.{row_with_block, rows_under, tall_lines};
 
-/// They end in front of a column in which something stands, of a bar, and of the picture's end; an
-/// entry that has room in its columns stands where its key puts it.
+/// Entries without width end in front of a column in which something stands, of a bar, and of the
+/// picture's end; one that has room in its columns stands where its key puts it.
 pub fn running()
     ensures column { tall_lines not_boxed (0 ∷ 0 ∷ [])
         (rows_under (plain_key 0 Left 0 ∷ plain_key 0 Left 1 ∷ []) (codes "x:y" ∷ [])
@@ -27,7 +27,8 @@ pub fn running()
         ≡ codes "\\&xyz   y\n\\& ab   z\n" }
 {}
 
-/// Of each one that is cut one thing is told: whole glyphs stay, and what has no width behind them.
+/// Of each entry that is cut one thing is told: whole glyphs stay, and what has no width behind
+/// them.
 #[tactic(auto, unfolding(crate::specs::CutEntries::cut_entries))]
 pub fn cut()
     ensures one { cut_in not_boxed (0 ∷ 0 ∷ [])

@@ -229,7 +229,8 @@ impl OptionsRead {
         self.with_two(held, option_of_two(held, &text[from..to]), from, to)
     }
 
-    /// The same of two words, which say this together.
+    /// The word that waits and the one behind it, which together say this option. If they say none,
+    /// the first is an option by itself, and the second waits.
     fn with_two(self, held: &[u8], two: TableOption, from: usize, to: usize) -> OptionsRead
         ensures { result ≡ behind_two self held.now two from to }
     {

@@ -61,7 +61,7 @@ impl Piece {
         }
     }
 
-    /// Those of its bytes that lie together from a place on: all, but of blanks and rules at most
+    /// The bytes of a piece that lie together from a place on: all, but of blanks and rules at most
     /// 64, and of another byte that is repeated one.
     #[inline(always)]
     pub fn from<'a>(self, block: &'a [u8], frame: &'a [u8], at: usize) -> &'a [u8]

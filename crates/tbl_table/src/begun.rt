@@ -29,7 +29,7 @@ pub enum Begun {
 }
 
 impl Begun {
-    /// Of a line without a byte, where so much of the format was counted.
+    /// What is known of a line without a byte, where so much of the format was counted.
     pub fn at_start(phase: Phase, count: KeyCount) -> Begun
         ensures { (f : Format) → count ≡ count_of f → result ≡ begun_in phase f [] }
     {
@@ -41,7 +41,7 @@ impl Begun {
         }
     }
 
-    /// Of a line behind the first, where so much of the format was counted before it.
+    /// What is known of a line behind the first, where so much of the format was counted before it.
     pub fn on_line(phase: Phase, count: KeyCount, line: &[u8]) -> Begun
         requires phase { phase ≡ AtHead → ⊥ }
         requires is { IsCount 0 count }

@@ -54,7 +54,8 @@ pub fn lay_out(
     }
 }
 
-/// Its columns get their places, where so many columns of the page are spread over the gaps.
+/// The columns of a table get their places, where so many columns of the page are spread over the
+/// gaps.
 pub fn set_places(kept: &mut TableData, bars: Bars, more: usize)
     requires { width_of_all bars kept.old.rows.columns kept.old.format.format.asked + more
         < 2 ^ 32 }

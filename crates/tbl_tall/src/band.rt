@@ -44,7 +44,7 @@ pub struct Band {
     through: Vec<Option<usize>>,
     /// How many bars the line above shows at each boundary.
     above: Vec<u8>,
-    /// The same of the first line of the row below.
+    /// How many bars the first line of the row below shows at each boundary.
     below: Vec<u8>,
     /// How many bars meet or stand at each boundary on the line that is given.
     pub counts: Vec<u8>,

@@ -31,7 +31,8 @@ pub fn rules_fit()
         → HasLinePlaces s line → BarsFit s above → BarsFit s (OfRules line all above) }
 {}
 
-/// So have those that a line of a row shows.
+/// The bars that a line of a row shows have their places, where the columns have those of its
+/// format.
 pub fn row_fits()
     ensures { (s : Sheet) (format : FormatRow) (cells : List Left)
         → HasPlaces s.bars.front s.columns format

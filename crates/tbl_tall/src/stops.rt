@@ -56,7 +56,9 @@ pub fn set_stops(cells: &mut [CellLeft], rows: &TableRows, format: &FormatRows, 
     }
 }
 
-/// The same of one of them, behind which something stands next behind so many columns.
+/// What is without width in a cell that begins with its row, which is this element, ends at the
+/// latest behind so many columns, where something stands beside it, and in front of what stands
+/// below that.
 fn set_stop(
     cell: &mut CellLeft,
     rows: &TableRows,

@@ -185,7 +185,7 @@ pub fn next_on_line(
     }
 }
 
-/// The same, wherever the word stands.
+/// What comes next on a line of this width, from any place on: a word, an empty line, or nothing.
 fn part_on_line(
     escapes: &mut OpenEscapes,
     bytes: &[u8],
@@ -211,7 +211,8 @@ fn part_on_line(
     }
 }
 
-/// The same, told the word that comes next and the place behind it.
+/// What comes next on a line of this width, told the word that does and the place behind it. The
+/// line ends in front of a word that doesn't fit.
 #[inline(always)]
 fn word_on_line(word: BlockWord, behind: BlockPlace, width: u64, measure: u64) -> OnLine
     ensures { result ≡ word_on_line measure width word behind }

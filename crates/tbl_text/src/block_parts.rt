@@ -63,8 +63,8 @@ impl BlockPlace {
         BlockPlace::AtLine(0, None)
     }
 
-    /// The same place, from which words are read as far as they fit in a room. A place from which
-    /// they are read so already stays.
+    /// This place, with words read from it as far as they fit in a room. A place from which they
+    /// are read so already stays.
     pub fn within(self, room: Room) -> BlockPlace
         ensures { result ≡ place_within room self }
     {
@@ -223,7 +223,7 @@ pub(crate) fn word_behind(
     next_word(escapes, &bytes[..end as usize], at as usize)
 }
 
-/// The same behind a word of a line that ends there.
+/// What comes next behind a word of a line that ends there, and the place behind that.
 fn part_behind(
     escapes: &mut OpenEscapes,
     bytes: &[u8],
@@ -252,7 +252,7 @@ fn part_behind(
     }
 }
 
-/// The same from a line on, if one begins there.
+/// What comes next from a line on, if one begins there, and the place behind that.
 #[inline(never)]
 fn part_of_lines(
     escapes: &mut OpenEscapes,

@@ -36,7 +36,8 @@ impl Giving {
         }
     }
 
-    /// The same, of a picture whose cells have one row each.
+    /// The next pieces of a picture whose cells have one row each, as many as there is room for,
+    /// and behind its lines what stands there.
     fn refill_plain(
         &mut self,
         escapes: &mut OpenEscapes,
@@ -63,7 +64,8 @@ impl Giving {
         }
     }
 
-    /// The same, of one with cells of several rows.
+    /// The next pieces of a picture with cells of several rows, as many as there is room for, and
+    /// behind its lines what stands there.
     fn refill_tall(
         &mut self,
         escapes: &mut OpenEscapes,

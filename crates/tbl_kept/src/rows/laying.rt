@@ -135,7 +135,7 @@ impl TableRows {
         set_needed(self.columns.as_mut_slice(), asked);
     }
 
-    /// Those with `e` have the greatest of their widths.
+    /// The columns with `e` have the greatest of their widths.
     fn make_equal(&mut self, asked: &[Asked])
         ensures { self.new ≡ record self.old { columns = equalled asked.now self.old.columns } }
     {

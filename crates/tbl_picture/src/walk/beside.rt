@@ -133,7 +133,7 @@ pub(super) fn lengths_of(format: &FormatRows, rules: RuleRows) -> Option<Lengths
     Some(lengths_of_some(format, rules))
 }
 
-/// The same of rows of which there is one at least.
+/// How many keys these rows have, of which there is one at least, and the first is the nearest.
 fn lengths_of_some(format: &FormatRows, rules: RuleRows) -> Lengths
     requires some { 0 < rules.count }
     requires within { rules.first + rules.count ≤ length (all_rows format.now.format) }
@@ -154,7 +154,7 @@ fn lengths_of_some(format: &FormatRows, rules: RuleRows) -> Lengths
     lengths
 }
 
-/// With a row more behind the others.
+/// How many keys rows have with one more behind the others.
 fn lengths_with(lengths: Lengths, keys: usize, at: usize) -> Lengths
     ensures { result ≡ with_keys lengths keys at }
 {
@@ -168,8 +168,8 @@ fn lengths_with(lengths: Lengths, keys: usize, at: usize) -> Lengths
     }
 }
 
-/// Those of these rows, which are all but the first of rows of which the longest is known: that is
-/// looked for again only where it was the first.
+/// How many keys these rows have, which are all but the first of rows of which the longest is
+/// known: that is looked for again only where it was the first.
 pub(super) fn lengths_behind(
     format: &FormatRows,
     before: Option<Lengths>,
@@ -195,7 +195,7 @@ pub(super) fn lengths_behind(
     lengths_of(format, rules)
 }
 
-/// Those of rows with one more, which is nearer than the others.
+/// How many keys rows have with one more, which is nearer than the others.
 pub(super) fn lengths_above(before: Option<Lengths>, keys: usize, at: usize) -> Option<Lengths>
     ensures { (boxing : Boxing) (line seen : Neighbour) (format : FormatRow)
         → length format.keys ≡ keys → ShownThrough boxing before line seen

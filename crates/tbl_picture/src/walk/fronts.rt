@@ -46,7 +46,8 @@ pub(super) fn count_given(
     }
 }
 
-/// The same, where the picture may have bars.
+/// How many cells of a line are given, with what stands in front of them, where the picture may
+/// have bars: up to the last that has a glyph.
 fn count_to_mark(
     escapes: &mut OpenEscapes,
     row: &RowLent<'_>,

@@ -36,7 +36,7 @@ impl Table {
         }
     }
 
-    /// The same, where a line goes on.
+    /// A line that goes on is done, where there is one, and then a text block that is open.
     #[tactic(auto, unfolding(crate::specs::Table::closed))]
     fn close_line(&mut self)
         requires open { is_some self.old.reading.table.pending ≡ true }
@@ -57,7 +57,7 @@ impl Table {
         self.begun = Begun::on_line(self.phase, self.kept.format.count(), self.text.line());
     }
 
-    /// The same, where none does.
+    /// A text block that is open is done, where no line goes on.
     #[tactic(auto, unfolding(crate::specs::Table::closed))]
     fn close_block(&mut self)
         requires pending { self.old.reading.table.pending ≡ None }
@@ -87,7 +87,9 @@ impl Table {
         self.finish_with(number, line_length, false)
     }
 
-    /// The same, where a newline follows.
+    /// The line `.TE` was met, and a newline follows: the table's messages are to tell, and its
+    /// output and that line are to give. Answers the limit on rows or on the picture's width that
+    /// is met there: then it is cut.
     pub fn finish_line(&mut self, number: u32, line_length: u32) -> Option<Limit>
         ensures answer { result
             ≡ limit_at_end self.old.limits line_length self.old.reading.table }
@@ -100,7 +102,9 @@ impl Table {
         self.finish_with(number, line_length, true)
     }
 
-    /// The same, with a newline behind the line or without one.
+    /// The line `.TE` was met, with a newline behind it or without one: the table's messages are to
+    /// tell, and its output and that line are to give. Answers the limit on rows or on the
+    /// picture's width that is met there: then it is cut.
     fn finish_with(&mut self, number: u32, line_length: u32, has_newline: bool) -> Option<Limit>
         ensures answer { result
             ≡ limit_at_end self.old.limits line_length self.old.reading.table }
@@ -126,8 +130,8 @@ impl Table {
         self.kept.rows.count() > self.limits.rows as usize
     }
 
-    /// Its messages are to tell, and its output is to give and the line that is begun. Answers the
-    /// limit on the picture's width, where that is met: then nothing is to give.
+    /// The table's messages are to tell, and its output and the line that is begun are to give.
+    /// Answers the limit on the picture's width, where that is met: then nothing is to give.
     fn give(&mut self, number: u32, line_length: u32, has_newline: bool) -> Option<Limit>
         requires pending { self.old.reading.table.pending ≡ None }
         requires begun { self.old.reading.table.begun ≡ None }
@@ -161,7 +165,8 @@ impl Table {
         }
     }
 
-    /// The same, where the format lacks its end.
+    /// A table whose format lacks its end is reported on this line. Its messages are to tell, and
+    /// its bytes and the line that is begun are to give as they were read.
     fn give_unended(&mut self, number: u32, has_newline: bool)
         requires phase { is_front self.old.reading.table.phase ≡ true }
         requires pending { self.old.reading.table.pending ≡ None }
@@ -176,7 +181,8 @@ impl Table {
         self.giving.give_read(&self.text, has_newline);
     }
 
-    /// The same, where it was reported.
+    /// The messages of a table that was reported are to tell, and its bytes and the line that is
+    /// begun are to give as they were read.
     fn give_bad(&mut self, has_newline: bool)
         ensures told { self.new.told ≡ self.old.reading.table.notes }
         ensures to_come { self.new.to_come
@@ -187,7 +193,9 @@ impl Table {
         self.giving.give_read(&self.text, has_newline);
     }
 
-    /// The same, where it may have a picture. Its rows are laid out: no line follows.
+    /// The messages of a table that may have a picture are to tell, and that and the line that is
+    /// begun are to give. Its rows are laid out: no line follows. Answers the limit on the
+    /// picture's width, where that is met: then nothing is to give.
     fn give_picture(&mut self, number: u32, line_length: u32, has_newline: bool) -> Option<Limit>
         requires phase { self.old.reading.table.phase ≡ InData }
         requires pending { self.old.reading.table.pending ≡ None }

@@ -60,7 +60,7 @@ impl Table {
         }
     }
 
-    /// The same of a line of the data.
+    /// Whether a row or a command ends with the line of the data that is begun.
     fn ends_data_row(&self) -> bool
         ensures { result ≡ ends_in_data self.now.reading.table self.now.reading.line }
     {

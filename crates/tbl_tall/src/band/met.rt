@@ -65,7 +65,8 @@ impl Band {
         }
     }
 
-    /// The same at one boundary, in a picture that may have bars or not.
+    /// How many bars meet at a boundary on the next line, or stand there, where it isn't ruled. In
+    /// a picture without bars there are none.
     fn met_at(&self, format: &FormatRows, bars: Bars, boundary: usize) -> u8
         requires fits { BandFits (all_rows format.now.format) (kept_band self.now) }
         requires line { self.now.at < self.now.wholes + self.now.count }
@@ -84,7 +85,8 @@ impl Band {
         }
     }
 
-    /// The same, where it may have some.
+    /// How many bars meet at a boundary on the next line, or stand there, where it isn't ruled, in
+    /// a picture that may have some.
     // Where the line before doesn't rule the boundary, the bars above have those of the stretch.
     fn count_at(&self, format: &FormatRows, boxing: Boxing, boundary: usize) -> u8
         requires fits { BandFits (all_rows format.now.format) (kept_band self.now) }

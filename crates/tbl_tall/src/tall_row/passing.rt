@@ -230,7 +230,7 @@ fn pass_cells(cells: &mut [CellLeft], escapes: &mut OpenEscapes, bytes: &[u8], i
     }
 }
 
-/// The same of one of them.
+/// A line was given on which this cell stands, or only if it goes on, where it is a line of rules.
 fn pass_cell(cell: &mut CellLeft, escapes: &mut OpenEscapes, bytes: &[u8], is_rule: bool)
     requires kept { IsKept bytes.now cell.old }
     ensures left { (l : Left) → IsLeft bytes.now cell.old l
