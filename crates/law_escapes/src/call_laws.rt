@@ -20,7 +20,7 @@ pub fn called_with_texts()
     ensures source { BodiesOfTheSourceGetTheTextsRead }
 {}
 
-/// That is what the line is read as that has the texts in the places of the escapes, where no
+/// A line with escapes is read as the one that has the texts in the places of the escapes, where no
 /// escape stands behind the quote that closes an argument: there a quote that the text begins with
 /// opens another argument, and isn't the second one of two.
 pub fn rewritten_lines()

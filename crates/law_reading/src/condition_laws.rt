@@ -52,9 +52,9 @@ pub fn chosen_branches()
     ensures source { ConditionsOfTheSourceChooseTheirBranch }
 {}
 
-/// So does an expression, up to the blank, the tab or the newline that ends it: it is so where its
-/// value is above 0, whatever of it stands behind its number. The byte that ended it is read behind
-/// the decision.
+/// A condition that asks for an expression, up to the blank, the tab or the newline that ends it,
+/// leads to its branch: it is so where its value is above 0, whatever of it stands behind its
+/// number. The byte that ended it is read behind the decision.
 pub fn chosen_by_expressions()
     ensures ahead { ExpressionsChooseTheirBranch }
     ensures source { ExpressionsOfTheSourceChooseTheirBranch }

@@ -16,9 +16,10 @@ pub fn reading_again()
     ensures start { DiversionsBegin }
 {}
 
-/// So it is in the middle of any run, in a diversion within any others, from wherever the text
-/// comes: the boxes stand behind those that were there, and its text behind the text so far. The
-/// texts of all diversions of a run, as they are made of their boxes, come back so.
+/// The text of a diversion gives its boxes back in the middle of any run, in a diversion within any
+/// others, from wherever the text comes: the boxes stand behind those that were there, and its text
+/// behind the text so far. The texts of all diversions of a run, as they are made of their boxes,
+/// come back so.
 pub fn boxes_come_back()
     ensures ahead { BoxesComeBack }
     ensures source { BoxesComeBackFromTheSource }

@@ -202,7 +202,7 @@ impl Reader {
             .keep_request(None, None, false, RequestEvents::One(event));
     }
 
-    /// Its message, on the line of the last byte taken, if it has one.
+    /// The message of the meaning that is kept, on the line of the last byte taken, if it has one.
     pub fn message(&self) -> Option<Message>
         ensures { result ≡ self.now.meaning.message }
     {

@@ -28,7 +28,8 @@ pub fn behind_called(breaks: bool, called: Called) -> Option<LineState>
     }
 }
 
-/// The same of a request.
+/// What is read behind the name of a request, if nothing else changes but what is half read: of all
+/// but the other branch of a condition.
 #[inline(always)]
 fn behind_request(breaks: bool, request: Request) -> Option<LineState>
     ensures leads { IfSome result (λ reading.

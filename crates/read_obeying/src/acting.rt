@@ -60,7 +60,7 @@ pub fn act(
     }
 }
 
-/// The same of any request, by what it answers to its arguments.
+/// Does what any request does with the arguments that were read, by what it answers to them.
 ///
 /// # Errors
 ///

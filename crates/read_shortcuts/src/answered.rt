@@ -91,7 +91,8 @@ fn answer_in_front<S: ByteSource>(
     }
 }
 
-/// The same of these bytes behind the blank.
+/// What the condition answers with which these bytes begin, if it stands there whole and asks for a
+/// register.
 #[inline(always)]
 fn answer_behind(
     reader: &Reader,

@@ -74,7 +74,8 @@ fn comparison_in_front<S: ByteSource>(unread: &Unread<PageEvent>, source: &S) ->
     }
 }
 
-/// The same of these bytes behind the blank and a `!`, if there is one.
+/// What the condition answers with which these bytes begin, behind a `!` or not, if it stands there
+/// whole and compares an argument with a text.
 #[inline(always)]
 fn comparison(negated: bool, bytes: &[u8], unread: &Unread<PageEvent>) -> Option<Answer>
     ensures { IfSome result (λ answer. ComparesBehind negated bytes.now unread.now answer) }
@@ -101,7 +102,8 @@ fn comparison(negated: bool, bytes: &[u8], unread: &Unread<PageEvent>) -> Option
     }
 }
 
-/// The same of an argument's text, and of these bytes behind it and its delimiter.
+/// What the condition answers, behind a `!` or not, that compares the text of an argument with the
+/// one in front of these bytes, up to the delimiter. None where no delimiter ends that.
 #[inline(always)]
 fn compared(negated: bool, delimiter: u8, text: &[u8], behind: &[u8]) -> Option<Answer>
     ensures { IfSome result (λ answer. AnswersText negated delimiter text.now behind.now answer) }

@@ -114,7 +114,9 @@ fn decide_asking<S: ByteSource>(
     }
 }
 
-/// The same of a condition that doesn't decide at once, behind whose name this stands.
+/// Takes the name of a request that asks a condition, with its dot or apostrophe, and a blank
+/// behind it, if this says that one is there. The condition doesn't decide at once: it is read
+/// next.
 #[inline(always)]
 fn read_undecided<S: ByteSource>(
     reader: &mut Reader,

@@ -46,17 +46,21 @@ pub enum ControlRead {
     Front,
     /// All of a dropped line, with its newline: a line begins.
     Dropped,
-    /// The same, where a condition is next.
+    /// The bytes up to its name's end, and a blank behind it, if one is there: a condition is next.
     Condition,
     /// A condition too, and it decided; or the other branch of one: a branch begins, or is skipped.
     Decided,
     /// The bytes up to its name's end, and bytes behind it that are held in its arguments.
     Held,
-    /// The same, where the escape of a register, a string or an argument may stand behind them.
+    /// The bytes up to its name's end, and bytes behind it that are held in its arguments. The
+    /// escape of a register, a string or an argument may stand behind them.
     HeldToEscape,
-    /// The same of a line that calls a body.
+    /// The bytes up to the name's end of a line that calls a body, and bytes behind it that are
+    /// held in its arguments. The escape of a register, a string or an argument may stand behind
+    /// them.
     HeldForCall,
-    /// The same up to its newline, which was taken too, and isn't read yet.
+    /// The bytes up to its name's end, and those behind it up to its newline, which are held in its
+    /// arguments. The newline was taken too, and isn't read yet.
     HeldToEnd,
 }
 
@@ -102,7 +106,8 @@ pub fn read_control_front<S: ByteSource>(
     }
 }
 
-/// The same of such a front.
+/// Reads at once this front of a control line: the dot or apostrophe and a name of two bytes, or a
+/// backslash, behind which the line is dropped. Else nothing happens. Returns what was read.
 #[inline(always)]
 fn read_control<S: ByteSource>(
     reader: &mut Reader,
@@ -221,7 +226,8 @@ fn read_behind_name<S: ByteSource>(
     }
 }
 
-/// The same where the newline is next, and nothing is held.
+/// Takes a name with its dot or apostrophe, behind which arguments are read, and the newline that
+/// is next. Nothing is held. Returns that the newline was taken.
 #[inline(always)]
 fn read_ended<S: ByteSource>(
     reader: &mut Reader,
@@ -257,7 +263,7 @@ fn held_to(behind: BehindHeld) -> ControlRead
     }
 }
 
-/// The same of a line that calls a body.
+/// What was read of a line that calls a body, by what stands behind the bytes that were held.
 #[inline(always)]
 fn held_for_call(behind: BehindHeld) -> ControlRead
     ensures { result ≡ read_for_call behind }

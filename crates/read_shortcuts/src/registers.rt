@@ -61,7 +61,9 @@ pub fn hold_text<S: ByteSource>(
     }
 }
 
-/// The same of this escape, which stands in front.
+/// Takes this escape of a register or an argument at once, which stands in front, and holds its
+/// text in the arguments, as long as fewer than so many are whole, where there is a bound. What
+/// isn't held of it is put in front.
 #[inline(always)]
 fn hold_ahead<S: ByteSource>(
     reader: &Reader,
@@ -168,7 +170,8 @@ pub fn pass_text<S: ByteSource>(
     }
 }
 
-/// The same of an argument.
+/// Takes the escape of the argument of this digit at once, which stands in front. Returns its text,
+/// which isn't put in front.
 #[inline(always)]
 fn pass_argument<S: ByteSource>(
     reader: &Reader,

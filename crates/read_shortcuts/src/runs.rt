@@ -27,7 +27,8 @@ pub fn run_kind(reader: &Reader, unread: &Unread<PageEvent>) -> Option<RunKind>
     }
 }
 
-/// The same where something is half read.
+/// What the bytes in front do where something is half read, as far as some can be taken together:
+/// by what is being read.
 #[inline(always)]
 pub fn run_half_read(reader: &Reader, unread: &Unread<PageEvent>) -> Option<RunKind>
     ensures { IfSome result (λ kind. IsRun kind reader.now.reading unread.now.input.escapes) }
@@ -41,7 +42,8 @@ pub fn run_half_read(reader: &Reader, unread: &Unread<PageEvent>) -> Option<RunK
     }
 }
 
-/// The same where nothing is.
+/// What the bytes in front do where nothing is half read, as far as some can be taken together: by
+/// what is being read.
 #[inline(always)]
 fn run_alone(reader: &Reader, unread: &Unread<PageEvent>) -> Option<RunKind>
     requires none_half { unread.now.input.escapes ≡ [] }
@@ -64,7 +66,8 @@ fn run_alone(reader: &Reader, unread: &Unread<PageEvent>) -> Option<RunKind>
     }
 }
 
-/// The same where bytes are collected.
+/// What the bytes in front do that are collected for this where nothing is half read, as far as
+/// some can be taken together.
 #[inline(always)]
 fn run_collected(purpose: Purpose) -> Option<RunKind>
     ensures { IfSome result (λ kind. IsRun kind (Collecting purpose) []) }

@@ -49,7 +49,9 @@ pub fn step_register<S: ByteSource>(
     }
 }
 
-/// The same of such an escape.
+/// Takes this escape of a register at once, which stands in front on a text line, and steps it, if
+/// nothing is said of the step, and the page gets no number by it. Returns the register's text
+/// then, which isn't put in front; else nothing happens.
 #[inline(always)]
 fn step_over<S: ByteSource>(
     reader: &mut Reader,

@@ -50,7 +50,8 @@ pub fn take_string_name<S: ByteSource>(
     }
 }
 
-/// The same where the name is read, whether the string is appended to or not.
+/// Takes bytes of a string's name together that stand in front, where it is read, up to one that
+/// may end it: whether the string is appended to or not.
 #[inline(always)]
 fn take_name<S: ByteSource>(
     reader: &Reader,
@@ -101,7 +102,8 @@ pub fn take_string_front<S: ByteSource>(
     }
 }
 
-/// The same where the text of this name begins.
+/// Takes bytes together that stand in front where the text of this string begins: a quote alone, or
+/// bytes of which the first is kept.
 #[inline(always)]
 fn take_text_front<S: ByteSource>(
     reader: &mut Reader,
@@ -133,7 +135,8 @@ fn take_text_front<S: ByteSource>(
     }
 }
 
-/// The same of bytes of which the first is kept.
+/// Takes bytes together that stand in front where the text of this string begins, of which the
+/// first is kept.
 #[inline(always)]
 fn take_kept<S: ByteSource>(
     reader: &mut Reader,

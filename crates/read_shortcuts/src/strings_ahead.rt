@@ -37,7 +37,7 @@ pub fn put_string<S: ByteSource>(
     }
 }
 
-/// The same of this name, whose escape stands in front.
+/// Takes the escape of this string at once, which stands in front, and puts the string in front.
 #[inline(always)]
 fn put_named<S: ByteSource>(
     reader: &Reader,

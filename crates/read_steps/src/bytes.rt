@@ -50,7 +50,8 @@ pub fn read_on_line(
     Ok(read_plain(reader, line, byte))
 }
 
-/// The same of a byte that is neither dropped nor a backslash.
+/// What a byte does on this text line that is neither dropped nor a backslash, where nothing is
+/// half read.
 #[inline(always)]
 fn read_plain(reader: &mut Reader, line: TextLine, byte: u8) -> Step
     requires line { reader.old.reading ≡ InText line }
@@ -89,7 +90,8 @@ pub(crate) fn read_alone(
     }
 }
 
-/// The same in a line whose bytes are collected for this.
+/// What a byte does that is neither dropped nor a backslash in a line whose bytes are collected for
+/// this, where nothing is half read.
 #[inline(always)]
 fn read_byte_for(
     reader: &mut Reader,
@@ -151,7 +153,8 @@ pub(crate) fn read_undropped(
     }
 }
 
-/// The same in a title, between these delimiters: one is found where nothing is half read.
+/// What a byte does that isn't dropped in a title, between these delimiters: one is found where
+/// nothing is half read.
 fn read_between(
     reader: &mut Reader,
     delimiter: u8,
@@ -172,7 +175,8 @@ fn read_between(
     read_placed(reader, byte, composer, unread)
 }
 
-/// The same by what is half read, if something is.
+/// What a byte does that isn't dropped, by what is half read, if something is, and what is read of
+/// the line.
 #[inline(always)]
 fn read_placed(
     reader: &mut Reader,

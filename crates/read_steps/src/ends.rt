@@ -35,7 +35,7 @@ pub fn end_escape(
     end_any(reader, composer, unread)
 }
 
-/// The same, whatever was half read.
+/// What is half read ends, whatever it is, before what stays or at the end of the input.
 fn end_any(
     reader: &mut Reader,
     composer: &Composer,
@@ -82,7 +82,8 @@ pub fn end_line_of_input(
     }
 }
 
-/// The same of a line whose bytes are collected for this.
+/// The end of the input in a line whose bytes are collected for this: the line ends, and a
+/// definition is dropped.
 fn end_collected(
     reader: &mut Reader,
     purpose: Purpose,

@@ -78,7 +78,7 @@ pub(crate) fn read_found(
     }
 }
 
-/// The same of a line whose bytes are collected for this.
+/// Does what was found in a line whose bytes are collected for this.
 #[inline(always)]
 fn read_for(
     reader: &mut Reader,
@@ -102,7 +102,7 @@ fn read_for(
     }
 }
 
-/// The same of a byte behind a name, where a line collects units from here on.
+/// Does what was found by a byte behind a name, where a line collects units from here on.
 pub(crate) fn read_from(
     reader: &mut Reader,
     reading: LineState,
@@ -120,7 +120,7 @@ pub(crate) fn read_from(
     read_collected(reader, found, composer, unread)
 }
 
-/// The same where a line collects units.
+/// Does what was found where a line collects units.
 #[inline(always)]
 pub(crate) fn read_collected(
     reader: &mut Reader,
@@ -141,7 +141,7 @@ pub(crate) fn read_collected(
     }
 }
 
-/// What a unit does there.
+/// What a unit does where a line collects units.
 #[inline(always)]
 fn read_unit_here(
     reader: &mut Reader,
@@ -159,7 +159,8 @@ fn read_unit_here(
     }
 }
 
-/// The same where bytes are collected for this; those of a definition are read otherwise.
+/// What a unit does in a line whose bytes are collected for this; those of a definition are read
+/// otherwise.
 #[inline(always)]
 pub(crate) fn read_unit_for(
     reader: &mut Reader,

@@ -97,7 +97,7 @@ fn read_among_arguments(
     }
 }
 
-/// The same of what comes more seldom.
+/// Something behind a request's name, whatever it is. Most often nothing is found there yet.
 #[inline(never)]
 fn read_arguments(
     reader: &mut Reader,

@@ -35,7 +35,7 @@ pub fn read(
     read_any(reader, byte, composer, unread)
 }
 
-/// The same of any byte.
+/// What any byte does that was taken: the input behind it, what is read, and what it means.
 #[inline(never)]
 pub(crate) fn read_any(
     reader: &mut Reader,
@@ -49,7 +49,8 @@ pub(crate) fn read_any(
     read_half(reader, byte, composer, unread)
 }
 
-/// The same where something is half read, and most bytes are none of a text line.
+/// What a byte does that was taken where something is half read: the input behind it, what is read,
+/// and what it means. Most of these bytes are none of a text line.
 ///
 /// # Errors
 ///

@@ -169,7 +169,8 @@ pub fn take_title_front<S: ByteSource>(
     }
 }
 
-/// The same between these delimiters.
+/// Takes bytes of a part together that stand in front, between these delimiters, and stand for the
+/// page number, a blank or themselves.
 #[inline(always)]
 fn take_front_of_title<S: ByteSource>(
     reader: &mut Reader,

@@ -80,7 +80,8 @@ impl Engine {
         self.format_within(source, out, err)
     }
 
-    /// The same, where the messages go to a sink with room for as many bytes as may be told.
+    /// Formats a source: the text goes to `out`, the messages go to `err`, which has room for as
+    /// many bytes as may be told. Returns how the run ended.
     fn format_within<S: ByteSource, O: ByteSink, E: MessageSink>(
         self,
         source: &mut S,

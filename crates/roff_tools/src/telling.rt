@@ -77,7 +77,8 @@ pub(crate) fn show<O: ByteSink, E: MessageSink>(
     }
 }
 
-/// That text. None where there is no memory for it, or was none for the parse.
+/// The text of what a parse of the words has to say. None where there is no memory for it, or was
+/// none for the parse.
 fn text_of(alloc: Global, shown: &clap::Error) -> Option<String>
     ensures some { IfSome result (λ text. 0 < length (string_bytes text)) }
     ensures none { kind_of shown.now ≡ ErrorKind.OutOfMemory → result ≡ None }

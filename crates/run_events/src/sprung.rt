@@ -15,7 +15,7 @@ use run_state::Due;
 pub enum Left {
     /// A macro was sprung.
     Springs,
-    /// The same, and the first of them is an eject that goes on.
+    /// A macro was sprung, and the first event that is left is an eject that goes on.
     GoesOn,
     /// The text of a diversion is to be changed first.
     Diverts,
@@ -87,7 +87,8 @@ impl Sprung {
         }
     }
 
-    /// The same of an eject that goes on.
+    /// An eject that stopped here goes on behind the macro that it sprang: the eject itself is
+    /// left.
     pub(crate) fn going_on(self) -> Sprung
         ensures { result ≡ going_on self }
     {
@@ -97,7 +98,7 @@ impl Sprung {
         }
     }
 
-    /// The same where so many events stand in front of these. No count is told beyond 255.
+    /// This stop of a list, with so many events more in front of it. No count is told beyond 255.
     pub fn further(self, count: u8) -> Sprung
         ensures told { self.left + count ≤ 255 → result ≡ further count self }
         ensures most { 255 < self.left + count → result ≡ record self { left = 255 } }

@@ -81,7 +81,7 @@ impl Environment {
         })
     }
 
-    /// Two of them.
+    /// Two fresh environments.
     fn pair(alloc: Global, line_cap: u32) -> Result<(Self, Self), AllocError>
         ensures { IfOk result (λ es. StandsAs line_cap fresh_environment es.0
             × StandsAs line_cap fresh_environment es.1) }
@@ -92,7 +92,7 @@ impl Environment {
 }
 
 impl Left {
-    /// None was left yet; so many may be.
+    /// No environment was left yet; so many may be.
     fn new(alloc: Global, cap: u32) -> Result<Self, AllocError>
         ensures { IfOk result (λ l. l ≡ record { numbers = []; cap = cap }) }
     {

@@ -8,7 +8,7 @@ use test_machine::{Expected, Given, Machine, Paper};
 /// How many files the command line of the next test names.
 const COUNT: usize = 2_000;
 
-/// All of them are read, and no word behind them is left out.
+/// All files of a long command line are read, and no word behind them is left out.
 #[test]
 fn two_thousand_files(rt: HostRuntime) -> Result<(), Fail> {
     let alloc = rt.alloc();

@@ -126,7 +126,8 @@ impl Reader {
         }
     }
 
-    /// The same of a name that has a body.
+    /// A macro that sprang is read, whose name has a body: what is read goes on behind it. A limit
+    /// may refuse it; nothing changed then.
     fn spring_body(&mut self, name: ShortName, unread: &mut Unread<PageEvent>) -> Result<(), Limit>
         ensures { Springs (Called.Body name)
             self.old self.new unread.old unread.new result }

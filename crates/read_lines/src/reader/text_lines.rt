@@ -222,7 +222,8 @@ impl Reader {
         self.begin_text(step, None)
     }
 
-    /// The same where it begins a text line: an interrupted one goes on, and that is told first.
+    /// What something does that begins a text line: an interrupted one goes on, and that is told
+    /// first.
     pub(super) fn begin_text(&mut self, step: TextStep, interrupted: Option<TextLine>) -> Step
         ensures now { self.new
             ≡ record self.old { reading = step.reading; meaning = self.new.meaning } }

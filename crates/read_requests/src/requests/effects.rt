@@ -141,7 +141,7 @@ pub enum Changes {
     Rename {
         /// The name.
         from: Name,
-        /// The other one.
+        /// The name that it goes to.
         to: Name,
     },
 }
@@ -206,7 +206,7 @@ impl Response {
         Response::Ignored(Some(Message::NoSuchEnvironment))
     }
 
-    /// It is left out.
+    /// A request of this name is left out.
     pub(super) fn left_out(name: [u8; 2]) -> Response
         ensures { (as_given : List (List ℕ)) → response_of as_given result ≡ left_out name }
     {

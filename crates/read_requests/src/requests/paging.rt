@@ -136,7 +136,7 @@ fn ejected(known: PageFacts) -> Response
     Response::on_page(LayoutEvent::Eject(page_ejected(known.begun)))
 }
 
-/// The same, and the next page gets this number.
+/// The page is ejected, and the next page gets this number.
 fn ejected_to(number: Num, known: PageFacts) -> Response
     ensures { (L : Layout) (as_given : List (List ℕ)) → known.begun ≡ min L.begun (2 ^ 32)
         → known.diverts ≡ is_diverting L → response_of as_given result ≡ ejected_to number L }

@@ -39,7 +39,8 @@ impl Formatter {
         self.begin_page()
     }
 
-    /// The same in front of an event of the text, which may need one.
+    /// Begins the first page in front of an event of the text, if it needs one, unless text may be
+    /// taken. Returns the macro that it springs, if it springs one: the event waits behind it.
     #[inline(always)]
     pub(super) fn begin_first_for(&mut self, event: Event) -> Option<ShortName>
         ensures { ReadyFor (Text event) self.old self.new result }
@@ -50,7 +51,8 @@ impl Formatter {
         self.begin_page_for(event)
     }
 
-    /// The same in front of an event of pages.
+    /// Begins the first page in front of an event of pages, if it needs one, unless text may be
+    /// taken. Returns the macro that it springs, if it springs one: the event waits behind it.
     pub(super) fn begin_first_on(&mut self, event: LayoutEvent) -> Option<ShortName>
         ensures { ReadyFor (Page event) self.old self.new result }
     {

@@ -219,7 +219,7 @@ fn set_on_page(pages: &mut Pages, due: &mut Due, event: LayoutEvent) -> Result<O
     Ok(None)
 }
 
-/// The same of traps and diversions.
+/// Plants, moves or removes a trap, or opens or ends a diversion: an event that puts nothing.
 fn set_trap(pages: &mut Pages, due: &mut Due, event: LayoutEvent) -> Result<Option<Sprung>, Halt>
     requires { IsOfTraps event }
     ensures { SetsOnPage event pages.old pages.new due.new result }

@@ -238,7 +238,7 @@ impl Formatter {
         self.end_line(out)
     }
 
-    /// The same where one is.
+    /// Ends a line of the input behind a word's end, and before it the open field.
     #[cold]
     #[inline(never)]
     fn line_end_in_field<O: ByteSink>(&mut self, out: &mut O) -> Result<Option<Sprung>, Halt>
@@ -260,7 +260,7 @@ impl Formatter {
         self.brk(out)
     }
 
-    /// The same where one is.
+    /// Breaks behind a word's end, and before that ends the open field.
     #[cold]
     #[inline(never)]
     fn break_in_field<O: ByteSink>(&mut self, out: &mut O) -> Result<Option<Sprung>, Halt>

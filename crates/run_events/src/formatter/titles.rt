@@ -45,7 +45,8 @@ impl Formatter {
         }
     }
 
-    /// The same where no page begins in front of it.
+    /// Places this title, of this text, with the title length that is in force, and the page's
+    /// number in this format, where no page begins in front of it.
     fn place_title_here<O: ByteSink>(
         &mut self,
         which: WhichTitle,

@@ -73,7 +73,9 @@ impl Formatter {
         further(self.put_and_count(near, count, gaps, out), 1)
     }
 
-    /// The same of bytes that are told at once at the most, behind the end of the open word.
+    /// Tells so many of these bytes, among which are so many gaps, behind the end of the open word,
+    /// ends a line of the input, places the line that this finishes, and counts it. No more bytes
+    /// are given than are told at once at the most.
     #[inline(always)]
     fn put_and_count<O: ByteSink>(
         &mut self,
@@ -93,7 +95,8 @@ impl Formatter {
         }
     }
 
-    /// The same, but for the count.
+    /// Tells so many of these bytes, among which are so many gaps, behind the end of the open word,
+    /// ends a line of the input, and places the line that this finishes. It isn't counted yet.
     #[inline(always)]
     fn put_near<O: ByteSink>(
         &mut self,

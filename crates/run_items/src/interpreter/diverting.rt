@@ -37,7 +37,8 @@ impl Interpreter {
     }
 }
 
-/// The same, by what the composer and the reader say of it.
+/// Changes the text of a diversion as is due, if it is, by what the composer and the reader say of
+/// it.
 fn change(composer: &Composer, reader: &Reader, unread: &mut Unread<PageEvent>) -> Result<(), Limit>
     ensures { ChangesText (due_told composer.now reader.now.registers.all) unread.old unread.new
         result }
@@ -154,7 +155,8 @@ fn add_title(
     add_numbered(index, text, shown.as_slice(), columns, unread)
 }
 
-/// The same with the number as it is printed.
+/// Puts a title of this text and length, in columns, behind a text in the making, with the number
+/// of the page as it is printed.
 fn add_numbered(
     index: usize,
     text: &TitleText,

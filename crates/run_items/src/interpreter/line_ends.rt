@@ -51,7 +51,8 @@ impl Interpreter {
         }
     }
 
-    /// The same of a newline that ends the line of a break.
+    /// Reads a newline that ends the line of a break, where nothing is half read, and performs what
+    /// it means. Returns what that sprang.
     ///
     /// # Errors
     ///
@@ -75,7 +76,8 @@ impl Interpreter {
         self.perform(step, unread.line(), out, err)
     }
 
-    /// The same behind the arguments of a line that calls this body.
+    /// Reads a newline behind the arguments of a line that calls this body, where nothing is half
+    /// read, and performs what it means. Returns what that sprang.
     ///
     /// # Errors
     ///

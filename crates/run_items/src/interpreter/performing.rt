@@ -36,7 +36,8 @@ impl Interpreter {
         }
     }
 
-    /// The same of the meaning that the reader keeps.
+    /// Does what an item means of which the reader keeps the meaning: its message is reported on
+    /// this line of the input, and then its events are performed, up to one that stops the list.
     #[inline(never)]
     fn report_and_perform<O: ByteSink, E: MessageSink>(
         &mut self,
@@ -72,7 +73,8 @@ impl Interpreter {
         }
     }
 
-    /// The same of those behind a break, if one came: often a parameter is set, and nothing else.
+    /// Performs the events of the meaning that the reader keeps behind its break, if one came, up
+    /// to one that stops the list. Often a parameter is set, and nothing else.
     #[inline(always)]
     fn perform_behind<O: ByteSink>(
         &mut self,
@@ -91,7 +93,8 @@ impl Interpreter {
         }
     }
 
-    /// The same of those from an index on, where the others are performed.
+    /// Performs the events of the meaning that the reader keeps from an index on, up to one that
+    /// stops the list. Those in front of it are performed already.
     #[inline(always)]
     fn perform_from<O: ByteSink>(
         &mut self,

@@ -40,7 +40,8 @@ impl Interpreter {
         }
     }
 
-    /// The same of a byte on this text line, where nothing is half read.
+    /// Reads a byte on this text line, where nothing is half read, and performs what it means.
+    /// Returns what that sprang.
     ///
     /// # Errors
     ///
@@ -73,7 +74,8 @@ impl Interpreter {
         }
     }
 
-    /// The same where something is half read: most often it means nothing.
+    /// Reads a byte that was taken where something is half read, and performs what it means: most
+    /// often nothing. Returns what that sprang.
     ///
     /// # Errors
     ///
@@ -117,7 +119,7 @@ impl Interpreter {
         }
     }
 
-    /// The same, whatever it means.
+    /// Does what an item means that ended on this line of the input, whatever it means.
     #[inline(never)]
     fn perform_any<O: ByteSink, E: MessageSink>(
         &mut self,
