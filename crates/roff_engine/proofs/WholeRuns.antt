@@ -24,7 +24,7 @@ use Rattle.run_model.specs.Run.Counts.{counts_in, first_passed}
 use Rattle.run_turns.specs.declared.running.Running.{Running as Coded}
 use Rattle.run_items.specs.Outcome.{Seen, Outcome, Runs, seen}
 use Rattle.run_items.specs.Performing.{going}
-use Rattle.run_turns.specs.Running.Turning.{HasCome, IsFresh, state_at, AreLeft, ComesFurther, IsAt, falls_told, turns_with}
+use Rattle.run_turns.specs.Running.Turning.{HasCome, IsFresh, state_at, AreLeft, Comes, IsAt, falls_told, turns_with}
 use Rattle.roff_engine.specs.Starting.{Begins, HasRoom}
 use Rattle.run_items.proofs.Fronts.{few-nothing}
 use Rattle.page_bytes.proofs.Appending.{Appends-nothing}
@@ -120,25 +120,25 @@ ends_unread l given status gives now behind may ends = record {
 -- a run that has come so far
 module _ {given : Start} {first gave gives : Tape → Type 0} (noted notes : ℕ) (start now behind : Seen) (old new : Coded) (come : HasCome given first gave start now old) where
   -- has come further
-  pub come_further : (fewer : Bool) → ComesFurther fewer gave gives noted notes old new now behind (Ok tt) → HasCome given first gives start behind new
+  pub come_further : (fewer : Bool) → Comes fewer gave gives noted notes old new now behind (Ok tt) → HasCome given first gives start behind new
   come_further fewer further = record {
     taken = come.taken ++ further.taken;
     before = λ t may. subst first (sym (items_then-append come.taken further.taken t)) (come.before (items_then further.taken t) (further.before t may));
     at = λ t may.
         let tape : Tape = items_then further.taken t in
         subst (λ (whole : Tape). IsAt (record { start = given; tape = whole }) t start behind new) (sym (items_then-append come.taken further.taken t))
-        (further.comes (record { start = given; tape = items_then come.taken tape }) t start may (come.at tape (further.before t may)));
+        (further.comes (record { start = given; tape = items_then come.taken tape }) t start may (come.at tape (further.before t may)) tt);
   }
 
   -- with no more turns to come, or fewer
-  pub come_left : (fewer : Bool) → SomeTape gives → ComesFurther fewer gave gives noted notes old new now behind (Ok tt)
+  pub come_left : (fewer : Bool) → SomeTape gives → Comes fewer gave gives noted notes old new now behind (Ok tt)
       → AreLeft fewer (turns_with new notes) (turns_with old noted)
   come_left fewer may further =
       let tape : Tape = items_then further.taken may.tape in
-      further.turns (record { start = given; tape = items_then come.taken tape }) may.tape start may.given (come.at tape (further.before may.tape may.given))
+      further.turns (record { start = given; tape = items_then come.taken tape }) may.tape start may.given (come.at tape (further.before may.tape may.given)) tt
 
   -- or has ended
-  pub come_to_end : (fewer : Bool) (l : Limits) (status : Status) → old.limits ≡ l → SomeTape gives → ComesFurther fewer gave gives noted notes old new now behind (Err status)
+  pub come_to_end : (fewer : Bool) (l : Limits) (status : Status) → old.limits ≡ l → SomeTape gives → Comes fewer gave gives noted notes old new now behind (Err status)
       → Runs l given status first gives start behind
   come_to_end fewer l status limits may further = record {
     taken = come.taken ++ further.taken;
@@ -151,7 +151,7 @@ module _ {given : Start} {first gave gives : Tape → Type 0} (noted notes : ℕ
         let tape : Tape = items_then further.taken t in
         let whole : Tape = items_then come.taken tape in
         let own : Outcome new.limits given whole t status start behind =
-        further.comes (record { start = given; tape = whole }) t start may (come.at tape (further.before t may)) in
+        further.comes (record { start = given; tape = whole }) t start may (come.at tape (further.before t may)) tt in
         subst (λ (whole : Tape). Outcome l given whole t status start behind) (sym (items_then-append come.taken further.taken t))
         (subst (λ (k : Limits). Outcome k given whole t status start behind) (further.limits ∙ limits) own);
   }

@@ -1,11 +1,11 @@
 -- A text line begins whose bytes stand in front: they are told, and the run has come behind them.
-use Rattle.std.proofs.Common.{◌≡◌, ℕ, zero, suc, ◌+◌, ◌<◌, ◌≤◌, Bool, true, false, List, [], ◌∷◌, ◌++◌, length, take, None, Result, Ok, Err, OnOk, refl, sym, ap, subst, ◌∙◌, arith}
+use Rattle.std.proofs.Common.{◌≡◌, ℕ, zero, suc, ◌+◌, ◌<◌, ◌≤◌, Bool, true, false, List, [], ◌∷◌, length, take, None, refl, sym, ap, subst, ◌∙◌, arith}
 use Rattle.std.specs.Prelude.{◌||◌, ◌==◌, nat_lt, not}
 use Rattle.std.specs.List.{AllByRecursion}
 use Rattle.roff_num.specs.declared.limits.Limits.{Limits}
 use Rattle.page_model.specs.Telling.{QuietlyTold}
 use Rattle.input_source.specs.Bytes.{apostrophe, backslash, dot, is_text_byte}
-use Rattle.input_source.specs.Tape.{Tape, items_then}
+use Rattle.input_source.specs.Tape.{Tape}
 use Rattle.roff_scan.specs.Unread.Calls.{NoNewline, PassesFront, front_bytes}
 use Rattle.roff_scan.proofs.RunKinds.{no_newline_of}
 use Rattle.read_shortcuts.proofs.RunsRead.{first_of_front}
@@ -16,7 +16,7 @@ use Rattle.run_state.specs.declared.composer.Composer.{Composer as ComposerOf}
 use Rattle.run_model.specs.Environments.{PageHistory, interrupted_line, text_of}
 use Rattle.run_model.specs.Reading.Items.{PageInput, PageUnread}
 use Rattle.run_model.specs.Registers.{AllRegisters}
-use Rattle.run_model.specs.Run.{Leads, step}
+use Rattle.run_model.specs.Run.{Leads}
 use Rattle.run_model.specs.Run.Counts.{counts_in, first_passed}
 use Rattle.run_model.specs.Telling.{Prints, byte_told, page_told}
 use Rattle.run_model.specs.TurnsToCome.{begun, turns_within}
@@ -32,14 +32,12 @@ use Rattle.run_events.proofs.Telling.{all_by}
 use Rattle.run_events.specs.Formatter.Telling.{TellsFront}
 use Rattle.run_events.specs.declared.formatter.Formatter.{Formatter}
 use Rattle.run_turns.specs.declared.running.Running.{Running as Coded}
-use Rattle.run_items.specs.Outcome.{Beginning, Seen, seen}
-use Rattle.run_model.specs.declared.status.Status.{Status}
+use Rattle.run_items.specs.Outcome.{seen}
 use Rattle.run_turns.specs.Running.Beginning.{BeginWithText, begins_text}
-use Rattle.run_turns.specs.Running.Turning.{GoesPastIf, IsAt, StandsForSome, TurnsBy, line_turns, lines_left_in, turns_of_run, turns_with}
+use Rattle.run_turns.specs.Running.Turning.{line_turns, lines_left_in, turns_of_run, GoesPast}
 use Rattle.page_bytes.specs.Sinks.{Sunk}
 use Rattle.run_turns.proofs.Telling.{LeadsOver, goes_past_front, told_by}
 use Rattle.run_turns.proofs.TurnsLeft.{lines_left-stands, turns_of_run-fewer, turns_of_run-no_more}
-use Rattle.run_items.proofs.Sighted.{items_then-append}
 use Rattle.read_shortcuts.proofs.LinesBegun.{IsFirst, first_by, not_below, no_blank, behind_glyph, leads-first, begun_by, turns-begun}
 
 is_first : (b : ℕ) → begins_text b ≡ true → IsFirst b
@@ -130,15 +128,15 @@ module _ (old : Coded) (f : Formatter) (front : List ℕ) (count : ℕ) (told : 
       → (gave gives : Tape → Type 0) (ready : List ℕ) (noted notes failed failures : ℕ) (out err : Sunk) (u : PageUnread)
       → front ≡ front_bytes (length front) ready old.unread → PassesFront gave gives (front_bytes count ready old.unread) old.unread u
       → notes ≤ noted → failures ≡ failed
-      → GoesPastIf (StandsForSome old) gave gives noted notes old (record old { interpreter = record old.interpreter { formatter = f; reader = r }; unread = u })
+      → GoesPast false gave gives noted notes old (record old { interpreter = record old.interpreter { formatter = f; reader = r }; unread = u })
       (seen failed out err) (seen failures out err)
   goes_past_begun r is gave gives ready noted notes failed failures out err u stood passed fewer same =
       subst
-      (λ (r : ReaderState). GoesPastIf (StandsForSome old) gave gives noted notes old (record old { interpreter = record old.interpreter { formatter = f; reader = r }; unread = u })
+      (λ (r : ReaderState). GoesPast false gave gives noted notes old (record old { interpreter = record old.interpreter { formatter = f; reader = r }; unread = u })
       (seen failed out err) (seen failures out err))
       is
-      (goes_past_front (StandsForSome old) old f (begun_by (take count front)) front count told none_half over_begun
-      (λ from input front_is is within some. turns-told old f begins (take count front) from input front_is is within some.0 some.1 (told.stands old.limits some.0 some.1))
+      (goes_past_front old f (begun_by (take count front)) front count told none_half over_begun
+      (λ from input front_is is within h stood. turns-told old f begins (take count front) from input front_is is within h stood (told.stands old.limits h stood))
       gave gives ready noted notes failed failures out err u stood passed fewer same)
 
   -- none of them is a newline
@@ -150,27 +148,3 @@ pub begun-some : (front : List ℕ) (count : ℕ) → BeginWithText front → 0 
 begun-some [] count first some = absurd first
 begun-some (b ∷ bytes) zero first some = absurd (omega (arith, some))
 begun-some (b ∷ bytes) (suc count) first some = refl
-
--- a run that went past bytes where it stood for a history, and then took a turn, took that turn
-pub turns_behind : (gave mid gives : Tape → Type 0) (noted kept notes : ℕ) (old between new : Coded) (now halfway behind : Seen) (r : Result (Unit {0}) Status)
-    → GoesPastIf (StandsForSome old) gave mid noted kept old between now halfway
-    → TurnsBy (step between.limits) mid gives kept notes between new halfway behind r → TurnsBy (step old.limits) gave gives noted notes old new now behind r
-turns_behind gave mid gives noted kept notes old between new now halfway behind r first second = record {
-  limits = second.limits ∙ first.limits;
-  taken = first.taken ++ second.taken;
-  before = λ t given. subst gave (sym (items_then-append first.taken second.taken t)) (first.before (items_then second.taken t) (second.before t given));
-  turns = λ t tape start given at does. second.turns t tape start given (at_between t tape start given at) refl;
-  falls = λ t tape start given at does.
-      less r (turns_with new notes) (turns_with between kept) (turns_with old noted) (second.falls t tape start given (at_between t tape start given at) refl)
-      (first.turns (at.history, at.stands));
-}
-  where
-    at_between : (t : Beginning) (tape : Tape) (start : Seen) → gives tape → IsAt t (items_then (first.taken ++ second.taken) tape) start now old
-        → IsAt t (items_then second.taken tape) start halfway between
-    at_between t tape start given at =
-        first.past t (items_then second.taken tape) start (second.before tape given)
-        (subst (λ (whole : Tape). IsAt t whole start now old) (items_then-append first.taken second.taken tape) at)
-
-    less : (r : Result (Unit {0}) Status) (a b c : ℕ) → OnOk r (a < b) → b ≤ c → OnOk r (a < c)
-    less (Ok done) a b c below within = omega (arith, below, within)
-    less (Err status) a b c below within = tt

@@ -30,13 +30,13 @@ use Rattle.read_shortcuts.specs.KeptResults.{kept_input}
 use Rattle.run_turns.specs.declared.running.Running.{Running as Coded}
 use Rattle.run_items.specs.Outcome.{Seen, seen}
 use Rattle.run_turns.specs.Running.EndsAtOnce.{EndsAtOnce}
-use Rattle.run_turns.specs.Running.Turning.{GoesFurther, GoesPast}
+use Rattle.run_turns.specs.Running.Turning.{GoesPast}
 use Rattle.run_turns.proofs.EndsAtOnce.{decides-reading, ends-expression, goes_further_decided, goes_past_expression, waits-reading}
 use Rattle.run_turns.proofs.OtherBranches.{goes_further_other}
 use Rattle.run_turns.proofs.PassingEnds.{goes_past_seen}
-use Rattle.run_turns.proofs.PassingOn.{goes_further_both}
-use Rattle.run_turns.proofs.PutRegisters.{goes_further_put, goes_further_then}
+use Rattle.run_turns.proofs.PutRegisters.{goes_further_put}
 use Rattle.run_turns.proofs.Turned.{goes_past_turned}
+use Rattle.run_turns.proofs.ComingFurther.{comes_both, comes_further}
 
 -- what is unread with nothing half read, and with a result that is kept, if it is to be
 kept-as : (keeps so : Bool) (i : PageInput) → with_result_if keeps so (record i { escapes = [] }) ≡ kept_input keeps so (record i { escapes = [] })
@@ -62,7 +62,7 @@ module _ (keeps so : Bool) (texts : List ℕ) (gives : Tape → Type 0) (notes :
   ends : EndsAtOnce old decided
   ends = record { ended = ended; ahead = refl; within = within; is = refl }
 
-  pub goes_further_deciding : GoesFurther true gives gives notes notes old decided now now
+  pub goes_further_deciding : GoesPast true gives gives notes notes old decided now now
   goes_further_deciding =
       goes_further_decided old decided true (ap (λ (r : LineState). due r) deciding)
       (λ did. decides-reading keeps old deciding (ap (λ (opened : List OpenEscape). decides (waiting_of AboveCopy opened)) half)) (λ did. ends) (λ not. absurd (cc)) gives notes now
@@ -110,17 +110,17 @@ module _ (keeps : Bool) (gives : Tape → Type 0) (notes failures : ℕ) (out er
       sym (ap (λ (half : List OpenEscape). reading (reading_ended base half) u) d.half
       ∙ ap (λ (r : Result (Num × ℕ) NumFault). reading (expression_valued [] false None d.text r) u) d.is_number)
 
-  past-expression : GoesPast gives gives notes notes old there now now
+  past-expression : GoesPast false gives gives notes notes old there now now
   past-expression =
       goes_past_expression old there true blank (ap (λ (r : LineState). due r) d.deciding) (waits-reading keeps old d.deciding (ap (waiting_of AboveCopy) d.half)) d.sees
       (ap (λ (half : List OpenEscape). is_ended_by half (Some blank)) d.half)
       (λ did. ends-expression keeps old deciding d.deciding expression-ends within-deciding) (λ not. absurd (cc)) gives notes now
 
-  pub goes_further_behind : GoesFurther true gives gives notes notes old (record old { unread = after; interpreter = record old.interpreter { reader = new } }) now now
+  pub goes_further_behind : GoesPast true gives gives notes notes old (record old { unread = after; interpreter = record old.interpreter { reader = new } }) now now
   goes_further_behind =
       let new_run : Coded = record old { unread = after; interpreter = record old.interpreter { reader = new } } in
-      goes_further_then true gives gives gives notes notes notes old behind new_run now now now
-      (goes_further_both true gives gives gives notes notes notes old there behind now now now past-expression
+      comes_both true
+      (comes_both false past-expression
       (goes_further_deciding keeps so d.text gives notes now there d.deciding refl d.within))
       (goes_past_turned gives gives notes notes failures failures out err behind after new d.behind (omega arith) refl)
 
@@ -131,19 +131,19 @@ on_condition keeps old u = record old { unread = u; interpreter = record old.int
 -- so the run goes past one that asks nothing
 goes_further_constant : (gave gives : Tape → Type 0) (noted notes failed failures : ℕ) (out err : Sunk) (old : Coded) (after : PageUnread) (new : ReaderState)
     → DecidesConstant gave gives old.interpreter.reader new old.unread after → notes ≤ noted → failures ≡ failed
-    → GoesFurther true gave gives noted notes old (record old { unread = after; interpreter = record old.interpreter { reader = new } }) (seen failed out err) (seen failures out err)
+    → GoesPast true gave gives noted notes old (record old { unread = after; interpreter = record old.interpreter { reader = new } }) (seen failed out err) (seen failures out err)
 goes_further_constant gave gives noted notes failed failures out err old after new d fewer same =
     let r : ReaderState = deciding_reader d.keeps old.interpreter.reader in
     let between : Coded = on_condition d.keeps old d.between in
     let new_run : Coded = record old { unread = after; interpreter = record old.interpreter { reader = new } } in
-    goes_further_both true gave gives gives noted notes notes old between new_run (seen failed out err) (seen failures out err) (seen failures out err)
+    comes_both false
     (goes_past_turned gave gives noted notes failed failures out err old d.between r d.past fewer same)
     (goes_further_behind d.keeps gives notes failures out err between new after d.decides d.past.within)
 
 -- and past one that asks for a register
 goes_further_asking : (gave gives : Tape → Type 0) (noted notes failed failures : ℕ) (out err : Sunk) (old : Coded) (after : PageUnread) (new : ReaderState)
     → DecidesRegister old.interpreter.formatter.composer gave gives old.interpreter.reader new old.unread after → notes ≤ noted → failures ≡ failed
-    → GoesFurther true gave gives noted notes old (record old { unread = after; interpreter = record old.interpreter { reader = new } }) (seen failed out err) (seen failures out err)
+    → GoesPast true gave gives noted notes old (record old { unread = after; interpreter = record old.interpreter { reader = new } }) (seen failed out err) (seen failures out err)
 goes_further_asking gave gives noted notes failed failures out err old after new d fewer same =
     let r : ReaderState = deciding_reader d.keeps old.interpreter.reader in
     let new_run : Coded = record old { unread = after; interpreter = record old.interpreter { reader = new } } in
@@ -154,22 +154,22 @@ goes_further_asking gave gives noted notes failed failures out err old after new
     let over : Coded = on_condition d.keeps old d.over in
     let between : Coded = on_condition d.keeps old d.between in
     let p : PassesWaiting d.keeps d.ended d.over = d.passes in
-    goes_further_both true gave gives gives noted notes notes old asked new_run (seen failed out err) behind behind
+    comes_both false
     (goes_past_turned gave gives noted notes failed failures out err old d.asked r d.past fewer same)
-    (goes_further_both true gives gives gives notes notes notes asked put new_run behind behind behind
-    (goes_further_put OfRegister gives gives asked d.put d.puts notes notes failures failures out err (omega arith) refl).past
-    (goes_further_both true gives gives gives notes notes notes put ended new_run behind behind behind
+    (comes_both false
+    (comes_further (goes_further_put OfRegister gives gives asked d.put d.puts notes notes failures failures out err (omega arith) refl))
+    (comes_both false
     (goes_past_turned gives gives notes notes failures failures out err put d.ended r d.text (omega arith) refl)
-    (goes_further_both true gives gives gives notes notes notes ended over new_run behind behind behind
+    (comes_both false
     (goes_past_seen ended over true p.byte refl p.waits p.sees p.stays (λ so. p.passes) p.within (λ not. absurd (cc)) refl gives notes behind)
-    (goes_further_both true gives gives gives notes notes notes over between new_run behind behind behind
+    (comes_both false
     (goes_past_turned gives gives notes notes failures failures out err over d.between r d.rest (omega arith) refl)
     (goes_further_behind d.keeps gives notes failures out err between new after d.decides d.rest.within)))))
 
 -- and past one that compares an argument with a text
 goes_further_comparing : (gave gives : Tape → Type 0) (noted notes failed failures : ℕ) (out err : Sunk) (old : Coded) (after : PageUnread) (new : ReaderState)
     → DecidesTexts old.interpreter.formatter.composer gave gives old.interpreter.reader new old.unread after → notes ≤ noted → failures ≡ failed
-    → GoesFurther true gave gives noted notes old (record old { unread = after; interpreter = record old.interpreter { reader = new } }) (seen failed out err) (seen failures out err)
+    → GoesPast true gave gives noted notes old (record old { unread = after; interpreter = record old.interpreter { reader = new } }) (seen failed out err) (seen failures out err)
 goes_further_comparing gave gives noted notes failed failures out err old after new d fewer same =
     let r : ReaderState = deciding_reader d.keeps old.interpreter.reader in
     let behind : Seen = seen failures out err in
@@ -181,25 +181,25 @@ goes_further_comparing gave gives noted notes failed failures out err old after 
     let within : IsWithin (kept_half d.keeps d.so d.between) = subst IsWithin d.is d.within in
     let last : Coded = decided d.keeps d.so d.texts gives notes behind between refl d.half within in
     let p : PassesWaiting d.keeps d.ended d.over = d.passes in
-    subst (λ (u : PageUnread). GoesFurther true gave gives noted notes old (record old { unread = u; interpreter = record old.interpreter { reader = new } }) (seen failed out err) behind) (sym d.is)
-    (subst (λ (n : ReaderState). GoesFurther true gave gives noted notes old (record old { unread = kept_half d.keeps d.so d.between; interpreter = record old.interpreter { reader = n } }) (seen failed out err) behind)
+    subst (λ (u : PageUnread). GoesPast true gave gives noted notes old (record old { unread = u; interpreter = record old.interpreter { reader = new } }) (seen failed out err) behind) (sym d.is)
+    (subst (λ (n : ReaderState). GoesPast true gave gives noted notes old (record old { unread = kept_half d.keeps d.so d.between; interpreter = record old.interpreter { reader = n } }) (seen failed out err) behind)
     (sym d.reads)
-    (goes_further_both true gave gives gives noted notes notes old asked last (seen failed out err) behind behind
+    (comes_both false
     (goes_past_turned gave gives noted notes failed failures out err old d.asked r d.past fewer same)
-    (goes_further_both true gives gives gives notes notes notes asked put last behind behind behind
-    (goes_further_put OfArgument gives gives asked d.put d.puts notes notes failures failures out err (omega arith) refl).past
-    (goes_further_both true gives gives gives notes notes notes put ended last behind behind behind
+    (comes_both false
+    (comes_further (goes_further_put OfArgument gives gives asked d.put d.puts notes notes failures failures out err (omega arith) refl))
+    (comes_both false
     (goes_past_turned gives gives notes notes failures failures out err put d.ended r d.text (omega arith) refl)
-    (goes_further_both true gives gives gives notes notes notes ended over last behind behind behind
+    (comes_both false
     (goes_past_seen ended over true p.byte refl p.waits p.sees p.stays (λ so. p.passes) p.within (λ not. absurd (cc)) refl gives notes behind)
-    (goes_further_both true gives gives gives notes notes notes over between last behind behind behind
+    (comes_both false
     (goes_past_turned gives gives notes notes failures failures out err over d.between r d.rest (omega arith) refl)
     (goes_further_deciding d.keeps d.so d.texts gives notes behind between refl d.half within)))))))
 
 -- past any
 pub goes_further_at_once : (gave gives : Tape → Type 0) (noted notes failed failures : ℕ) (out err : Sunk) (old : Coded) (after : PageUnread) (new : ReaderState)
     → DecidesAtOnce old.interpreter.formatter.composer gave gives old.interpreter.reader new old.unread after → notes ≤ noted → failures ≡ failed
-    → GoesFurther true gave gives noted notes old (record old { unread = after; interpreter = record old.interpreter { reader = new } }) (seen failed out err) (seen failures out err)
+    → GoesPast true gave gives noted notes old (record old { unread = after; interpreter = record old.interpreter { reader = new } }) (seen failed out err) (seen failures out err)
 goes_further_at_once gave gives noted notes failed failures out err old after new (ByConstant d) fewer same =
     goes_further_constant gave gives noted notes failed failures out err old after new d fewer same
 goes_further_at_once gave gives noted notes failed failures out err old after new (ByRegister d) fewer same =

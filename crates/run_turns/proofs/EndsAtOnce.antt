@@ -38,13 +38,13 @@ use Rattle.run_turns.specs.declared.running.Running.{Running as Coded}
 use Rattle.run_items.specs.Outcome.{Beginning, Seen}
 use Rattle.run_turns.specs.Running.EndsAtOnce.{EndsAtOnce}
 use Rattle.run_items.specs.Room.{FewFor}
-use Rattle.run_turns.specs.Running.Turning.{GoesFurther, GoesPast, IsAt, state_at, turns_left}
+use Rattle.run_turns.specs.Running.Turning.{GoesPast, IsAt, state_at, turns_left}
 use Rattle.run_items.proofs.EndsUnseen.{few-unseen}
 use Rattle.run_items.proofs.Fronts.{few-seen_ended}
 use Rattle.run_turns.proofs.Passing.{IsAt-leads}
-use Rattle.run_turns.proofs.PassingOn.{goes_further_none, goes_past_none}
 use Rattle.run_turns.proofs.TurnsLeft.{turns_of_run-fewer}
 use Rattle.run_items.proofs.HalfEnded.{FewBehind, decided-at_once, expression-at_once, unread-read, ahead-read, waits-deciding, decides-deciding}
+use Rattle.run_turns.proofs.ComingFurther.{comes_further, comes_none}
 
 module _ (old new : Coded) (none_due : due old.interpreter.reader.reading ≡ None) (ends : EndsAtOnce old new) (some : 1 ≤ length old.unread.input.escapes)
     (reads_on : (tape : Tape) (h : PageHistory) (messages : List ℕ)
@@ -93,24 +93,21 @@ module _ (old new : Coded) (none_due : due old.interpreter.reader.reading ≡ No
       (turns_within-escape_ended bytes k old.interpreter.reader.reading old.unread.input some) in
       subst (λ (run : Coded). turns_left run < turns_left old) (sym ends.is) (omega (arith, less))
 
-  goes_further_at_once : (gave : Tape → Type 0) (notes : ℕ) (now : Seen) → GoesFurther true gave gave notes notes old new now now
+  goes_further_at_once : (gave : Tape → Type 0) (notes : ℕ) (now : Seen) → GoesPast true gave gave notes notes old new now now
   goes_further_at_once gave notes now =
       let behind = turns_of_run-fewer old new fewer-ended (ap (λ (run : Coded). run.phase) ends.is) in
       record {
-        past = record {
-          limits = ap (λ (run : Coded). run.limits) ends.is;
-          taken = [];
-          before = λ t given. given;
-          past = λ t tape start given at. IsAt-ended t tape start now at;
-          turns = omega (arith, behind);
-        };
-        fewer = λ begins. omega (arith, behind);
+        limits = ap (λ (run : Coded). run.limits) ends.is;
+        taken = [];
+        before = λ t given. given;
+        comes = λ t tape start given at any. IsAt-ended t tape start now at;
+        turns = λ t tape start given at any. omega (arith, behind);
       }
 
 -- a condition that is read decides
 pub goes_further_decided : (old new : Coded) (is_decided : Bool) → due old.interpreter.reader.reading ≡ None
     → (is_decided ≡ true → waiting_in old.interpreter.reader.reading old.unread.input ≡ Decides) → (is_decided ≡ true → EndsAtOnce old new) → (is_decided ≡ false → new ≡ old)
-    → (gave : Tape → Type 0) (notes : ℕ) (now : Seen) → GoesFurther is_decided gave gave notes notes old new now now
+    → (gave : Tape → Type 0) (notes : ℕ) (now : Seen) → GoesPast is_decided gave gave notes notes old new now now
 goes_further_decided old new true none_due decided ends kept gave notes now =
     let is : waiting_in old.interpreter.reader.reading old.unread.input ≡ Decides = decided refl in
     let stays : is_ended_by old.unread.input.escapes None ≡ true =
@@ -119,24 +116,23 @@ goes_further_decided old new true none_due decided ends kept gave notes now =
     (λ tape h messages. ap (λ (w : Waiting). read_waiting old.limits w (state_at tape old h messages)) is)
     (λ k few. few-unseen k old.interpreter.reader.reading old.unread.input stays few) gave notes now
 goes_further_decided old new false none_due decided ends kept gave notes now =
-    subst (λ (run : Coded). GoesFurther false gave gave notes notes old run now now) (sym (kept refl))
-    (goes_further_none gave gave notes notes old old now now (goes_past_none gave notes old now))
+    subst (λ (run : Coded). GoesPast false gave gave notes notes old run now now) (sym (kept refl)) (comes_none gave notes old now)
 
 -- an expression ends before a byte that is seen ahead
 pub goes_past_expression : (old new : Coded) (is_ended : Bool) (b : ℕ) → due old.interpreter.reader.reading ≡ None → waiting_in old.interpreter.reader.reading old.unread.input ≡ Waits
     → seen_ahead old.unread.input.ahead ≡ Some (SeesByte b) → is_ended_by old.unread.input.escapes (Some b) ≡ true
     → (is_ended ≡ true → EndsAtOnce old new) → (is_ended ≡ false → new ≡ old)
-    → (gave : Tape → Type 0) (notes : ℕ) (now : Seen) → GoesPast gave gave notes notes old new now now
+    → (gave : Tape → Type 0) (notes : ℕ) (now : Seen) → GoesPast false gave gave notes notes old new now now
 goes_past_expression old new true b none_due waits sees stays ends kept gave notes now =
-    (goes_further_at_once old new none_due (ends refl) (length-is_ended_by old.unread.input.escapes (Some b) stays)
+    comes_further (goes_further_at_once old new none_due (ends refl) (length-is_ended_by old.unread.input.escapes (Some b) stays)
     (λ tape h messages.
     let s : State = state_at tape old h messages in
     ap (λ (w : Waiting). read_waiting old.limits w s) waits
     ∙ ap (λ (o : Option Sighted). awaited old.limits o s) sees
     ∙ ap (λ (c : Bool). if c then made old.limits s (escape_ends s) else in_front_taken old.limits s.input.ahead s) stays)
-    (λ k few. few-seen_ended k old.interpreter.reader.reading old.unread.input (few-seen 5 b old.unread.input.ahead few.few sees)) gave notes now).past
+    (λ k few. few-seen_ended k old.interpreter.reader.reading old.unread.input (few-seen 5 b old.unread.input.ahead few.few sees)) gave notes now)
 goes_past_expression old new false b none_due waits sees stays ends kept gave notes now =
-    subst (λ (run : Coded). GoesPast gave gave notes notes old run now now) (sym (kept refl)) (goes_past_none gave notes old now)
+    subst (λ (run : Coded). GoesPast false gave gave notes notes old run now now) (sym (kept refl)) (comes_none gave notes old now)
 
 -- so the expression ended at once
 pub ends-expression : (keeps : Bool) (old : Coded) (after : PageUnread) → old.interpreter.reader.reading ≡ Deciding keeps

@@ -34,13 +34,13 @@ use Rattle.run_items.specs.Outcome.{seen}
 use Rattle.run_items.specs.Performing.{going}
 use Rattle.page_bytes.specs.Sinks.{Sunk}
 use Rattle.read_shortcuts.specs.Glyphs.{glyph_behind, glyph_in_front, is_behind_glyph}
-use Rattle.run_turns.specs.Running.Turning.{GoesPast, GoesPastIf, IsAt, StandsForSome, line_turns, lines_left_in, turns_of_run}
+use Rattle.run_turns.specs.Running.Turning.{GoesPast, IsAt, line_turns, lines_left_in, turns_of_run}
 use Rattle.run_turns.specs.declared.running.Running.{Running as Coded}
 use Rattle.read_shortcuts.proofs.LinesBegun.{turns-begun}
-use Rattle.run_turns.proofs.BytesPassed.{ComesBehind, goes_past_if-passed}
+use Rattle.run_turns.proofs.BytesPassed.{ComesBehind, goes_past-passed}
 use Rattle.read_shortcuts.proofs.LettersRead.{AsWideAsADigit, Doubled, IsLetter, PrintsBackslash, Unpaddable, WithoutWidth, ReadsLetters, behind_glyph, is_letter, leads-letter, reads_behind, reads_first}
 use Rattle.run_items.proofs.FewRead.{few-alone}
-use Rattle.run_turns.proofs.Passing.{IsAt-leads, goes_past_if-fewer}
+use Rattle.run_turns.proofs.Passing.{IsAt-leads}
 use Rattle.run_turns.proofs.Telling.{told_by}
 use Rattle.run_turns.proofs.TurnsLeft.{turns_of_run-fewer, turns_of_run-no_more}
 
@@ -122,11 +122,11 @@ goes_on_behind TitleFront is = absurd (cc)
 goes_on_behind (InTitle delimiter) is = absurd (cc)
 
 -- the escape of a glyph that the formatter printed, where letters are read so, and nothing is half read; no more turns are to come behind it
-module _ (P : Type 0) (old : Coded) (f : Formatter) (g : Glyph) (b : ℕ) (other brace : Bool) (letter : IsLetter b g) (told : TellsGlyph g old.interpreter.formatter f)
+module _ (old : Coded) (f : Formatter) (g : Glyph) (b : ℕ) (other brace : Bool) (letter : IsLetter b g) (told : TellsGlyph g old.interpreter.formatter f)
     (none_half : old.unread.input.escapes ≡ []) (Ready : PageHistory → Type 0)
     (reads : ReadsLetters old.interpreter.reader.registers.all old.interpreter.reader.reading other brace Ready)
     (ready : (l : Limits) (h : PageHistory) → StandFor l h old.interpreter.formatter.composer → Ready h)
-    (no_more : (from : Origin) → old.unread.input.ahead ≡ ahead_at from (backslash ∷ b ∷ []) → old.unread.input.charge + 2 ≤ old.unread.limits.bytes → P
+    (no_more : (from : Origin) → old.unread.input.ahead ≡ ahead_at from (backslash ∷ b ∷ []) → old.unread.input.charge + 2 ≤ old.unread.limits.bytes
     → turns_of_run (told_by old f (InText (behind_glyph other brace)) (record old.unread { input = counted from (backslash ∷ b ∷ []) old.unread.input })) ≤ turns_of_run old) where
   abbrev bytes : List ℕ
   bytes = backslash ∷ b ∷ []
@@ -180,14 +180,12 @@ module _ (P : Type 0) (old : Coded) (f : Formatter) (g : Glyph) (b : ℕ) (other
   pub goes_past_letter : (gave gives : Tape → Type 0) (ready_bytes front : List ℕ) (noted notes failed failures : ℕ) (out err : Sunk) (u : PageUnread)
       → take 2 front ≡ bytes → 2 ≤ length front → front ≡ front_bytes (length front) ready_bytes old.unread → PassesFront gave gives (front_bytes 2 ready_bytes old.unread) old.unread u
       → notes ≤ noted → failures ≡ failed
-      → GoesPastIf P gave gives noted notes old (behind u) (seen failed out err) (seen failures out err)
+      → GoesPast false gave gives noted notes old (behind u) (seen failed out err) (seen failures out err)
   goes_past_letter gave gives ready_bytes front noted notes failed failures out err u is few stood passed fewer same_failures =
       let passes : PassesFront gave gives bytes old.unread u =
       subst (λ (these : List ℕ). PassesFront gave gives these old.unread u) (sym (first_of_front front 2 ready_bytes old.unread stood few) ∙ is) passed in
-      goes_past_if-fewer P gave gives noted noted notes old (behind u) (seen failed out err) (seen failures out err) fewer
-      (subst (λ (n : ℕ). GoesPastIf P gave gives noted noted old (behind u) (seen failed out err) (seen n out err)) (sym same_failures)
-      (goes_past_if-passed P gave gives noted (seen failed out err) bytes old (behind u) u refl (comes-glyph u)
-      (λ from ahead charged is so. subst (λ (v : PageUnread). turns_of_run (behind v) ≤ turns_of_run old) (sym is) (no_more from ahead charged so)) passes))
+      goes_past-passed false gave gives noted notes failed failures out err bytes old (behind u) u refl (comes-glyph u)
+      (λ from ahead charged is h stood. subst (λ (v : PageUnread). turns_of_run (behind v) ≤ turns_of_run old) (sym is) (no_more from ahead charged)) passes fewer same_failures
 
 -- behind a glyph of a line
 module _ (old : Coded) (f : Formatter) (g : Glyph) (b : ℕ) (other brace : Bool) (letter : IsLetter b g) (told : TellsGlyph g old.interpreter.formatter f)
@@ -206,13 +204,12 @@ module _ (old : Coded) (f : Formatter) (g : Glyph) (b : ℕ) (other brace : Bool
   pub goes_past_glyph : (gave gives : Tape → Type 0) (ready front : List ℕ) (noted notes failed failures : ℕ) (out err : Sunk) (u : PageUnread)
       → take 2 front ≡ backslash ∷ b ∷ [] → 2 ≤ length front → front ≡ front_bytes (length front) ready old.unread → PassesFront gave gives (front_bytes 2 ready old.unread) old.unread u
       → notes ≤ noted → failures ≡ failed
-      → GoesPast gave gives noted notes old (record old { interpreter = record old.interpreter { formatter = f }; unread = u }) (seen failed out err) (seen failures out err)
+      → GoesPast false gave gives noted notes old (record old { interpreter = record old.interpreter { formatter = f }; unread = u }) (seen failed out err) (seen failures out err)
   goes_past_glyph gave gives ready front noted notes failed failures out err u is few stood passed fewer same_failures =
-      let past = goes_past_letter (Unit {0}) old f g b other brace letter told none_half (λ h. Unit {0})
-      (reads_behind old.interpreter.reader.registers.all old.interpreter.reader.reading other brace reads) (λ l h stood. tt) (λ from ahead charged so. turns-glyph from ahead)
+      let past = goes_past_letter old f g b other brace letter told none_half (λ h. Unit {0})
+      (reads_behind old.interpreter.reader.registers.all old.interpreter.reader.reading other brace reads) (λ l h stood. tt) (λ from ahead charged. turns-glyph from ahead)
       gave gives ready front noted notes failed failures out err u is few stood passed fewer same_failures in
-      subst (λ (r : LineState). GoesPast gave gives noted notes old (told_by old f r u) (seen failed out err) (seen failures out err)) (sym reads)
-      (record { limits = past.limits; taken = past.taken; before = past.before; past = past.past; turns = past.turns tt })
+      subst (λ (r : LineState). GoesPast false gave gives noted notes old (told_by old f r u) (seen failed out err) (seen failures out err)) (sym reads) past
 
 -- where a line begins
 module _ (old : Coded) (f : Formatter) (g : Glyph) (b : ℕ) (letter : IsLetter b g) (told : TellsGlyph g old.interpreter.formatter f)
@@ -233,13 +230,13 @@ module _ (old : Coded) (f : Formatter) (g : Glyph) (b : ℕ) (letter : IsLetter 
       → (gave gives : Tape → Type 0) (ready front : List ℕ) (noted notes failed failures : ℕ) (out err : Sunk) (u : PageUnread)
       → take 2 front ≡ backslash ∷ b ∷ [] → 2 ≤ length front → front ≡ front_bytes (length front) ready old.unread → PassesFront gave gives (front_bytes 2 ready old.unread) old.unread u
       → notes ≤ noted → failures ≡ failed
-      → GoesPastIf (StandsForSome old) gave gives noted notes old (record old { interpreter = record old.interpreter { formatter = f; reader = r }; unread = u })
+      → GoesPast false gave gives noted notes old (record old { interpreter = record old.interpreter { formatter = f; reader = r }; unread = u })
       (seen failed out err) (seen failures out err)
   goes_past_begun_glyph r is gave gives ready front noted notes failed failures out err u two few stood passed fewer same_failures =
       subst
-      (λ (r : ReaderState). GoesPastIf (StandsForSome old) gave gives noted notes old (record old { interpreter = record old.interpreter { formatter = f; reader = r }; unread = u })
+      (λ (r : ReaderState). GoesPast false gave gives noted notes old (record old { interpreter = record old.interpreter { formatter = f; reader = r }; unread = u })
       (seen failed out err) (seen failures out err))
       is
-      (goes_past_letter (StandsForSome old) old f g b false false letter told none_half (λ h. interrupted_line h ≡ None)
-      (reads_first old.interpreter.reader.registers.all old.interpreter.reader.reading begins) none (λ from ahead charged so. turns-begun_glyph from ahead charged)
+      (goes_past_letter old f g b false false letter told none_half (λ h. interrupted_line h ≡ None)
+      (reads_first old.interpreter.reader.registers.all old.interpreter.reader.reading begins) none turns-begun_glyph
       gave gives ready front noted notes failed failures out err u two few stood passed fewer same_failures)

@@ -29,10 +29,10 @@ use Rattle.read_shortcuts.proofs.OtherBranches.{changes-other, leads-changed, na
 use Rattle.read_shortcuts.proofs.RegistersPut.{leaves}
 use Rattle.run_turns.specs.declared.running.Running.{Running as Coded}
 use Rattle.run_items.specs.Outcome.{Beginning, Seen, seen}
-use Rattle.run_turns.specs.Running.Turning.{GoesFurther, IsAt, state_at}
+use Rattle.run_turns.specs.Running.Turning.{IsAt, state_at, GoesPast}
 use Rattle.page_bytes.specs.Sinks.{Sunk}
 use Rattle.run_items.proofs.Fronts.{few-none}
-use Rattle.run_turns.proofs.BytesPassed.{ComesBehind, goes_further-passed}
+use Rattle.run_turns.proofs.BytesPassed.{ComesBehind, goes_past-passed}
 use Rattle.run_items.proofs.FewRead.{none-read}
 use Rattle.run_turns.proofs.Passing.{IsAt-leads}
 use Rattle.run_turns.proofs.SteppedRegisters.{run_with}
@@ -125,10 +125,10 @@ module _ (gave gives : Tape → Type 0) (old : Coded) (after : PageUnread) (new 
 
   -- and fewer turns are to come
   pub goes_further_other : (noted notes failed failures : ℕ) (out err : Sunk) → notes ≤ noted → failures ≡ failed
-      → GoesFurther true gave gives noted notes old (run_with old new after) (seen failed out err) (seen failures out err)
+      → GoesPast true gave gives noted notes old (run_with old new after) (seen failed out err) (seen failures out err)
   goes_further_other noted notes failed failures out err few same =
       let behind : new.reading ≡ branch_of (reads_else (last_result takes.passed.input)) = ap (λ (r : ReaderState). r.reading) takes.reads in
       let none = ap begun behind ∙ none_begun (reads_else (last_result takes.passed.input)) in
       let less = fewer-taken in
-      goes_further-passed gave gives noted notes failed failures out err bytes old (run_with old new after) takes.passed refl comes-other
-      (turns_of_run-fewer old (run_with old new after) (omega (arith, less, none)) refl) takes.passes few same
+      goes_past-passed true gave gives noted notes failed failures out err bytes old (run_with old new after) takes.passed refl comes-other
+      (λ from ahead charged is h stood. turns_of_run-fewer old (run_with old new after) (omega (arith, less, none)) refl) takes.passes few same

@@ -1,5 +1,5 @@
 -- Runs that go past bytes: the run of the definition leads on, and the code is at its place behind them.
-use Rattle.std.proofs.Common.{◌≡◌, ℕ, ◌≤◌, List, [], sym, subst, arith}
+use Rattle.std.proofs.Common.{◌≡◌, ℕ, List, [], sym, subst}
 use Rattle.std.specs.Io.KnownBytes.{Appends}
 use Rattle.input_source.specs.Tape.{Tape}
 use Rattle.run_state.specs.Composer.Standing.{StandFor}
@@ -11,7 +11,7 @@ use Rattle.run_model.specs.Run.{Leads, initial}
 use Rattle.run_items.specs.declared.interpreter.Interpreter.{Interpreter}
 use Rattle.run_turns.specs.declared.running.Running.{Running as Coded}
 use Rattle.run_items.specs.Outcome.{Beginning, Seen}
-use Rattle.run_turns.specs.Running.Turning.{GoesPast, GoesPastIf, IsAt, state_at}
+use Rattle.run_turns.specs.Running.Turning.{IsAt, state_at}
 use Rattle.run_model.proofs.Leads.{Leads-trans}
 
 -- the code is at its place where the run of the definition leads on, and nothing is written or reported
@@ -34,25 +34,4 @@ IsAt-leads whole before behind start now old f u h at leads nothing stands ready
   ready = ready;
   limits = limits;
   few = few;
-}
-
--- past bytes, where fewer notes may come
-pub goes_past_fewer : (gave gives : Tape → Type 0) (noted kept notes : ℕ) (old new : Coded) (now behind : Seen) → notes ≤ kept
-    → GoesPast gave gives noted kept old new now behind → GoesPast gave gives noted notes old new now behind
-goes_past_fewer gave gives noted kept notes old new now behind less past = record {
-  limits = past.limits;
-  taken = past.taken;
-  before = past.before;
-  past = past.past;
-  turns = let turns = past.turns in omega (arith, turns, less);
-}
-
-pub goes_past_if-fewer : (P : Type 0) (gave gives : Tape → Type 0) (noted kept notes : ℕ) (old new : Coded) (now behind : Seen) → notes ≤ kept
-    → GoesPastIf P gave gives noted kept old new now behind → GoesPastIf P gave gives noted notes old new now behind
-goes_past_if-fewer P gave gives noted kept notes old new now behind less past = record {
-  limits = past.limits;
-  taken = past.taken;
-  before = past.before;
-  past = past.past;
-  turns = λ so. (let turns = past.turns so in omega (arith, turns, less));
 }

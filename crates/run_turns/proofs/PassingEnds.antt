@@ -34,14 +34,14 @@ use Rattle.run_items.specs.declared.interpreter.Interpreter.{Interpreter}
 use Rattle.run_turns.specs.declared.running.Running.{Running as Coded}
 use Rattle.run_items.specs.Outcome.{Beginning, Seen}
 use Rattle.run_items.specs.Room.{FewFor}
-use Rattle.run_turns.specs.Running.Turning.{GoesFurther, GoesPast, IsAt, state_at, turns_left}
+use Rattle.run_turns.specs.Running.Turning.{GoesPast, IsAt, state_at, turns_left}
 use Rattle.run_turns.proofs.Passing.{IsAt-leads}
 use Rattle.input_model.specs.Input.Few.{AreFew}
 use Rattle.run_items.proofs.Fronts.{few-sees, few-undecided}
 use Rattle.run_items.proofs.Sighted.{takes-next}
 use Rattle.run_turns.proofs.TurnsLeft.{turns_of_run-fewer}
-use Rattle.run_turns.proofs.PassingOn.{goes_further_none, goes_past_none}
 use Rattle.run_items.proofs.EndsTaken.{IsEnd, end_of_text, end_of_call}
+use Rattle.run_turns.proofs.ComingFurther.{comes_further, comes_none}
 
 module _ (item : Ahead PageEvent) (reads_on : LineState → LineState) (ends : IsEnd item reads_on) (old : Coded) (after : PageUnread) (behind : List (Ahead PageEvent))
     (none_due : due old.interpreter.reader.reading ≡ None) (front : old.unread.input.ahead ≡ item ∷ behind)
@@ -95,16 +95,13 @@ module _ (item : Ahead PageEvent) (reads_on : LineState → LineState) (ends : I
       subst (λ (u : PageUnread). turns_to_come u < turns_to_come old.unread) (sym is) (ends.fewer old.unread.limits.bytes old.unread.input behind front allowed) in
       omega (arith, less, ends.begun_behind old.interpreter.reader.reading)
 
-  goes_further_end : (gave : Tape → Type 0) (notes : ℕ) (now : Seen) → GoesFurther true gave gave notes notes old (record old { interpreter = over; unread = after }) now now
+  goes_further_end : (gave : Tape → Type 0) (notes : ℕ) (now : Seen) → GoesPast true gave gave notes notes old (record old { interpreter = over; unread = after }) now now
   goes_further_end gave notes now = record {
-    past = record {
-      limits = refl;
-      taken = [];
-      before = λ t given. given;
-      past = λ t tape start given at. IsAt-end t tape start now at;
-      turns = (let behind = turns_of_run-fewer old (record old { interpreter = over; unread = after }) fewer-end refl in omega (arith, behind));
-    };
-    fewer = λ begins. (let behind = turns_of_run-fewer old (record old { interpreter = over; unread = after }) fewer-end refl in omega (arith, behind));
+    limits = refl;
+    taken = [];
+    before = λ t given. given;
+    comes = λ t tape start given at any. IsAt-end t tape start now at;
+    turns = λ t tape start given at any. (let behind = turns_of_run-fewer old (record old { interpreter = over; unread = after }) fewer-end refl in omega (arith, behind));
   }
 
 -- an end is taken where nothing is waited for
@@ -123,16 +120,15 @@ module _ (item : Ahead PageEvent) (reads_on : LineState → LineState) (ends : I
 pub goes_further_passed : (old new : Coded) (is_passed : Bool) → (is_passed ≡ true → due old.interpreter.reader.reading ≡ None)
     → (is_passed ≡ true → waiting_in old.interpreter.reader.reading old.unread.input ≡ TakesAny) → (is_passed ≡ true → PassesEnd old.unread new.unread)
     → (is_passed ≡ true → IsWithin new.unread) → (is_passed ≡ false → new ≡ old) → new ≡ record old { unread = new.unread }
-    → (gave : Tape → Type 0) (notes : ℕ) (now : Seen) → GoesFurther is_passed gave gave notes notes old new now now
+    → (gave : Tape → Type 0) (notes : ℕ) (now : Seen) → GoesPast is_passed gave gave notes notes old new now now
 goes_further_passed old new true none_due takes passed within kept others gave notes now =
     let p = passed refl in
-    subst (λ (run : Coded). GoesFurther true gave gave notes notes old run now now) (sym others)
+    subst (λ (run : Coded). GoesPast true gave gave notes notes old run now now) (sym others)
     (goes_further_end EndAhead (λ reading. reading) end_of_text old new.unread p.behind (none_due refl) p.in_front
     (takes_any EndAhead (λ reading. reading) end_of_text old p.behind p.in_front (takes refl)) (few_any EndAhead (λ reading. reading) end_of_text old p.behind p.in_front (takes refl))
     (omega (arith, p.within)) p.input (within refl) gave notes now)
 goes_further_passed old new false none_due takes passed within kept others gave notes now =
-    subst (λ (run : Coded). GoesFurther false gave gave notes notes old run now now) (sym (kept refl))
-    (goes_further_none gave gave notes notes old old now now (goes_past_none gave notes old now))
+    subst (λ (run : Coded). GoesPast false gave gave notes notes old run now now) (sym (kept refl)) (comes_none gave notes old now)
 
 -- the end of a text is taken where a byte is waited for, and one is seen behind it that stays for what is half read
 module _ (old : Coded) (behind : List (Ahead PageEvent)) (b : ℕ) (front : old.unread.input.ahead ≡ EndAhead ∷ behind)
@@ -156,16 +152,16 @@ module _ (old : Coded) (behind : List (Ahead PageEvent)) (b : ℕ) (front : old.
 pub goes_past_seen : (old new : Coded) (is_passed : Bool) (b : ℕ) → due old.interpreter.reader.reading ≡ None → waiting_in old.interpreter.reader.reading old.unread.input ≡ Waits
     → seen_ahead old.unread.input.ahead ≡ Some (SeesByte b) → is_ended_by old.unread.input.escapes (Some b) ≡ false → (is_passed ≡ true → PassesEnd old.unread new.unread)
     → IsWithin new.unread → (is_passed ≡ false → new.unread ≡ old.unread) → new ≡ record old { unread = new.unread }
-    → (gave : Tape → Type 0) (notes : ℕ) (now : Seen) → GoesPast gave gave notes notes old new now now
+    → (gave : Tape → Type 0) (notes : ℕ) (now : Seen) → GoesPast false gave gave notes notes old new now now
 goes_past_seen old new true b none_due waits sees stays passed within kept others gave notes now =
     let p = passed refl in
-    subst (λ (run : Coded). GoesPast gave gave notes notes old run now now) (sym others)
-    (goes_further_end EndAhead (λ reading. reading) end_of_text old new.unread p.behind none_due p.in_front
+    subst (λ (run : Coded). GoesPast false gave gave notes notes old run now now) (sym others)
+    (comes_further (goes_further_end EndAhead (λ reading. reading) end_of_text old new.unread p.behind none_due p.in_front
     (takes_seen old p.behind b p.in_front waits sees stays) (few_seen old p.behind b p.in_front waits sees stays)
-    (omega (arith, p.within)) p.input within gave notes now).past
+    (omega (arith, p.within)) p.input within gave notes now))
 goes_past_seen old new false b none_due waits sees stays passed within kept others gave notes now =
-    subst (λ (run : Coded). GoesPast gave gave notes notes old run now now) (sym (others ∙ ap (λ (u : PageUnread). record old { unread = u }) (kept refl)))
-    (goes_past_none gave notes old now)
+    subst (λ (run : Coded). GoesPast false gave gave notes notes old run now now) (sym (others ∙ ap (λ (u : PageUnread). record old { unread = u }) (kept refl)))
+    (comes_none gave notes old now)
 
 -- past the end of a call, or past nothing
 pub goes_further_returned : (old new : Coded) (is_passed : Bool) → due old.interpreter.reader.reading ≡ None → ((place : Place) → line_waits old.interpreter.reader.reading place ≡ TakesAny)
@@ -176,16 +172,15 @@ pub goes_further_returned : (old new : Coded) (is_passed : Bool) → due old.int
       interpreter = record old.interpreter { reader = record old.interpreter.reader { reading = behind_return 0 old.interpreter.reader.reading } };
       unread = new.unread;
     })
-    → (is_passed ≡ false → new ≡ old) → (gave : Tape → Type 0) (notes : ℕ) (now : Seen) → GoesFurther is_passed gave gave notes notes old new now now
+    → (is_passed ≡ false → new ≡ old) → (gave : Tape → Type 0) (notes : ℕ) (now : Seen) → GoesPast is_passed gave gave notes notes old new now now
 goes_further_returned old new true none_due takes none passed within is kept gave notes now =
     let p = passed refl in
     let any : waiting_in old.interpreter.reader.reading old.unread.input ≡ TakesAny =
     ap (λ (half : List OpenEscape). waiting_above old.interpreter.reader.reading old.unread.input.arguments.place half) none ∙ takes old.unread.input.arguments.place in
-    subst (λ (run : Coded). GoesFurther true gave gave notes notes old run now now) (sym (is refl))
+    subst (λ (run : Coded). GoesPast true gave gave notes notes old run now now) (sym (is refl))
     (goes_further_end (ReturnAhead 0) (λ reading. behind_return 0 reading) end_of_call old new.unread p.behind none_due p.in_front
     (takes_any (ReturnAhead 0) (λ reading. behind_return 0 reading) end_of_call old p.behind p.in_front any)
     (few_any (ReturnAhead 0) (λ reading. behind_return 0 reading) end_of_call old p.behind p.in_front any)
     (omega (arith, p.within)) p.input (within refl) gave notes now)
 goes_further_returned old new false none_due takes none passed within is kept gave notes now =
-    subst (λ (run : Coded). GoesFurther false gave gave notes notes old run now now) (sym (kept refl))
-    (goes_further_none gave gave notes notes old old now now (goes_past_none gave notes old now))
+    subst (λ (run : Coded). GoesPast false gave gave notes notes old run now now) (sym (kept refl)) (comes_none gave notes old now)

@@ -36,17 +36,17 @@ use Rattle.roff_scan.specs.declared.run_kind.RunKind.TheVariants.{Text as TextRu
 use Rattle.read_shortcuts.proofs.PuttingRuns.{input_put, leads-put}
 use Rattle.run_turns.specs.declared.running.Running.{Running as Coded}
 use Rattle.run_items.specs.Outcome.{Seen, seen}
-use Rattle.run_turns.specs.Running.Turning.{GoesFurther, GoesPast, IsAt, state_at}
+use Rattle.run_turns.specs.Running.Turning.{GoesPast, IsAt, state_at}
 use Rattle.page_bytes.specs.Sinks.{Sunk}
 use Rattle.run_items.proofs.Fronts.{few-none}
-use Rattle.run_turns.proofs.BytesPassed.{ComesBehind, goes_further-passed}
+use Rattle.run_turns.proofs.BytesPassed.{ComesBehind, goes_past-passed}
 use Rattle.run_items.proofs.FewRead.{few-behind_escape}
 use Rattle.run_turns.proofs.Passing.{IsAt-leads}
 use Rattle.run_turns.proofs.PassingEnds.{goes_further_passed}
-use Rattle.run_turns.proofs.PassingOn.{goes_further_none, goes_past_both, goes_past_kept}
 use Rattle.run_turns.proofs.Telling.{goes_past_told}
 use Rattle.run_turns.proofs.Turned.{goes_past_turned}
 use Rattle.run_turns.proofs.TurnsLeft.{turns_of_run-fewer}
+use Rattle.run_turns.proofs.ComingFurther.{comes_both, comes_nowhere}
 
 module _ (purpose : Asked) (gave gives : Tape → Type 0) (old : Coded) (after : PageUnread)
     (puts : PutsText purpose gave gives old.interpreter.reader old.interpreter.formatter.composer old.unread after) where
@@ -89,26 +89,10 @@ module _ (purpose : Asked) (gave gives : Tape → Type 0) (old : Coded) (after :
 
   -- the run goes past it, and fewer turns are to come
   pub goes_further_put : (noted notes failed failures : ℕ) (out err : Sunk) → notes ≤ noted → failures ≡ failed
-      → GoesFurther true gave gives noted notes old new (seen failed out err) (seen failures out err)
+      → GoesPast true gave gives noted notes old new (seen failed out err) (seen failures out err)
   goes_further_put noted notes failed failures out err few same =
-      goes_further-passed gave gives noted notes failed failures out err puts.bytes old new puts.passed refl IsAt-put (turns_of_run-fewer old new (omega (arith, puts.fewer)) refl) puts.passes few same
-
--- a run that goes further, and then past other bytes
-pub goes_further_then : (begins : Bool) (gave mid gives : Tape → Type 0) (noted kept notes : ℕ) (old between new : Coded) (now halfway behind : Seen)
-    → GoesFurther begins gave mid noted kept old between now halfway → GoesPast mid gives kept notes between new halfway behind
-    → GoesFurther begins gave gives noted notes old new now behind
-goes_further_then begins gave mid gives noted kept notes old between new now halfway behind first second = record {
-  past = goes_past_both gave mid gives noted kept notes old between new now halfway behind first.past second;
-  fewer = λ is. let less = first.fewer is in omega (arith, second.turns, less);
-}
-
--- the same, where it went further, by what is answered of the others
-pub goes_further_on : (taken begins : Bool) (gave mid gives : Tape → Type 0) (noted kept notes : ℕ) (old between new : Coded) (now halfway behind : Seen) → taken ≡ true
-    → GoesFurther taken gave mid noted kept old between now halfway → GoesPast mid gives kept notes between new halfway behind
-    → GoesFurther begins gave gives noted notes old new now behind
-goes_further_on taken begins gave mid gives noted kept notes old between new now halfway behind is first second =
-    let both = goes_further_then taken gave mid gives noted kept notes old between new now halfway behind first second in
-    record { past = both.past; fewer = λ so. both.fewer is }
+      goes_past-passed true gave gives noted notes failed failures out err puts.bytes old new puts.passed refl IsAt-put
+      (λ from ahead charged is h stood. turns_of_run-fewer old new (omega (arith, puts.fewer)) refl) puts.passes few same
 
 -- where as much is read as before, and as much half read, bytes in front are of a run as before
 pub run-kept : (kind : RunKind) (old new : Coded) → new.interpreter.reader.reading ≡ old.interpreter.reader.reading → new.unread.input.escapes ≡ old.unread.input.escapes
@@ -121,19 +105,18 @@ run-kept kind old new reading half run =
 pub goes_further_held : (gave gives : Tape → Type 0) (noted notes failed failures : ℕ) (out err : Sunk) (old : Coded) (after : PageUnread)
     → HoldsText gave gives old.interpreter.reader old.interpreter.formatter.composer old.unread after
     → due old.interpreter.reader.reading ≡ None → notes ≤ noted → failures ≡ failed
-    → GoesFurther true gave gives noted notes old (record old { unread = after }) (seen failed out err) (seen failures out err)
+    → GoesPast true gave gives noted notes old (record old { unread = after }) (seen failed out err) (seen failures out err)
 goes_further_held gave gives noted notes failed failures out err old after holds none_due few same =
     let put : Coded = record old { unread = holds.put } in
     let read : Coded = record old { unread = holds.read } in
     let new : Coded = record old { unread = after } in
-    let now : Seen = seen failed out err in
     let behind : Seen = seen failures out err in
-    goes_further_then true gave gives gives noted notes notes old read new now behind behind
-    (goes_further_then true gave gives gives noted notes notes old put read now behind behind
+    comes_both true
+    (comes_both true
     (goes_further_put holds.asked gave gives old holds.put holds.puts noted notes failed failures out err few same)
     (goes_past_turned gives gives notes notes failures failures out err put holds.read old.interpreter.reader holds.past (omega arith) refl))
     (goes_further_passed read new holds.is_ended (λ so. none_due) holds.takes holds.ends (λ so. holds.within)
-    (λ so. ap (λ (u : PageUnread). record old { unread = u }) (holds.stays so)) refl gives notes behind).past
+    (λ so. ap (λ (u : PageUnread). record old { unread = u }) (holds.stays so)) refl gives notes behind)
 
 -- past an escape whose text was told
 pub goes_further_told : (asked : Asked) (gave gives : Tape → Type 0) (noted notes failed failures : ℕ) (out err : Sunk) (old : Coded) (f : Formatter) (passed after : PageUnread)
@@ -143,61 +126,44 @@ pub goes_further_told : (asked : Asked) (gave gives : Tape → Type 0) (noted no
     → PutsText asked gave gives old.interpreter.reader old.interpreter.formatter.composer old.unread (with_text text passed)
     → (is_ended ≡ true → is_behind_quote passed.input.arguments.place ≡ false)
     → ReadsText text count told.few passed passed.input.arguments room is_ended after → notes ≤ noted → failures ≡ failed
-    → GoesFurther true gave gives noted notes old (record old { unread = after; interpreter = record old.interpreter { formatter = f } }) (seen failed out err) (seen failures out err)
+    → GoesPast true gave gives noted notes old (record old { unread = after; interpreter = record old.interpreter { formatter = f } }) (seen failed out err) (seen failures out err)
 goes_further_told asked gave gives noted notes failed failures out err old f passed after text count room is_ended told run names puts none_waited reads few same =
     let a : Arguments = passed.input.arguments in
     let there : PageUnread = with_text text passed in
     let between : PageUnread = read text count told.few passed a room in
     let put : Coded = record old { unread = there } in
     let reader : Interpreter = record old.interpreter { formatter = f } in
-    let now : Seen = seen failed out err in
     let behind : Seen = seen failures out err in
     let none_half : there.input.escapes ≡ [] = puts.half ∙ run.half_read in
     let bytes : next_bytes there.input.ahead there.looked [] ≡ text = next_bytes-put text passed.input.ahead there.looked [] in
     let passes : PassesFront gives gives (front_bytes count [] there) there between =
     subst (λ (xs : List ℕ). PassesFront gives gives (take count xs) there between) (sym bytes) (passes-read text count told.few passed a room gives) in
     let stood : text ≡ front_bytes (length text) [] there = sym (ap (take (length text)) bytes ∙ take-length text) in
-    goes_further_then true gave gives gives noted notes notes old (record old { unread = between; interpreter = reader }) (record old { unread = after; interpreter = reader }) now behind behind
-    (goes_further_then true gave gives gives noted notes notes old put (record old { unread = between; interpreter = reader }) now behind behind
+    comes_both true
+    (comes_both true
     (goes_further_put asked gave gives old there puts noted notes failed failures out err few same)
     (goes_past_told put f text count told none_half run.none_due run.does gives gives [] notes notes failures failures out err between stood passes (omega arith) refl))
     (goes_further_passed (record old { unread = between; interpreter = reader }) (record old { unread = after; interpreter = reader }) is_ended (λ so. run.none_due)
     (λ so. ap (λ (half : List OpenEscape). waiting_above old.interpreter.reader.reading a.place half) none_half ∙ names.takes a.place (none_waited so))
     (passes-end text count told.few passed a room puts.within is_ended after reads) (λ so. reads.within)
-    (λ so. ap (λ (u : PageUnread). record old { unread = u; interpreter = reader }) (reads.rests so)) refl gives notes behind).past
+    (λ so. ap (λ (u : PageUnread). record old { unread = u; interpreter = reader }) (reads.rests so)) refl gives notes behind)
 
--- past an escape that was taken and its text held, or past nothing
-pub goes_further_register : (gave gives : Tape → Type 0) (noted notes failed failures : ℕ) (out err : Sunk) (old new : Coded) (is_taken : Bool)
-    → new ≡ record old { unread = new.unread } → due old.interpreter.reader.reading ≡ None
-    → (is_taken ≡ true → HoldsText gave gives old.interpreter.reader old.interpreter.formatter.composer old.unread new.unread)
-    → (is_taken ≡ false → (new.unread ≡ old.unread) × (gives ≡ gave) × (notes ≡ noted)) → notes ≤ noted → failures ≡ failed
-    → GoesFurther is_taken gave gives noted notes old new (seen failed out err) (seen failures out err)
-goes_further_register gave gives noted notes failed failures out err old new true is none_due holds kept few same =
-    subst (λ (run : Coded). GoesFurther true gave gives noted notes old run (seen failed out err) (seen failures out err)) (sym is)
-    (goes_further_held gave gives noted notes failed failures out err old new.unread (holds refl) none_due few same)
-goes_further_register gave gives noted notes failed failures out err old new false is none_due holds kept few same =
+-- past an escape that was taken, or past nothing
+pub goes_past_or_stays : (gave gives : Tape → Type 0) (noted notes failed failures : ℕ) (out err : Sunk) (old new : Coded) (is_taken : Bool) → new ≡ record old { unread = new.unread }
+    → (is_taken ≡ true → GoesPast true gave gives noted notes old (record old { unread = new.unread }) (seen failed out err) (seen failures out err))
+    → (is_taken ≡ false → (new.unread ≡ old.unread) × (gives ≡ gave) × (notes ≡ noted)) → failures ≡ failed
+    → GoesPast is_taken gave gives noted notes old new (seen failed out err) (seen failures out err)
+goes_past_or_stays gave gives noted notes failed failures out err old new true is goes kept same =
+    subst (λ (run : Coded). GoesPast true gave gives noted notes old run (seen failed out err) (seen failures out err)) (sym is) (goes refl)
+goes_past_or_stays gave gives noted notes failed failures out err old new false is goes kept same =
     let none = kept refl in
-    goes_further_none gave gives noted notes old new (seen failed out err) (seen failures out err)
-    (goes_past_kept gave gives noted notes failed failures out err old new none.1 none.2 same (is ∙ ap (λ (u : PageUnread). record old { unread = u }) none.0))
+    comes_nowhere gave gives noted notes failed failures out err old new none.1 none.2 same (is ∙ ap (λ (u : PageUnread). record old { unread = u }) none.0)
 
 -- what is half read stays
 pub half_register : (gave gives : Tape → Type 0) (r : ReaderState) (es : ComposerOf) (before after : PageUnread) (is_taken : Bool)
     → (is_taken ≡ true → HoldsText gave gives r es before after) → (is_taken ≡ false → after ≡ before) → after.input.escapes ≡ before.input.escapes
 half_register gave gives r es before after true holds kept = (holds refl).half
 half_register gave gives r es before after false holds kept = ap (λ (u : PageUnread). u.input.escapes) (kept refl)
-
--- past the escape of a string, which was put in front, or past nothing
-pub goes_further_string : (gave gives : Tape → Type 0) (noted notes failed failures : ℕ) (out err : Sunk) (old new : Coded) (is_put : Bool) → new ≡ record old { unread = new.unread }
-    → (is_put ≡ true → PutsText OfString gave gives old.interpreter.reader old.interpreter.formatter.composer old.unread new.unread)
-    → (is_put ≡ false → (new.unread ≡ old.unread) × (gives ≡ gave) × (notes ≡ noted)) → notes ≤ noted → failures ≡ failed
-    → GoesFurther is_put gave gives noted notes old new (seen failed out err) (seen failures out err)
-goes_further_string gave gives noted notes failed failures out err old new true is puts kept few same =
-    subst (λ (run : Coded). GoesFurther true gave gives noted notes old run (seen failed out err) (seen failures out err)) (sym is)
-    (goes_further_put OfString gave gives old new.unread (puts refl) noted notes failed failures out err few same)
-goes_further_string gave gives noted notes failed failures out err old new false is puts kept few same =
-    let none = kept refl in
-    goes_further_none gave gives noted notes old new (seen failed out err) (seen failures out err)
-    (goes_past_kept gave gives noted notes failed failures out err old new none.1 none.2 same (is ∙ ap (λ (u : PageUnread). record old { unread = u }) none.0))
 
 pub half_string : (gave gives : Tape → Type 0) (r : ReaderState) (es : ComposerOf) (before after : PageUnread) (is_put : Bool)
     → (is_put ≡ true → PutsText OfString gave gives r es before after) → (is_put ≡ false → after ≡ before) → after.input.escapes ≡ before.input.escapes

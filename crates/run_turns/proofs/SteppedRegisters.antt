@@ -36,16 +36,15 @@ use Rattle.input_escapes.specs.OpenEscape.{OpenEscape}
 use Rattle.run_model.specs.Reading.Waiting.{waiting_above}
 use Rattle.roff_scan.specs.declared.run_kind.RunKind.TheVariants.{Text as TextRun}
 use Rattle.run_turns.specs.declared.running.Running.{Running as Coded}
-use Rattle.run_turns.specs.Running.Turning.{GoesFurther, GoesPast, IsAt, state_at}
+use Rattle.run_turns.specs.Running.Turning.{GoesPast, IsAt, state_at}
 use Rattle.page_bytes.specs.Sinks.{Sunk}
-use Rattle.run_turns.proofs.BytesPassed.{ComesBehind, goes_further-passed}
+use Rattle.run_turns.proofs.BytesPassed.{ComesBehind, goes_past-passed}
 use Rattle.run_items.proofs.FewRead.{few-behind_escape}
 use Rattle.run_turns.proofs.Passing.{IsAt-leads}
 use Rattle.run_turns.proofs.PassingEnds.{goes_further_passed}
-use Rattle.run_turns.proofs.PassingOn.{goes_past_both}
-use Rattle.run_turns.proofs.PutRegisters.{goes_further_then}
 use Rattle.run_turns.proofs.Telling.{goes_past_told}
 use Rattle.run_turns.proofs.TurnsLeft.{turns_of_run-fewer}
+use Rattle.run_turns.proofs.ComingFurther.{comes_both, comes_further}
 
 -- a run with this reader and this unread
 abbrev pub run_with : Coded → ReaderState → PageUnread → Coded
@@ -102,11 +101,11 @@ module _ (gave gives : Tape → Type 0) (old : Coded) (reader : ReaderState) (af
 
   -- the run goes past it, and fewer turns are to come
   goes_further_stepped : (noted notes failed failures : ℕ) (out err : Sunk) → notes ≤ noted → failures ≡ failed
-      → GoesFurther true gave gives noted notes old (run_with old reader after) (seen failed out err) (seen failures out err)
+      → GoesPast true gave gives noted notes old (run_with old reader after) (seen failed out err) (seen failures out err)
   goes_further_stepped noted notes failed failures out err few same =
-      subst (λ (r : ReaderState). GoesFurther true gave gives noted notes old (run_with old r after) (seen failed out err) (seen failures out err)) (sym is_reader)
-      (goes_further-passed gave gives noted notes failed failures out err steps.bytes old new steps.passed refl IsAt-stepped (turns_of_run-fewer old new (omega (arith, steps.fewer)) refl)
-      steps.passes few same)
+      subst (λ (r : ReaderState). GoesPast true gave gives noted notes old (run_with old r after) (seen failed out err) (seen failures out err)) (sym is_reader)
+      (goes_past-passed true gave gives noted notes failed failures out err steps.bytes old new steps.passed refl IsAt-stepped
+      (λ from ahead charged is h stood. turns_of_run-fewer old new (omega (arith, steps.fewer)) refl) steps.passes few same)
 
   -- as much is read as before
   pub same_reading : reader.reading ≡ old.interpreter.reader.reading
@@ -119,7 +118,7 @@ told_in_front : (gives : Tape → Type 0) (notes failures : ℕ) (out err : Sunk
     → IsRun TextRun base.interpreter.reader.reading passed.input.escapes → ReadsNames base.interpreter.reader.reading → IsWithin (with_text text passed)
     → (is_ended ≡ true → is_behind_quote passed.input.arguments.place ≡ false)
     → ReadsText text count told.few passed passed.input.arguments room is_ended after
-    → GoesPast gives gives notes notes (record base { unread = with_text text passed }) (record base { unread = after; interpreter = record base.interpreter { formatter = f } })
+    → GoesPast false gives gives notes notes (record base { unread = with_text text passed }) (record base { unread = after; interpreter = record base.interpreter { formatter = f } })
     (seen failures out err) (seen failures out err)
 told_in_front gives notes failures out err base f passed after text count room is_ended told run names within none_waited reads =
     let a : Arguments = passed.input.arguments in
@@ -133,12 +132,12 @@ told_in_front gives notes failures out err base f passed after text count room i
     let passes : PassesFront gives gives (front_bytes count [] there) there between =
     subst (λ (xs : List ℕ). PassesFront gives gives (take count xs) there between) (sym bytes) (passes-read text count told.few passed a room gives) in
     let stood : text ≡ front_bytes (length text) [] there = sym (ap (take (length text)) bytes ∙ take-length text) in
-    goes_past_both gives gives gives notes notes notes put (record base { unread = between; interpreter = teller }) (record base { unread = after; interpreter = teller }) behind behind behind
+    comes_both false
     (goes_past_told put f text count told none_half run.none_due run.does gives gives [] notes notes failures failures out err between stood passes (omega arith) refl)
-    (goes_further_passed (record base { unread = between; interpreter = teller }) (record base { unread = after; interpreter = teller }) is_ended (λ so. run.none_due)
+    (comes_further (goes_further_passed (record base { unread = between; interpreter = teller }) (record base { unread = after; interpreter = teller }) is_ended (λ so. run.none_due)
     (λ so. ap (λ (half : List OpenEscape). waiting_above base.interpreter.reader.reading a.place half) none_half ∙ names.takes a.place (none_waited so))
     (passes-end text count told.few passed a room within is_ended after reads) (λ so. reads.within)
-    (λ so. ap (λ (u : PageUnread). record base { unread = u; interpreter = teller }) (reads.rests so)) refl gives notes behind).past
+    (λ so. ap (λ (u : PageUnread). record base { unread = u; interpreter = teller }) (reads.rests so)) refl gives notes behind))
 
 -- past an escape whose register was stepped and its text told
 pub goes_further_stepped_told : (gave gives : Tape → Type 0) (noted notes failed failures : ℕ) (out err : Sunk) (old : Coded) (reader : ReaderState) (f : Formatter) (passed after : PageUnread)
@@ -148,7 +147,7 @@ pub goes_further_stepped_told : (gave gives : Tape → Type 0) (noted notes fail
     → StepsText gave gives old.interpreter.reader reader old.interpreter.formatter.composer old.unread (with_text text passed)
     → (is_ended ≡ true → is_behind_quote passed.input.arguments.place ≡ false)
     → ReadsText text count told.few passed passed.input.arguments room is_ended after → notes ≤ noted → failures ≡ failed
-    → GoesFurther true gave gives noted notes old (record old { unread = after; interpreter = record old.interpreter { reader = reader; formatter = f } }) (seen failed out err) (seen failures out err)
+    → GoesPast true gave gives noted notes old (record old { unread = after; interpreter = record old.interpreter { reader = reader; formatter = f } }) (seen failed out err) (seen failures out err)
 goes_further_stepped_told gave gives noted notes failed failures out err old reader f passed after text count room is_ended told run steps none_waited reads few same =
     let there : PageUnread = with_text text passed in
     let base : Coded = record old { interpreter = record old.interpreter { reader = reader } } in
@@ -157,7 +156,6 @@ goes_further_stepped_told gave gives noted notes failed failures out err old rea
     subst (λ (r : LineState). IsRun TextRun r passed.input.escapes) (sym is)
     (subst (λ (half : List OpenEscape). IsRun TextRun old.interpreter.reader.reading half) (sym steps.half) run) in
     let names : ReadsNames reader.reading = subst ReadsNames (sym (is ∙ steps.reads)) (reads_names-text steps.line) in
-    goes_further_then true gave gives gives noted notes notes old (run_with old reader there) (record base { unread = after; interpreter = record base.interpreter { formatter = f } })
-    (seen failed out err) (seen failures out err) (seen failures out err)
+    comes_both true
     (goes_further_stepped gave gives old reader there steps noted notes failed failures out err few same)
     (told_in_front gives notes failures out err base f passed after text count room is_ended told run_there names steps.within none_waited reads)

@@ -1,5 +1,5 @@
 -- Bytes of a text line that stand in front are told: the run has come behind them.
-use Rattle.std.proofs.Common.{◌≡◌, ℕ, ◌+◌, ◌≤◌, Bool, true, List, [], ◌∷◌, length, length-take, take, None, refl, sym, ap, subst, ◌∙◌, arith}
+use Rattle.std.proofs.Common.{false, ◌≡◌, ℕ, ◌+◌, ◌≤◌, Bool, true, List, [], ◌∷◌, length, length-take, take, None, refl, sym, ap, subst, ◌∙◌, arith}
 use Rattle.std.specs.List.{AllByRecursion}
 use Rattle.page_model.specs.Telling.{QuietlyTold}
 use Rattle.roff_num.specs.declared.limits.Limits.{Limits}
@@ -36,12 +36,12 @@ use Rattle.run_turns.specs.declared.running.Running.{Running as Coded}
 use Rattle.run_items.specs.Outcome.{Beginning, Seen, seen}
 use Rattle.run_items.specs.Performing.{going}
 use Rattle.run_events.specs.Formatter.Telling.{TellsFront}
-use Rattle.run_turns.specs.Running.Turning.{GoesPast, GoesPastIf, IsAt, line_turns, lines_left_in, state_at, turns_of_run}
+use Rattle.run_turns.specs.Running.Turning.{GoesPast, IsAt, line_turns, lines_left_in, state_at, turns_of_run}
 use Rattle.page_bytes.specs.Sinks.{Sunk}
 use Rattle.run_events.proofs.Telling.{all_by}
-use Rattle.run_turns.proofs.BytesPassed.{ComesBehind, goes_past_if-passed}
+use Rattle.run_turns.proofs.BytesPassed.{ComesBehind, goes_past-passed}
 use Rattle.run_items.proofs.FewRead.{few-alone}
-use Rattle.run_turns.proofs.Passing.{IsAt-leads, goes_past_if-fewer}
+use Rattle.run_turns.proofs.Passing.{IsAt-leads}
 use Rattle.run_items.specs.Room.{FewFor}
 use Rattle.run_turns.proofs.TurnsLeft.{turns_of_run-no_more}
 use Rattle.run_model.specs.Reading.Items.{Taking}
@@ -102,10 +102,11 @@ told_by old f there u =
     record old { interpreter = record old.interpreter { formatter = f; reader = record old.interpreter.reader { reading = there } }; unread = u }
 
 -- bytes that the formatter told where nothing is half read, by which no more turns are to come if this is so
-module _ (P : Type 0) (old : Coded) (f : Formatter) (there : LineState) (front : List ℕ) (count : ℕ) (told : TellsFront front count old.interpreter.formatter f)
+module _ (old : Coded) (f : Formatter) (there : LineState) (front : List ℕ) (count : ℕ) (told : TellsFront front count old.interpreter.formatter f)
     (none_half : old.unread.input.escapes ≡ []) (over : LeadsOver (take count front) old.interpreter.reader.reading there old.interpreter.formatter.composer)
     (no_more : (from : Origin) (input : PageInput) → old.unread.input.ahead ≡ ahead_at from (take count front) → input ≡ counted from (take count front) old.unread.input
-    → old.unread.input.charge + length (take count front) ≤ old.unread.limits.bytes → P
+    → old.unread.input.charge + length (take count front) ≤ old.unread.limits.bytes
+    → (h : PageHistory) → StandFor old.limits h old.interpreter.formatter.composer
     → turns_of_run (told_by old f there (record old.unread { input = input })) ≤ turns_of_run old) where
   -- the bytes, what is read, and the registers
   abbrev bytes : List ℕ
@@ -173,25 +174,17 @@ module _ (P : Type 0) (old : Coded) (f : Formatter) (there : LineState) (front :
       (subst (λ (j : PageInput). first_passed l (counts_in rs j) ≡ None) same led.1)
       (few-alone from bytes reading there i input none_half at.few front same))
 
-  -- the run goes past them, wherever they stood
-  past-told : (gave gives : Tape → Type 0) (notes : ℕ) (now : Seen) (u : PageUnread) → PassesFront gave gives bytes old.unread u
-      → GoesPastIf P gave gives notes notes old (told_by old f there u) now now
-  past-told gave gives notes now u passes =
-      goes_past_if-passed P gave gives notes now bytes old (told_by old f there u) u refl (comes-told u)
-      (λ from ahead charged passed so. subst (λ (v : PageUnread). turns_of_run (told_by old f there v) ≤ turns_of_run old) (sym passed)
-      (no_more from (counted from bytes old.unread.input) ahead refl charged so)) passes
-
-  -- the same, as the source counts, and told the bytes that stood in front
+  -- the run goes past those that stood in front
   pub goes_past_front : (gave gives : Tape → Type 0) (ready : List ℕ) (noted notes failed failures : ℕ) (out err : Sunk) (u : PageUnread)
       → front ≡ front_bytes (length front) ready old.unread → PassesFront gave gives (front_bytes count ready old.unread) old.unread u
       → notes ≤ noted → failures ≡ failed
-      → GoesPastIf P gave gives noted notes old (record old { interpreter = interpreter_behind; unread = u }) (seen failed out err) (seen failures out err)
+      → GoesPast false gave gives noted notes old (record old { interpreter = interpreter_behind; unread = u }) (seen failed out err) (seen failures out err)
   goes_past_front gave gives ready noted notes failed failures out err u stood passed fewer same_failures =
       let passes : PassesFront gave gives bytes old.unread u =
       subst (λ (passed : List ℕ). PassesFront gave gives passed old.unread u) (sym (first_of_front front count ready old.unread stood told.few)) passed in
-      goes_past_if-fewer P gave gives noted noted notes old (record old { interpreter = interpreter_behind; unread = u }) (seen failed out err) (seen failures out err) fewer
-      (subst (λ (n : ℕ). GoesPastIf P gave gives noted noted old (record old { interpreter = interpreter_behind; unread = u }) (seen failed out err) (seen n out err)) (sym same_failures)
-      (past-told gave gives noted (seen failed out err) u passes))
+      goes_past-passed false gave gives noted notes failed failures out err bytes old (told_by old f there u) u refl (comes-told u)
+      (λ from ahead charged passed h stood. subst (λ (v : PageUnread). turns_of_run (told_by old f there v) ≤ turns_of_run old) (sym passed)
+      (no_more from (counted from bytes old.unread.input) ahead refl charged h stood)) passes fewer same_failures
 
 -- bytes of plain text that print where this is read, and leave it so
 module _ (old : Coded) (f : Formatter) (front : List ℕ) (count : ℕ) (told : TellsFront front count old.interpreter.formatter f)
@@ -207,9 +200,10 @@ module _ (old : Coded) (f : Formatter) (front : List ℕ) (count : ℕ) (told : 
 
   -- no more turns are to come
   turns-told : (from : Origin) (input : PageInput) → old.unread.input.ahead ≡ ahead_at from (take count front) → input ≡ counted from (take count front) old.unread.input
-      → old.unread.input.charge + length (take count front) ≤ old.unread.limits.bytes → Unit {0}
+      → old.unread.input.charge + length (take count front) ≤ old.unread.limits.bytes
+      → (h : PageHistory) → StandFor old.limits h old.interpreter.formatter.composer
       → turns_of_run (told_by old f old.interpreter.reader.reading (record old.unread { input = input })) ≤ turns_of_run old
-  turns-told from input front_is is within so =
+  turns-told from input front_is is within h stood =
       let most : ℕ = old.unread.limits.bytes in
       let few : turns_within most input ≤ turns_within most old.unread.input =
       subst (λ (j : PageInput). turns_within most j ≤ turns_within most old.unread.input) (sym is) (turns-counted most from (take count front) old.unread.input front_is) in
@@ -220,8 +214,7 @@ module _ (old : Coded) (f : Formatter) (front : List ℕ) (count : ℕ) (told : 
   pub goes_past_told : (gave gives : Tape → Type 0) (ready : List ℕ) (noted notes failed failures : ℕ) (out err : Sunk) (u : PageUnread)
       → front ≡ front_bytes (length front) ready old.unread → PassesFront gave gives (front_bytes count ready old.unread) old.unread u
       → notes ≤ noted → failures ≡ failed
-      → GoesPast gave gives noted notes old (record old { interpreter = record old.interpreter { formatter = f }; unread = u }) (seen failed out err) (seen failures out err)
+      → GoesPast false gave gives noted notes old (record old { interpreter = record old.interpreter { formatter = f }; unread = u }) (seen failed out err) (seen failures out err)
   goes_past_told gave gives ready noted notes failed failures out err u stood passed fewer same_failures =
-      let past = goes_past_front (Unit {0}) old f old.interpreter.reader.reading front count told none_half over_printed turns-told
-      gave gives ready noted notes failed failures out err u stood passed fewer same_failures in
-      record { limits = past.limits; taken = past.taken; before = past.before; past = past.past; turns = past.turns tt }
+      goes_past_front old f old.interpreter.reader.reading front count told none_half over_printed turns-told
+      gave gives ready noted notes failed failures out err u stood passed fewer same_failures

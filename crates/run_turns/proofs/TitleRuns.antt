@@ -1,5 +1,5 @@
 -- Bytes of a title's part that stand in front are read together: the run has come behind them.
-use Rattle.std.proofs.Common.{◌≡◌, ℕ, ◌+◌, ◌≤◌, Bool, true, List, [], ◌∷◌, ◌++◌, length, Some, None, inl, inr, refl, sym, ap, subst, ◌∙◌, arith, append-nil}
+use Rattle.std.proofs.Common.{false, ◌≡◌, ℕ, ◌+◌, ◌≤◌, Bool, true, List, [], ◌∷◌, ◌++◌, length, Some, None, inl, inr, refl, sym, ap, subst, ◌∙◌, arith, append-nil}
 use Rattle.std.specs.Prelude.{map, Option}
 use Rattle.std.specs.List.{AllByRecursion}
 use Rattle.roff_num.specs.declared.limit.Limit.{Limit}
@@ -173,16 +173,16 @@ module _ (old : Coded) (delimiter : ℕ) (bytes : List ℕ) (in_title : old.inte
 
   -- the run goes past them, wherever they stood
   past-title : (gave gives : Tape → Type 0) (noted notes failed failures : ℕ) (out err : Sunk) (u : PageUnread) → PassesFront gave gives bytes old.unread u → notes ≤ noted → failures ≡ failed
-      → GoesPast gave gives noted notes old (record old { interpreter = interpreter_behind; unread = u }) (seen failed out err) (seen failures out err)
+      → GoesPast false gave gives noted notes old (record old { interpreter = interpreter_behind; unread = u }) (seen failed out err) (seen failures out err)
   past-title gave gives noted notes failed failures out err u passes fewer same =
-      goes_past-passed gave gives noted notes failed failures out err bytes old (record old { interpreter = interpreter_behind; unread = u }) u refl (comes-title u)
-      (λ from ahead charged passed so. subst (λ (v : PageUnread). turns_of_run (record old { interpreter = interpreter_behind; unread = v }) ≤ turns_of_run old) (sym passed)
+      goes_past-passed false gave gives noted notes failed failures out err bytes old (record old { interpreter = interpreter_behind; unread = u }) u refl (comes-title u)
+      (λ from ahead charged passed h stood. subst (λ (v : PageUnread). turns_of_run (record old { interpreter = interpreter_behind; unread = v }) ≤ turns_of_run old) (sym passed)
       (turns-title from (counted from bytes old.unread.input) ahead refl)) passes fewer same
 
 -- the run goes past what was read at once of a title, or past nothing, as the source counts
 pub goes_past_title : (gave gives : Tape → Type 0) (noted notes failed failures : ℕ) (out err : Sunk) (old : Coded) (reader : ReaderState) (u : PageUnread)
     → ReadsTitle gave gives old.interpreter.reader reader old.unread u → notes ≤ noted → failures ≡ failed
-    → GoesPast gave gives noted notes old (record old { interpreter = record old.interpreter { reader = reader }; unread = u }) (seen failed out err) (seen failures out err)
+    → GoesPast false gave gives noted notes old (record old { interpreter = record old.interpreter { reader = reader }; unread = u }) (seen failed out err) (seen failures out err)
 goes_past_title gave gives noted notes failed failures out err old reader u reads fewer same = elim reads.took [
   | inl read ↦
       let delimiter : ℕ = read.0 in
@@ -192,18 +192,18 @@ goes_past_title gave gives noted notes failed failures out err old reader u read
       subst (λ (r : ReaderState). title_length r.registers.all.title ≤ r.registers.line) title.added title.room in
       let room : title_length old.interpreter.reader.registers.all.title + length bytes ≤ old.interpreter.reader.registers.line =
       omega (arith, long, length-title bytes old.interpreter.reader.registers.all) in
-      subst (λ (r : ReaderState). GoesPast gave gives noted notes old (record old { interpreter = record old.interpreter { reader = r }; unread = u }) (seen failed out err) (seen failures out err))
+      subst (λ (r : ReaderState). GoesPast false gave gives noted notes old (record old { interpreter = record old.interpreter { reader = r }; unread = u }) (seen failed out err) (seen failures out err))
       (sym title.added)
       (past-title old delimiter bytes title.reading title.none_half title.plain room gave gives noted notes failed failures out err u title.passes fewer same)
   | inr none ↦
-      subst (λ (r : ReaderState). GoesPast gave gives noted notes old (record old { interpreter = record old.interpreter { reader = r }; unread = u }) (seen failed out err) (seen failures out err))
+      subst (λ (r : ReaderState). GoesPast false gave gives noted notes old (record old { interpreter = record old.interpreter { reader = r }; unread = u }) (seen failed out err) (seen failures out err))
       (sym none.reader)
-      (subst (λ (v : PageUnread). GoesPast gave gives noted notes old (record old { unread = v }) (seen failed out err) (seen failures out err)) (sym none.unread)
-      (subst (λ (n : ℕ). GoesPast gave gives noted notes old (record old { unread = old.unread }) (seen failed out err) (seen n out err)) (sym same) (record {
+      (subst (λ (v : PageUnread). GoesPast false gave gives noted notes old (record old { unread = v }) (seen failed out err) (seen failures out err)) (sym none.unread)
+      (subst (λ (n : ℕ). GoesPast false gave gives noted notes old (record old { unread = old.unread }) (seen failed out err) (seen n out err)) (sym same) (record {
         limits = refl;
         taken = [];
         before = none.stays.before;
-        past = λ t tape start may at. at;
-        turns = omega (arith, fewer);
+        comes = λ t tape start may at any. at;
+        turns = λ t tape start may at any. omega (arith, fewer);
       })))
 ]

@@ -1,5 +1,5 @@
 -- Bytes that were read at once and changed only what is read: the run has come behind them.
-use Rattle.std.proofs.Common.{◌≡◌, ℕ, ◌+◌, ◌≤◌, List, [], ◌∷◌, length, None, refl, sym, ap, subst, ◌∙◌, arith}
+use Rattle.std.proofs.Common.{◌≡◌, ℕ, ◌+◌, ◌≤◌, false, List, [], ◌∷◌, length, None, refl, sym, ap, subst, ◌∙◌, arith}
 use Rattle.roff_num.specs.declared.limits.Limits.{Limits}
 use Rattle.input_model.specs.Input.{Ahead}
 use Rattle.input_source.specs.Tape.{Tape}
@@ -163,18 +163,18 @@ module _ (gave gives : Tape → Type 0) (old : Coded) (after : PageUnread) (new 
 
   -- the run goes past them, as the source counts
   goes_past_read : (noted notes failed failures : ℕ) (out err : Sunk) → notes ≤ noted → failures ≡ failed
-      → GoesPast gave gives noted notes old (behind new after) (seen failed out err) (seen failures out err)
+      → GoesPast false gave gives noted notes old (behind new after) (seen failed out err) (seen failures out err)
   goes_past_read noted notes failed failures out err fewer same =
-      goes_past-passed gave gives noted notes failed failures out err past.bytes old (behind new after) passed refl
+      goes_past-passed false gave gives noted notes failed failures out err past.bytes old (behind new after) passed refl
       (λ whole t taken start now from is_open ahead charged is asked left at.
       as_read (λ run. IsAt whole t start now run) (counted from past.bytes i) is
       (IsAt-turned whole t taken start now old new.reading after.input from past.bytes is_open (reads-passed from ahead charged is) asked left at))
-      (λ from ahead charged is so.
+      (λ from ahead charged is h stood.
       as_read (λ run. turns_of_run run ≤ turns_of_run old) (counted from past.bytes i) is
       (turns-reads old new.reading after.input from past.bytes (reads-passed from ahead charged is))) past.passes fewer same
 
 pub goes_past_turned : (gave gives : Tape → Type 0) (noted notes failed failures : ℕ) (out err : Sunk) (old : Coded) (after : PageUnread) (new : ReaderState)
     → ReadsPast gave gives old.interpreter.reader new old.unread after → notes ≤ noted → failures ≡ failed
-    → GoesPast gave gives noted notes old (record old { unread = after; interpreter = record old.interpreter { reader = new } }) (seen failed out err) (seen failures out err)
+    → GoesPast false gave gives noted notes old (record old { unread = after; interpreter = record old.interpreter { reader = new } }) (seen failed out err) (seen failures out err)
 goes_past_turned gave gives noted notes failed failures out err old after new past fewer same =
     goes_past_read gave gives old after new past noted notes failed failures out err fewer same

@@ -88,8 +88,8 @@ module _ {gave gives : Tape → Type 0} {old : Coded} {left : PageUnread} {taken
     limits = limits;
     taken = taken;
     before = leaves.before;
-    turns = λ t tape start may at goes. (each t tape start may at goes).0;
-    falls = λ t tape start may at goes. (each t tape start may at goes).1;
+    comes = λ t tape start may at goes. (each t tape start may at goes).0;
+    turns = λ t tape start may at goes. (each t tape start may at goes).1;
   }
 
   -- what is done with the item leaves fewer turns

@@ -1,9 +1,9 @@
 -- A text line that stood in front up to its newline, and was told and ended at once.
-use Rattle.std.proofs.Common.{◌≡◌, ℕ, ◌+◌, ◌<◌, ◌≤◌, Bool, true, false, List, [], ◌∷◌, ◌++◌, length, take, slice_index_or, None, Option, Some, Result, Ok, Err, OnOk, refl, sym, ap, subst, ◌∙◌, arith}
+use Rattle.std.proofs.Common.{◌≡◌, ℕ, ◌+◌, ◌<◌, ◌≤◌, true, false, List, [], ◌∷◌, ◌++◌, length, take, slice_index_or, None, Option, Some, Result, refl, sym, ap, subst, ◌∙◌, arith}
 use Rattle.std.specs.Prelude.{IfSome}
 use Rattle.std.proofs.lemmas.List.{get_or-take, length-take, take_more}
 use Rattle.input_source.specs.Bytes.{is_text_byte, newline}
-use Rattle.input_source.specs.Tape.{Tape, items_then}
+use Rattle.input_source.specs.Tape.{Tape}
 use Rattle.roff_scan.specs.Unread.Calls.{IsFront, NoNewline, PassesFront, front_bytes, next_bytes}
 use Rattle.roff_scan.specs.Unread.Lines.{StandsNewline}
 use Rattle.roff_scan.proofs.RunKinds.{no_newline_of}
@@ -12,7 +12,7 @@ use Rattle.run_model.proofs.TextBytes.{prints_text}
 use Rattle.run_model.specs.Reading.{taking}
 use Rattle.run_model.specs.Reading.Ends.{due}
 use Rattle.run_model.specs.Reading.Items.{PageUnread}
-use Rattle.run_model.specs.Run.{State, byte_taken, step}
+use Rattle.run_model.specs.Run.{byte_taken}
 use Rattle.run_model.specs.Telling.{Prints}
 use Rattle.run_model.specs.declared.line_state.LineState.{LineState}
 use Rattle.run_model.specs.declared.line_state.LineState.TheVariants.{Text as InText}
@@ -30,16 +30,13 @@ use Rattle.run_items.specs.Unfilled.{EndsFront, told_as}
 use Rattle.run_items.proofs.LinesSplit.{between, line-between, mid, passes-bytes, takes-newline}
 use Rattle.page_bytes.specs.Sinks.{Sunk}
 use Rattle.run_turns.specs.declared.running.Running.{Running as Coded}
-use Rattle.run_turns.specs.Running.Turning.{AreLeft, ComesFurther, Continues, DoesItem, GoesPast, GoesPastIf, IsAt, StandsForSome, StepDoes, TurnsBy, turns_with}
+use Rattle.run_turns.specs.Running.Turning.{DoesItem, GoesPast, Comes}
 use Rattle.run_turns.specs.Running.Unfilled.{BehindGlyph, FromFirst, LineInFront, ReadsText}
 use Rattle.read_shortcuts.proofs.LinesBegun.{escapes-passed}
-use Rattle.run_turns.proofs.Beginning.{begun-some, goes_past_begun, turns_behind}
-use Rattle.run_turns.proofs.ComingFurther.{comes_turned}
-use Rattle.run_turns.proofs.PassingOn.{goes_past_known}
+use Rattle.run_turns.proofs.Beginning.{begun-some, goes_past_begun}
 use Rattle.run_turns.proofs.Telling.{goes_past_told}
 use Rattle.run_turns.proofs.WaitedBytes.{byte_alone}
-use Rattle.run_items.proofs.Sighted.{items_then-append}
-use Rattle.run_turns.proofs.ComingFurther.{read_turn}
+use Rattle.run_turns.proofs.ComingFurther.{comes_both, read_turn}
 
 -- what the formatter found in front of a text line is that line
 pub line_in_of : (front : List ℕ) (i : Interpreter) (r : Option (ℕ × ℕ)) → ReadsText front i → IfSome r (λ line. StandsLine front line.0 line.1 i.formatter)
@@ -89,18 +86,16 @@ module _ (gave gives : Tape → Type 0) (noted notes failed failures : ℕ) (out
   run_there = record old { interpreter = told_as old.interpreter f (InText line); unread = there }
 
   pub comes_ended : (new : Coded) (behind : Seen) (result : Result (Unit {0}) Status) → notes ≤ noted → failures ≡ failed
-      → GoesPastIf (StandsForSome old) gave halfway noted noted old run_there (seen failed out err) (seen failed out err)
+      → GoesPast false gave halfway noted noted old run_there (seen failed out err) (seen failed out err)
       → DoesItem after.input.line (byte_taken newline) (record run_there { unread = after }) new (seen failures out err) behind result
-      → ComesFurther true gave gives noted notes old new (seen failed out err) behind result
+      → Comes true gave gives noted notes old new (seen failed out err) behind result
   comes_ended new behind result fewer same past acts =
       let none_there : there.input.escapes ≡ [] = escapes-passed gave halfway bytes old.unread there (passes-bytes gave gives bytes old.unread after all) ∙ none_half in
       let line_is : after.input.line ≡ there.input.line = sym (line-between gave gives bytes old.unread after all some plain) in
       let more : failed ≤ failures = omega (arith, same) in
-      let turn : TurnsBy (step run_there.limits) halfway gives noted notes run_there new (seen failed out err) behind result =
-      read_turn halfway gives noted notes run_there new (seen failed out err) behind result refl
-      (byte_alone run_there failed failures out err noted notes more fewer newline after.input.line new behind result (takes-newline gave gives bytes old.unread after all) none_there line_is acts) in
-      comes_turned gave gives noted notes old new (seen failed out err) behind result
-      (turns_behind gave halfway gives noted noted notes old run_there new (seen failed out err) (seen failed out err) behind result past turn)
+      comes_both false past
+      (read_turn run_there refl
+      (byte_alone run_there failed failures out err noted notes more fewer newline after.input.line new behind result (takes-newline gave gives bytes old.unread after all) none_there line_is acts))
 
 -- a text line that stood in front was told and ended
 module _ (gave gives : Tape → Type 0) (ready : List ℕ) (noted notes failed failures : ℕ) (out err : Sunk) (old : Coded) (after : PageUnread) (front : List ℕ) (count : ℕ)
@@ -132,58 +127,24 @@ module _ (gave gives : Tape → Type 0) (ready : List ℕ) (noted notes failed f
   none_after = escapes-passed gave gives (bytes ++ newline ∷ []) old.unread after all ∙ none_half
 
   line_ended : (line : TextLine) → line.has_glyph ≡ true
-      → GoesPastIf (StandsForSome old) gave half noted noted old (told_there (InText line)) (seen failed out err) (seen failed out err)
-      → ComesFurther true gave gives noted notes old new (seen failed out err) behind result
+      → GoesPast false gave half noted noted old (told_there (InText line)) (seen failed out err) (seen failed out err)
+      → Comes true gave gives noted notes old new (seen failed out err) behind result
   line_ended line glyph past =
       comes_ended gave gives noted notes failed failures out err old after bytes all ends.told line long
       (no_newline_told front count old.interpreter.formatter ends.told ready old.unread ends.tells is) none_half new behind result fewer same past
       (acts ends.told line (ends.takes line after err glyph none_after))
 
-  pub comes_line : ReadsText front old.interpreter → ComesFurther true gave gives noted notes old new (seen failed out err) behind result
+  pub comes_line : ReadsText front old.interpreter → Comes true gave gives noted notes old new (seen failed out err) behind result
   comes_line (BehindGlyph line reads glyph none_leading) =
-      let told : GoesPast gave half noted noted old (told_there old.interpreter.reader.reading) (seen failed out err) (seen failed out err) =
+      let told : GoesPast false gave half noted noted old (told_there old.interpreter.reader.reading) (seen failed out err) (seen failed out err) =
       goes_past_told old ends.told front count ends.tells none_half (ap due reads)
       (λ b text. subst (λ (r : LineState). Prints r b) (sym reads) (prints_text line glyph none_leading b text))
       gave half ready noted noted failed failed out err _ is front_of_line (omega arith) refl in
       line_ended line glyph
-      (goes_past_known (StandsForSome old) gave half noted noted old _ (seen failed out err) (seen failed out err)
-      (subst (λ (r : LineState). GoesPast gave half noted noted old (told_there r) (seen failed out err) (seen failed out err)) reads told))
+      (subst (λ (r : LineState). GoesPast false gave half noted noted old (told_there r) (seen failed out err) (seen failed out err)) reads told)
   comes_line (FromFirst reads first none) =
       let line : TextLine = record { has_glyph = true; has_other = false; has_brace = false; leading = 0 } in
       line_ended line refl
       (goes_past_begun old ends.told front count ends.tells none_half reads first none (record old.interpreter.reader { reading = InText line })
       (ap (λ (reading : LineState). record old.interpreter.reader { reading = reading }) (begun-some front count first some))
       gave half ready noted noted failed failed out err _ is front_of_line (omega arith) refl)
-
--- what comes further from a state that is the same
-pub comes_kept : (fewer : Bool) (gave gives : Tape → Type 0) (noted notes : ℕ) (old same new : Coded) (now behind : Seen) (r : Result (Unit {0}) Status) → same ≡ old
-    → ComesFurther fewer gave gives noted notes same new now behind r → ComesFurther fewer gave gives noted notes old new now behind r
-comes_kept fewer gave gives noted notes old same new now behind r is comes =
-    subst (λ (run : Coded). ComesFurther fewer gave gives noted notes run new now behind r) is comes
-
--- fewer turns are left than before a turn, behind which no more are
-left_behind : (fewer : Bool) (r : Result (Unit {0}) Status) (a b c : ℕ) → OnOk r (AreLeft fewer a b) → b < c → OnOk r (a < c)
-left_behind true (Ok done) a b c left less = omega (arith, left, less)
-left_behind false (Ok done) a b c left less = omega (arith, left, less)
-left_behind fewer (Err status) a b c left less = tt
-
--- a turn, and what comes further behind it, is that turn
-pub turned_further : (does : State → State) (gave mid gives : Tape → Type 0) (noted kept notes : ℕ) (old between new : Coded) (now halfway behind : Seen) (fewer : Bool) (r : Result (Unit {0}) Status)
-    → TurnsBy does gave mid noted kept old between now halfway (Ok tt) → ComesFurther fewer mid gives kept notes between new halfway behind r
-    → TurnsBy does gave gives noted notes old new now behind r
-turned_further does gave mid gives noted kept notes old between new now halfway behind fewer r first second = record {
-  limits = second.limits ∙ first.limits;
-  taken = first.taken ++ second.taken;
-  before = λ t given. subst gave (sym (items_then-append first.taken second.taken t)) (first.before (items_then second.taken t) (second.before t given));
-  turns = λ t tape start given.
-      let P : Tape → Type 0 = λ whole. (at : IsAt t whole start now old) → StepDoes does whole old at.history at.messages → Continues t tape start behind r new in
-      subst P (sym (items_then-append first.taken second.taken tape))
-      (λ at goes. second.comes t tape start given (first.turns t (items_then second.taken tape) start (second.before tape given) at goes));
-  falls = λ t tape start given.
-      let P : Tape → Type 0 = λ whole. (at : IsAt t whole start now old) → StepDoes does whole old at.history at.messages → OnOk r (turns_with new notes < turns_with old noted) in
-      subst P (sym (items_then-append first.taken second.taken tape))
-      (λ at goes.
-      let between_at = first.turns t (items_then second.taken tape) start (second.before tape given) at goes in
-      left_behind fewer r (turns_with new notes) (turns_with between kept) (turns_with old noted) (second.turns t tape start given between_at)
-      (first.falls t (items_then second.taken tape) start (second.before tape given) at goes));
-}

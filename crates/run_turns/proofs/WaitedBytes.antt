@@ -1,6 +1,6 @@
 -- A byte that is taken, whether what is half read waits for it or not.
 use Rattle.input_escapes.specs.OpenEscape.{OpenEscape}
-use Rattle.std.proofs.Common.{◌≡◌, ℕ, ◌≤◌, false, List, Some, Result, refl, sym, ap, ◌∙◌, arith, []}
+use Rattle.std.proofs.Common.{◌≡◌, ℕ, ◌≤◌, false, List, [], Some, Result, refl, sym, ap, ◌∙◌, arith}
 use Rattle.input_escapes.specs.Waiting.{decides as decides_by, is_ended_by}
 use Rattle.input_escapes.specs.declared.open_escape.Waiting.{Waiting}
 use Rattle.input_source.specs.Tape.{Tape, Item, items_then}
@@ -24,8 +24,8 @@ use Rattle.run_turns.proofs.Turns.{LeavesFewer, acted, falls_front, few_front, l
 use Rattle.run_model.proofs.InFront.{Given-asked, items_asked}
 use Rattle.run_model.proofs.TurnsToCome.{turns_within-byte}
 use Rattle.run_model.proofs.Waiting.{undecided}
-use Rattle.run_turns.proofs.Waiting.{turn_as}
 use Rattle.run_items.proofs.SightedBytes.{read_byte}
+use Rattle.run_turns.proofs.ComingFurther.{turn_as}
 
 -- a byte was taken, whether it is waited for or not
 module _ {gave gives : Tape → Type 0} {left : PageUnread} (old : Coded) (failed failures : ℕ) (out err : Sunk) (noted notes : ℕ) (more : failed ≤ failures) (less : notes ≤ noted) where
@@ -58,5 +58,5 @@ module _ {gave gives : Tape → Type 0} {left : PageUnread} (old : Coded) (faile
   byte_alone b line new after r call none line_is acts =
       let goes_on : is_ended_by old.unread.input.escapes (Some b) ≡ false = ap (λ (half : List OpenEscape). is_ended_by half (Some b)) none in
       let w : Waiting = waiting_in old.interpreter.reader.reading old.unread.input in
-      turn_as (λ s. item_read old.limits s) (λ s. read_waiting old.limits w s) noted notes old new (seen failed out err) after r (λ tape h ms. refl)
+      turn_as (λ s. item_read old.limits s) (λ s. read_waiting old.limits w s) old (λ tape h ms. refl)
       (byte_by w (undecided old.interpreter.reader.reading old.unread.input.arguments.place old.unread.input.escapes (Some b) goes_on) b line new after r call goes_on line_is acts)

@@ -1,5 +1,5 @@
 -- A turn in which what is half read waits for a byte: what is seen, and what is done with it.
-use Rattle.std.proofs.Common.{◌≡◌, ℕ, ◌<◌, ◌≤◌, true, false, List, ◌++◌, length, Option, Some, None, Result, Err, refl, sym, ap, subst, ◌∙◌, arith, []}
+use Rattle.std.proofs.Common.{◌≡◌, ℕ, ◌<◌, ◌≤◌, true, false, List, [], ◌++◌, length, Option, Some, None, Result, Err, refl, sym, ap, subst, ◌∙◌, arith}
 use Rattle.roff_num.specs.declared.limit.Limit.{Limit}
 use Rattle.input_model.specs.declared.place.Place.{Place}
 use Rattle.input_escapes.specs.Waiting.{decides as decides_by, is_ended_by}
@@ -149,18 +149,6 @@ module _ {gave gives : Tape → Type 0} {left : PageUnread} (old : Coded) (faile
       turned leaves _ noted notes (moved old left) (seen failed out err) (seen failures out err) (Err (Limited limit)) refl (λ t tape start may at goes.
       (source_stopped leaves failed failures out err more t tape start may at limit (ends_look old call (Stopped limit) refl) (goes ∙ sighted_look old call tape may at.history at.messages), tt))
 
--- a turn as the definition's
-pub turn_as : {gave gives : Tape → Type 0} (does other : State → State) (noted notes : ℕ) (old new : Coded) (now behind : Seen) (r : Result (Unit {0}) Status)
-    → ((tape : Tape) (h : PageHistory) (ms : List ℕ) → does (state_at tape old h ms) ≡ other (state_at tape old h ms))
-    → TurnsBy other gave gives noted notes old new now behind r → TurnsBy does gave gives noted notes old new now behind r
-turn_as does other noted notes old new now behind r same turn = record {
-  limits = turn.limits;
-  taken = turn.taken;
-  before = turn.before;
-  turns = λ t tape start may at goes. turn.turns t tape start may at (goes ∙ same (items_then turn.taken tape) at.history at.messages);
-  falls = λ t tape start may at goes. turn.falls t tape start may at (goes ∙ same (items_then turn.taken tape) at.history at.messages);
-}
-
 -- a condition that is read decides
 pub waiting_decides :
     (gives : Tape → Type 0) (old new : Coded) (failures : ℕ) (out err : Sunk) (notes : ℕ) (after : Seen) (r : Result (Unit {0}) Status)
@@ -228,10 +216,10 @@ module _ {gave mid gives : Tape → Type 0} {left : PageUnread} {sight : Sighted
     limits = turn.limits;
     taken = both;
     before = λ tape may. subst gave (sym (items_then-append (taken old call) turn.taken tape)) ((leaves_look old call).before (items_then turn.taken tape) (turn.before tape may));
+    comes = λ t tape start may at goes.
+        let behind = stands_behind t tape start may (at, goes) in turn.comes t tape start may behind.0 behind.1;
     turns = λ t tape start may at goes.
-        let behind = stands_behind t tape start may (at, goes) in turn.turns t tape start may behind.0 behind.1;
-    falls = λ t tape start may at goes.
         let behind = stands_behind t tape start may (at, goes) in
         on_ok-then r (λ (falls : turns_with new notes < turns_with (moved old left) kept). omega (arith, falls, less, (leaves_look old call).turns))
-        (turn.falls t tape start may behind.0 behind.1);
+        (turn.turns t tape start may behind.0 behind.1);
   }

@@ -41,7 +41,7 @@ pub struct Running {
 
 impl Running {
     ghost use Rattle.run_items.specs.Room.{SeesOn};
-    ghost use Rattle.run_turns.specs.Running.Turning.{ComesFurtherOver, DoesItem, TurnsOver};
+    ghost use Rattle.run_turns.specs.Running.Turning.{ComesOver, DoesItem, TurnsOver};
 
     /// Takes bytes at once that stand in front, or else does what is due, and takes an item of the
     /// input or ends what is half read. If the bytes in front were told, or a text line ended
@@ -55,7 +55,7 @@ impl Running {
         out: &mut O,
         err: &mut E,
     ) -> Result<bool, Status>
-        ensures { ComesFurtherOver S.ByteSource O.ByteSink E.MessageSink (falls_told is_told result)
+        ensures { ComesOver S.ByteSource O.ByteSink E.MessageSink (falls_told is_told result)
             source.old source.new out.old out.new err.old err.new
             self.old self.new (going_on result) }
     {
@@ -80,7 +80,7 @@ impl Running {
         out: &mut O,
         err: &mut E,
     ) -> Result<bool, Status>
-        ensures { ComesFurtherOver S.ByteSource O.ByteSink E.MessageSink (falls_told is_told result)
+        ensures { ComesOver S.ByteSource O.ByteSink E.MessageSink (falls_told is_told result)
             source.old source.new out.old out.new err.old err.new
             self.old self.new (going_on result) }
     {
@@ -101,7 +101,7 @@ impl Running {
         err: &mut E,
     ) -> Result<bool, Status>
         requires { due self.old.interpreter.reader.reading ≡ None }
-        ensures { ComesFurtherOver S.ByteSource O.ByteSink E.MessageSink (falls_told is_told result)
+        ensures { ComesOver S.ByteSource O.ByteSink E.MessageSink (falls_told is_told result)
             source.old source.new out.old out.new err.old err.new
             self.old self.new (going_on result) }
     {
@@ -112,7 +112,8 @@ impl Running {
         }
     }
 
-    /// The same where nothing is half read: the front of a text line that begins is told before.
+    /// Makes a turn where nothing is half read. A text line that begins is put at once, or its
+    /// front is told before. Returns whether bytes in front are told behind it.
     #[inline(always)]
     fn turn_beginning<S: ByteSource, O: ByteSink, E: MessageSink>(
         &mut self,
@@ -123,7 +124,7 @@ impl Running {
     ) -> Result<bool, Status>
         requires none_due { due self.old.interpreter.reader.reading ≡ None }
         requires none_half { self.old.unread.input.escapes ≡ [] }
-        ensures { ComesFurtherOver S.ByteSource O.ByteSink E.MessageSink (falls_told is_told result)
+        ensures { ComesOver S.ByteSource O.ByteSink E.MessageSink (falls_told is_told result)
             source.old source.new out.old out.new err.old err.new
             self.old self.new (going_on result) }
     {
@@ -134,7 +135,8 @@ impl Running {
         }
     }
 
-    /// The same where no line can be put at once.
+    /// Makes a turn where nothing is half read, and no line can be put at once: the front of a text
+    /// line that begins is told before. Returns whether bytes in front are told behind it.
     #[inline(always)]
     fn turn_told<S: ByteSource, O: ByteSink, E: MessageSink>(
         &mut self,
@@ -145,7 +147,7 @@ impl Running {
     ) -> Result<bool, Status>
         requires none_due { due self.old.interpreter.reader.reading ≡ None }
         requires none_half { self.old.unread.input.escapes ≡ [] }
-        ensures { ComesFurtherOver S.ByteSource O.ByteSink E.MessageSink (falls_told is_told result)
+        ensures { ComesOver S.ByteSource O.ByteSink E.MessageSink (falls_told is_told result)
             source.old source.new out.old out.new err.old err.new
             self.old self.new (going_on result) }
     {
@@ -156,7 +158,8 @@ impl Running {
         self.turn_alone(source, out, err)
     }
 
-    /// The same behind that.
+    /// Takes an item of the input alone, where nothing is half read. Returns whether bytes in front
+    /// are told behind it.
     #[inline(always)]
     fn turn_alone<S: ByteSource, O: ByteSink, E: MessageSink>(
         &mut self,
@@ -176,8 +179,8 @@ impl Running {
         }
     }
 
-    /// The same off a text line: most often a byte that stands ready is taken, whether it is waited
-    /// for or not.
+    /// Takes an item of the input off a text line: most often a byte that stands ready is taken,
+    /// whether it is waited for or not.
     #[inline(always)]
     fn turn_other<S: ByteSource, O: ByteSink, E: MessageSink>(
         &mut self,
@@ -196,7 +199,8 @@ impl Running {
         }
     }
 
-    /// The same where no byte stands ready: what waits for one looks at what is in front.
+    /// Takes an item of the input where no byte stands ready: what waits for one looks at what is
+    /// in front.
     #[inline(never)]
     fn turn_line<S: ByteSource, O: ByteSink, E: MessageSink>(
         &mut self,

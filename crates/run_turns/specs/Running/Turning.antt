@@ -1,5 +1,5 @@
 -- How far a run of the code has come, as a run of the definition.
-use Rattle.std.specs.Prelude.{◌≡◌, ◌⊎◌, ℕ, ◌*◌, ◌+◌, ◌<◌, ◌≤◌, Bool, true, false, if◌then◌else◌, List, [], None, OnOk, Result, Ok, Err}
+use Rattle.std.specs.Prelude.{◌≡◌, ◌⊎◌, ℕ, ◌*◌, ◌+◌, ◌<◌, ◌≤◌, Bool, true, false, if◌then◌else◌, List, [], Option, None, Some, OnOk, Result, Ok, Err}
 use Rattle.roff_num.specs.declared.limits.Limits.{Limits}
 use Rattle.run_state.specs.declared.composer.Composer.{Composer as ComposerOf}
 use Rattle.run_model.specs.declared.start.Start.{Start}
@@ -129,81 +129,56 @@ pub record DoesDue (old new : Coded) (now behind : Seen) (r : Result (Unit {0}) 
   pub none_due : OnOk r (due new.interpreter.reader.reading ≡ None)
   pub turns : OnOk r (turns_of_run new ≤ turns_of_run old)
 
--- The run took items of its source, and goes on or has ended, whatever the source may still give, where a step of the
--- definition does this; it goes on only so many times, and each message of the source's is one.
-pub record TurnsBy (does : State → State) (gave gives : Tape → Type 0) (noted notes : ℕ) (old new : Coded) (now behind : Seen) (r : Result (Unit {0}) Status) : Type 0 where
-  pub limits : new.limits ≡ old.limits
-  pub taken : List Item
-  pub before : (tape : Tape) → gives tape → gave (items_then taken tape)
-  pub turns : (t : Beginning) (tape : Tape) (start : Seen) → gives tape → (at : IsAt t (items_then taken tape) start now old)
-      → StepDoes does (items_then taken tape) old at.history at.messages → Continues t tape start behind r new
-  pub falls : (t : Beginning) (tape : Tape) (start : Seen) → gives tape → (at : IsAt t (items_then taken tape) start now old)
-      → StepDoes does (items_then taken tape) old at.history at.messages → OnOk r (turns_with new notes < turns_with old noted)
-
--- the same over a source and sinks that were at one state and are at another
-abbrev pub TurnsOver : {S : Type 0} {O : Type 0} {E : Type 0} → byte_source.Ghosts S → byte_sink.Ghosts O → message_sink.Ghosts E → (State → State) → S → S → O → O → E → E → Coded → Coded
-    → Result (Unit {0}) Status → Type 0
-TurnsOver s o e does was is out_was out_is err_was err_is old new r =
-    TurnsBy does (s.gives was) (s.gives is) (s.notes was) (s.notes is) old new (seen (s.failures was) (o.sunk out_was) (told_by e err_was)) (seen (s.failures is) (o.sunk out_is) (told_by e err_is)) r
-
--- The run took items of its source, and goes on behind them, whatever the source may still give; no more turns are to come.
-pub record GoesPast (gave gives : Tape → Type 0) (noted notes : ℕ) (old new : Coded) (now behind : Seen) : Type 0 where
-  pub limits : new.limits ≡ old.limits
-  pub taken : List Item
-  pub before : (tape : Tape) → gives tape → gave (items_then taken tape)
-  pub past : (t : Beginning) (tape : Tape) (start : Seen) → gives tape → IsAt t (items_then taken tape) start now old → IsAt t tape start behind new
-  pub turns : turns_with new notes ≤ turns_with old noted
-
--- The same, where it is known of the turns to come if this is so.
-pub record GoesPastIf (P : Type 0) (gave gives : Tape → Type 0) (noted notes : ℕ) (old new : Coded) (now behind : Seen) : Type 0 where
-  pub limits : new.limits ≡ old.limits
-  pub taken : List Item
-  pub before : (tape : Tape) → gives tape → gave (items_then taken tape)
-  pub past : (t : Beginning) (tape : Tape) (start : Seen) → gives tape → IsAt t (items_then taken tape) start now old → IsAt t tape start behind new
-  pub turns : P → turns_with new notes ≤ turns_with old noted
-
--- what it knows of the interrupted line while bytes are told: the code stands for some history
-abbrev pub StandsForSome : Coded → Type 0
-StandsForSome run = (h : PageHistory) × StandFor run.limits h run.interpreter.formatter.composer
-
--- the run went past bytes, and fewer turns are to come where a line begins behind them
-pub record GoesFurther (begins : Bool) (gave gives : Tape → Type 0) (noted notes : ℕ) (old new : Coded) (now behind : Seen) : Type 0 where
-  pub past : GoesPast gave gives noted notes old new now behind
-  pub fewer : begins ≡ true → turns_with new notes < turns_with old noted
-
--- the same over a source that was at one state and is at another, whatever was written
-abbrev pub GoesPastOver : {S : Type 0} → byte_source.Ghosts S → S → S → Coded → Coded → Type 0
-GoesPastOver g was is old new =
-    (out err : Sunk) → GoesPast (g.gives was) (g.gives is) (g.notes was) (g.notes is) old new (seen (g.failures was) out err) (seen (g.failures is) out err)
-
-abbrev pub TellsOver : {S : Type 0} → byte_source.Ghosts S → S → S → Coded → Coded → Type 0
-TellsOver g was is old new =
-    (out err : Sunk) → GoesPastIf (StandsForSome old) (g.gives was) (g.gives is) (g.notes was) (g.notes is) old new (seen (g.failures was) out err) (seen (g.failures is) out err)
-
-abbrev pub GoesFurtherOver : {S : Type 0} → Bool → byte_source.Ghosts S → S → S → Coded → Coded → Type 0
-GoesFurtherOver begins g was is old new =
-    (out err : Sunk) → GoesFurther begins (g.gives was) (g.gives is) (g.notes was) (g.notes is) old new (seen (g.failures was) out err) (seen (g.failures is) out err)
-
 -- no more turns are left than there were, and fewer if that is said
 abbrev pub AreLeft : Bool → ℕ → ℕ → Type 0
 AreLeft true left turns = left < turns
 AreLeft false left turns = left ≤ turns
 
--- The run took items of its source, and goes on behind them or has ended, whatever the source may still give; where it goes on no more
--- turns are to come, and fewer if that is said.
-pub record ComesFurther (fewer : Bool) (gave gives : Tape → Type 0) (noted notes : ℕ) (old new : Coded) (now behind : Seen) (r : Result (Unit {0}) Status) : Type 0 where
+-- the same if it is said what a step does
+abbrev pub StepDoesIf : Option (State → State) → Tape → Coded → PageHistory → List ℕ → Type 0
+StepDoesIf None tape run history messages = Unit {0}
+StepDoesIf (Some does) tape run history messages = StepDoes does tape run history messages
+
+-- The run took items of its source, and goes on behind them or has ended, whatever the source may still give: from each of its places
+-- where a step of the definition does this, if that is said. Where it goes on no more turns are to come, and fewer if that is said; each
+-- message of the source's is one.
+pub record ComesFrom (does : Option (State → State)) (fewer : Bool) (gave gives : Tape → Type 0) (noted notes : ℕ) (old new : Coded) (now behind : Seen) (r : Result (Unit {0}) Status) : Type 0 where
   pub limits : new.limits ≡ old.limits
   pub taken : List Item
   pub before : (tape : Tape) → gives tape → gave (items_then taken tape)
-  pub comes : (t : Beginning) (tape : Tape) (start : Seen) → gives tape → IsAt t (items_then taken tape) start now old → Continues t tape start behind r new
-  pub turns : (t : Beginning) (tape : Tape) (start : Seen) → gives tape → IsAt t (items_then taken tape) start now old
-      → OnOk r (AreLeft fewer (turns_with new notes) (turns_with old noted))
+  pub comes : (t : Beginning) (tape : Tape) (start : Seen) → gives tape → (at : IsAt t (items_then taken tape) start now old)
+      → StepDoesIf does (items_then taken tape) old at.history at.messages → Continues t tape start behind r new
+  pub turns : (t : Beginning) (tape : Tape) (start : Seen) → gives tape → (at : IsAt t (items_then taken tape) start now old)
+      → StepDoesIf does (items_then taken tape) old at.history at.messages → OnOk r (AreLeft fewer (turns_with new notes) (turns_with old noted))
 
--- the same over a source and sinks that were at one state and are at another
-abbrev pub ComesFurtherOver : {S : Type 0} {O : Type 0} {E : Type 0} → byte_source.Ghosts S → byte_sink.Ghosts O → message_sink.Ghosts E → Bool → S → S → O → O → E → E → Coded → Coded
+-- the run comes further from wherever it is
+abbrev pub Comes : Bool → (Tape → Type 0) → (Tape → Type 0) → ℕ → ℕ → Coded → Coded → Seen → Seen → Result (Unit {0}) Status → Type 0
+Comes fewer gave gives noted notes old new now behind r = ComesFrom None fewer gave gives noted notes old new now behind r
+
+-- and doesn't end
+abbrev pub GoesPast : Bool → (Tape → Type 0) → (Tape → Type 0) → ℕ → ℕ → Coded → Coded → Seen → Seen → Type 0
+GoesPast fewer gave gives noted notes old new now behind = Comes fewer gave gives noted notes old new now behind (Ok tt)
+
+-- the run comes further from where a step of the definition does this
+abbrev pub TurnsBy : (State → State) → (Tape → Type 0) → (Tape → Type 0) → ℕ → ℕ → Coded → Coded → Seen → Seen → Result (Unit {0}) Status → Type 0
+TurnsBy does gave gives noted notes old new now behind r = ComesFrom (Some does) true gave gives noted notes old new now behind r
+
+-- it goes past items of a source that was at one state and is at another, whatever was written
+abbrev pub GoesPastOver : {S : Type 0} → byte_source.Ghosts S → Bool → S → S → Coded → Coded → Type 0
+GoesPastOver g fewer was is old new =
+    (out err : Sunk) → GoesPast fewer (g.gives was) (g.gives is) (g.notes was) (g.notes is) old new (seen (g.failures was) out err) (seen (g.failures is) out err)
+
+-- it comes further over a source and sinks that were at one state and are at another
+abbrev pub ComesOver : {S : Type 0} {O : Type 0} {E : Type 0} → byte_source.Ghosts S → byte_sink.Ghosts O → message_sink.Ghosts E → Bool → S → S → O → O → E → E → Coded → Coded
     → Result (Unit {0}) Status → Type 0
-ComesFurtherOver s o e fewer was is out_was out_is err_was err_is old new r =
-    ComesFurther fewer (s.gives was) (s.gives is) (s.notes was) (s.notes is) old new (seen (s.failures was) (o.sunk out_was) (told_by e err_was)) (seen (s.failures is) (o.sunk out_is) (told_by e err_is)) r
+ComesOver s o e fewer was is out_was out_is err_was err_is old new r =
+    Comes fewer (s.gives was) (s.gives is) (s.notes was) (s.notes is) old new (seen (s.failures was) (o.sunk out_was) (told_by e err_was)) (seen (s.failures is) (o.sunk out_is) (told_by e err_is)) r
+
+-- or from where a step does this
+abbrev pub TurnsOver : {S : Type 0} {O : Type 0} {E : Type 0} → byte_source.Ghosts S → byte_sink.Ghosts O → message_sink.Ghosts E → (State → State) → S → S → O → O → E → E → Coded → Coded
+    → Result (Unit {0}) Status → Type 0
+TurnsOver s o e does was is out_was out_is err_was err_is old new r =
+    TurnsBy does (s.gives was) (s.gives is) (s.notes was) (s.notes is) old new (seen (s.failures was) (o.sunk out_was) (told_by e err_was)) (seen (s.failures is) (o.sunk out_is) (told_by e err_is)) r
 
 -- what an answer tells that says whether fewer turns are to come: whether the run goes on
 abbrev pub going_on : Result Bool Status → Result (Unit {0}) Status

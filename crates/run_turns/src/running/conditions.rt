@@ -15,7 +15,7 @@ use run_model::LineState;
 
 impl Running {
     ghost use Rattle.run_turns.specs.Running.EndsAtOnce.{EndsAtOnce};
-    ghost use Rattle.run_turns.specs.Running.Turning.{GoesFurtherOver, GoesPastOver};
+    ghost use Rattle.run_turns.specs.Running.Turning.{GoesPastOver};
 
     /// Takes bytes of a condition that stand in front, with the end of a text among them; then ends
     /// its expression, if what is seen behind them does, and decides it, if it asks nothing more.
@@ -24,7 +24,7 @@ impl Running {
     pub(super) fn pass_condition<S: ByteSource>(&mut self, source: &mut S) -> bool
         requires { IsRun ConditionRun self.old.interpreter.reader.reading
             self.old.unread.input.escapes }
-        ensures { GoesFurtherOver result S.ByteSource source.old source.new self.old self.new }
+        ensures { GoesPastOver S.ByteSource result source.old source.new self.old self.new }
     {
         self.take_condition(source);
         if !self.pass_expression(source) {
@@ -42,7 +42,7 @@ impl Running {
             self.old.unread.input.escapes }
         ensures run { IsRun ConditionRun self.new.interpreter.reader.reading
             self.new.unread.input.escapes }
-        ensures past { GoesPastOver S.ByteSource source.old source.new self.old self.new }
+        ensures past { GoesPastOver S.ByteSource false source.old source.new self.old self.new }
     {
         let kind = RunKind::Condition;
         take_run(&mut self.interpreter.reader, kind, &mut self.unread, source);
@@ -57,7 +57,7 @@ impl Running {
             self.old.unread.input.escapes }
         ensures run { IsRun ConditionRun self.new.interpreter.reader.reading
             self.new.unread.input.escapes }
-        ensures past { GoesPastOver S.ByteSource source.now source.now self.old self.new }
+        ensures past { GoesPastOver S.ByteSource false source.now source.now self.old self.new }
     {
         // A blank ends an expression, and nothing that is read above one.
         if !self.unread.is_ended_by(Some(b' ')) {
@@ -69,7 +69,8 @@ impl Running {
         }
     }
 
-    /// The same where a condition is read, whose result is kept or isn't.
+    /// Ends the expression of a condition, if the byte that is seen ahead ends it; else takes the
+    /// end of a text in front of that byte. Returns whether it took that.
     #[inline(always)]
     fn pass_deciding<S: ByteSource>(&mut self, keeps: bool, source: &S) -> bool
         requires run { IsRun ConditionRun self.old.interpreter.reader.reading
@@ -77,7 +78,7 @@ impl Running {
         requires deciding { self.old.interpreter.reader.reading ≡ Deciding keeps }
         ensures run { IsRun ConditionRun self.new.interpreter.reader.reading
             self.new.unread.input.escapes }
-        ensures past { GoesPastOver S.ByteSource source.now source.now self.old self.new }
+        ensures past { GoesPastOver S.ByteSource false source.now source.now self.old self.new }
     {
         match self.unread.waiting(Surroundings::Copy) {
             Waiting::Waits => self.pass_waiting(keeps, source),
@@ -85,7 +86,8 @@ impl Running {
         }
     }
 
-    /// The same where it waits for a byte.
+    /// Ends the expression that waits for a byte, if the byte that is seen ahead ends it; else
+    /// takes the end of a text in front of that byte. Returns whether it took that.
     #[inline(never)]
     fn pass_waiting<S: ByteSource>(&mut self, keeps: bool, source: &S) -> bool
         requires run { IsRun ConditionRun self.old.interpreter.reader.reading
@@ -94,7 +96,7 @@ impl Running {
         requires waits { waiting_of Surroundings.Copy self.old.unread.input.escapes ≡ Waits }
         ensures run { IsRun ConditionRun self.new.interpreter.reader.reading
             self.new.unread.input.escapes }
-        ensures past { GoesPastOver S.ByteSource source.now source.now self.old self.new }
+        ensures past { GoesPastOver S.ByteSource false source.now source.now self.old self.new }
     {
         match self.unread.look_ahead(source) {
             Some(byte) => {

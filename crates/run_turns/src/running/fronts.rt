@@ -1,6 +1,6 @@
 //! Runs: bytes in front that do alike, and are taken together.
 
-ghost use Rattle.std.specs.Prelude.{◌≡◌, [], true};
+ghost use Rattle.std.specs.Prelude.{◌≡◌, [], false, true};
 ghost use Rattle.run_turns.specs.Running.BehindText.{begins_above_controls, behind_ready};
 ghost use Rattle.run_turns.specs.Running.BehindText.{behind_text};
 ghost use Rattle.read_shortcuts.specs.Registers.{IsTextAhead};
@@ -31,13 +31,13 @@ pub(super) enum Behind {
 }
 
 impl Running {
-    ghost use Rattle.run_turns.specs.Running.Turning.{GoesFurtherOver, GoesPastOver};
+    ghost use Rattle.run_turns.specs.Running.Turning.{GoesPastOver};
 
     /// Takes bytes that stand in front and do this; none of text, which are told.
     #[inline(always)]
     pub(super) fn take_run<S: ByteSource>(&mut self, kind: RunKind, source: &mut S)
         requires { IsRun kind self.old.interpreter.reader.reading self.old.unread.input.escapes }
-        ensures { GoesPastOver S.ByteSource source.old source.new self.old self.new }
+        ensures { GoesPastOver S.ByteSource false source.old source.new self.old self.new }
     {
         take_run(&mut self.interpreter.reader, kind, &mut self.unread, source);
     }
@@ -48,7 +48,7 @@ impl Running {
         requires none_half { self.old.unread.input.escapes ≡ [] }
         ensures none_half { self.new.unread.input.escapes ≡ [] }
         ensures others { self.new ≡ record self.old { unread = self.new.unread } }
-        ensures past { GoesPastOver S.ByteSource source.old source.new self.old self.new }
+        ensures past { GoesPastOver S.ByteSource false source.old source.new self.old self.new }
     {
         take_branch_blanks(&self.interpreter.reader, &mut self.unread, source);
     }
@@ -56,7 +56,7 @@ impl Running {
     /// Takes bytes of a title's part together that stand in front, where a title is read.
     #[inline(always)]
     pub(super) fn take_title_front<S: ByteSource>(&mut self, source: &mut S)
-        ensures { GoesPastOver S.ByteSource source.old source.new self.old self.new }
+        ensures { GoesPastOver S.ByteSource false source.old source.new self.old self.new }
     {
         take_title_front(&mut self.interpreter.reader, &mut self.unread, source);
     }
@@ -64,7 +64,7 @@ impl Running {
     /// Takes bytes of a string's name together that stand in front, where one is read.
     #[inline(always)]
     pub(super) fn take_string_name<S: ByteSource>(&mut self, source: &mut S)
-        ensures { GoesPastOver S.ByteSource source.old source.new self.old self.new }
+        ensures { GoesPastOver S.ByteSource false source.old source.new self.old self.new }
     {
         take_string_name(&self.interpreter.reader, &mut self.unread, source);
     }
@@ -72,7 +72,7 @@ impl Running {
     /// Takes bytes of a string's text together that stand in front, where it begins.
     #[inline(always)]
     pub(super) fn take_string_front<S: ByteSource>(&mut self, source: &mut S)
-        ensures { GoesPastOver S.ByteSource source.old source.new self.old self.new }
+        ensures { GoesPastOver S.ByteSource false source.old source.new self.old self.new }
     {
         take_string_front(&mut self.interpreter.reader, &mut self.unread, source);
     }
@@ -84,7 +84,7 @@ impl Running {
     fn take_arguments<S: ByteSource>(&mut self, most: Option<usize>, source: &mut S) -> bool
         requires { IsRun (run_holding most) self.old.interpreter.reader.reading
             self.old.unread.input.escapes }
-        ensures past { GoesPastOver S.ByteSource source.old source.new self.old self.new }
+        ensures past { GoesPastOver S.ByteSource false source.old source.new self.old self.new }
         ensures half { self.new.unread.input.escapes ≡ self.old.unread.input.escapes }
         ensures reads { self.new.interpreter ≡ self.old.interpreter }
     {
@@ -96,7 +96,7 @@ impl Running {
     pub(super) fn hold_call_on<S: ByteSource>(&mut self, most: usize, source: &mut S) -> bool
         requires { IsRun (CallArguments most) self.old.interpreter.reader.reading
             self.old.unread.input.escapes }
-        ensures { GoesFurtherOver result S.ByteSource source.old source.new self.old self.new }
+        ensures { GoesPastOver S.ByteSource result source.old source.new self.old self.new }
     {
         self.hold_on(Some(most), source)
     }
@@ -106,7 +106,7 @@ impl Running {
     pub(super) fn hold_call<S: ByteSource>(&mut self, most: usize, source: &mut S) -> bool
         requires { IsRun (CallArguments most) self.old.interpreter.reader.reading
             self.old.unread.input.escapes }
-        ensures { GoesFurtherOver result S.ByteSource source.old source.new self.old self.new }
+        ensures { GoesPastOver S.ByteSource result source.old source.new self.old self.new }
     {
         self.hold_line(Some(most), source)
     }
@@ -118,7 +118,7 @@ impl Running {
     pub(super) fn hold_line<S: ByteSource>(&mut self, most: Option<usize>, source: &mut S) -> bool
         requires { IsRun (run_holding most) self.old.interpreter.reader.reading
             self.old.unread.input.escapes }
-        ensures { GoesFurtherOver result S.ByteSource source.old source.new self.old self.new }
+        ensures { GoesPastOver S.ByteSource result source.old source.new self.old self.new }
     {
         if !self.take_arguments(most, source) {
             return false;
@@ -133,7 +133,7 @@ impl Running {
     pub(super) fn hold_on<S: ByteSource>(&mut self, most: Option<usize>, source: &mut S) -> bool
         requires { IsRun (run_holding most) self.old.interpreter.reader.reading
             self.old.unread.input.escapes }
-        ensures { GoesFurtherOver result S.ByteSource source.old source.new self.old self.new }
+        ensures { GoesPastOver S.ByteSource result source.old source.new self.old self.new }
     {
         if !self.hold_named(most, source) {
             return false;
@@ -147,7 +147,7 @@ impl Running {
     fn hold_named<S: ByteSource>(&mut self, most: Option<usize>, source: &mut S) -> bool
         requires { IsRun (run_holding most) self.old.interpreter.reader.reading
             self.old.unread.input.escapes }
-        ensures further { GoesFurtherOver result S.ByteSource source.old source.new
+        ensures further { GoesPastOver S.ByteSource result source.old source.new
             self.old self.new }
         ensures half { self.new.unread.input.escapes ≡ self.old.unread.input.escapes }
         ensures reads { self.new.interpreter ≡ self.old.interpreter }
@@ -164,7 +164,7 @@ impl Running {
     fn hold_text<S: ByteSource>(&mut self, most: Option<usize>, source: &mut S) -> bool
         requires { IsRun (run_holding most) self.old.interpreter.reader.reading
             self.old.unread.input.escapes }
-        ensures further { GoesFurtherOver result S.ByteSource source.old source.new
+        ensures further { GoesPastOver S.ByteSource result source.old source.new
             self.old self.new }
         ensures half { self.new.unread.input.escapes ≡ self.old.unread.input.escapes }
         ensures reads { self.new.interpreter ≡ self.old.interpreter }
@@ -184,7 +184,7 @@ impl Running {
     #[inline(never)]
     pub(super) fn take_named<S: ByteSource>(&mut self, source: &mut S) -> bool
         requires { IsRun TextRun self.old.interpreter.reader.reading self.old.unread.input.escapes }
-        ensures further { GoesFurtherOver result S.ByteSource source.old source.new
+        ensures further { GoesPastOver S.ByteSource result source.old source.new
             self.old self.new }
         ensures half { self.new.unread.input.escapes ≡ self.old.unread.input.escapes }
         ensures reads { self.new.interpreter.reader.reading
@@ -205,7 +205,7 @@ impl Running {
     #[inline(always)]
     pub(super) fn tell_string<S: ByteSource>(&mut self, source: &mut S) -> bool
         requires { IsRun TextRun self.old.interpreter.reader.reading self.old.unread.input.escapes }
-        ensures further { GoesFurtherOver result S.ByteSource source.old source.new
+        ensures further { GoesPastOver S.ByteSource result source.old source.new
             self.old self.new }
         ensures half { self.new.unread.input.escapes ≡ self.old.unread.input.escapes }
         ensures reads { self.new.interpreter.reader ≡ self.old.interpreter.reader }
@@ -222,7 +222,7 @@ impl Running {
     /// a line begins, and puts the string in front. Returns whether it did.
     #[inline(always)]
     pub(super) fn put_string<S: ByteSource>(&mut self, source: &mut S) -> bool
-        ensures further { GoesFurtherOver result S.ByteSource source.old source.new
+        ensures further { GoesPastOver S.ByteSource result source.old source.new
             self.old self.new }
         ensures half { self.new.unread.input.escapes ≡ self.old.unread.input.escapes }
         ensures reads { self.new.interpreter ≡ self.old.interpreter }
@@ -237,7 +237,7 @@ impl Running {
             self.old.unread.input.escapes }
         requires ahead { IsTextAhead ahead self.old.interpreter.reader.reading
             (S.ready source.old) self.old.unread }
-        ensures further { GoesFurtherOver true S.ByteSource source.old source.new
+        ensures further { GoesPastOver S.ByteSource true source.old source.new
             self.old self.new }
         ensures half { self.new.unread.input.escapes ≡ self.old.unread.input.escapes }
         ensures reads { self.new.interpreter.reader ≡ self.old.interpreter.reader }
@@ -261,7 +261,7 @@ impl Running {
     #[inline(always)]
     pub(super) fn tell_line<S: ByteSource>(&mut self, source: &mut S) -> bool
         requires { IsRun TextRun self.old.interpreter.reader.reading self.old.unread.input.escapes }
-        ensures { GoesFurtherOver result S.ByteSource source.old source.new self.old self.new }
+        ensures { GoesPastOver S.ByteSource result source.old source.new self.old self.new }
     {
         match self.tell_front(source) {
             Behind::Untold => false,
@@ -276,7 +276,7 @@ impl Running {
     /// blanks. Returns whether it did, and no escape stands behind them.
     #[inline(always)]
     pub(super) fn tell_on<S: ByteSource>(&mut self, source: &mut S) -> bool
-        ensures { GoesPastOver S.ByteSource source.old source.new self.old self.new }
+        ensures { GoesPastOver S.ByteSource false source.old source.new self.old self.new }
     {
         match run_kind(&self.interpreter.reader, &self.unread) {
             Some(RunKind::Text) => self.tell_text(source),
@@ -288,11 +288,12 @@ impl Running {
         }
     }
 
-    /// The same where a text line goes on.
+    /// Tells bytes of plain text that stand in front on a text line, and takes or reads what stands
+    /// behind them. Returns whether no escape does.
     #[inline(always)]
     fn tell_text<S: ByteSource>(&mut self, source: &mut S) -> bool
         requires { IsRun TextRun self.old.interpreter.reader.reading self.old.unread.input.escapes }
-        ensures { GoesPastOver S.ByteSource source.old source.new self.old self.new }
+        ensures { GoesPastOver S.ByteSource false source.old source.new self.old self.new }
     {
         match self.tell_front(source) {
             Behind::Untold => true,
@@ -308,7 +309,7 @@ impl Running {
     /// Reads the front of an escape, as far as one stands in front. It took no whole one.
     #[inline(always)]
     pub(super) fn read_escape<S: ByteSource>(&mut self, source: &mut S) -> bool
-        ensures { GoesFurtherOver result S.ByteSource source.old source.new self.old self.new }
+        ensures { GoesPastOver S.ByteSource result source.old source.new self.old self.new }
     {
         if let Some(kind) = run_half_read(&self.interpreter.reader, &self.unread) {
             self.take_run(kind, source);
@@ -321,7 +322,7 @@ impl Running {
     #[inline(always)]
     pub(super) fn read_named<S: ByteSource>(&mut self, source: &mut S) -> bool
         requires { IsRun TextRun self.old.interpreter.reader.reading self.old.unread.input.escapes }
-        ensures { GoesFurtherOver result S.ByteSource source.old source.new self.old self.new }
+        ensures { GoesPastOver S.ByteSource result source.old source.new self.old self.new }
     {
         if self.take_named(source) {
             return self.tell_rest(source);
@@ -333,7 +334,7 @@ impl Running {
     #[inline(always)]
     fn tell_rest<S: ByteSource>(&mut self, source: &mut S) -> bool
         requires { IsRun TextRun self.old.interpreter.reader.reading self.old.unread.input.escapes }
-        ensures { GoesPastOver S.ByteSource source.old source.new self.old self.new }
+        ensures { GoesPastOver S.ByteSource false source.old source.new self.old self.new }
     {
         match self.tell_front(source) {
             Behind::Untold => false,
@@ -348,7 +349,7 @@ impl Running {
     #[inline(never)]
     pub(super) fn tell_front<S: ByteSource>(&mut self, source: &mut S) -> Behind
         requires { IsRun TextRun self.old.interpreter.reader.reading self.old.unread.input.escapes }
-        ensures past { GoesPastOver S.ByteSource source.old source.new self.old self.new }
+        ensures past { GoesPastOver S.ByteSource false source.old source.new self.old self.new }
         ensures half { self.new.unread.input.escapes ≡ self.old.unread.input.escapes }
         ensures reads { self.new.interpreter.reader ≡ self.old.interpreter.reader }
         ensures behind { asks_to_take self.old.unread ≡ true → result

@@ -1,6 +1,6 @@
 //! Glyphs of a text line whose escapes have one letter, told at once.
 
-ghost use Rattle.std.specs.Prelude.{◌≡◌, [], None};
+ghost use Rattle.std.specs.Prelude.{◌≡◌, [], None, false};
 ghost use Rattle.run_state.specs.Composer.Standing.{StandFor};
 ghost use Rattle.roff_num.specs.declared.limits.Limits.{Limits as LimitsOf};
 ghost use Rattle.run_model.specs.Environments.{PageHistory, interrupted_line};
@@ -21,7 +21,7 @@ use run_model::LineState;
 const MOST_GLYPHS: u32 = 64;
 
 impl Running {
-    ghost use Rattle.run_turns.specs.Running.Turning.{GoesFurtherOver, GoesPastOver, TellsOver};
+    ghost use Rattle.run_turns.specs.Running.Turning.{GoesPastOver};
     ghost use Rattle.run_turns.specs.declared.running.fronts.Behind.TheVariants.{Named};
 
     /// Tells the glyphs whose escapes of one letter stand in front, and the plain text behind each.
@@ -29,7 +29,7 @@ impl Running {
     #[inline(never)]
     pub(super) fn tell_glyphs<S: ByteSource>(&mut self, source: &mut S) -> Behind
         requires { IsRun TextRun self.old.interpreter.reader.reading self.old.unread.input.escapes }
-        ensures past { GoesPastOver S.ByteSource source.old source.new self.old self.new }
+        ensures past { GoesPastOver S.ByteSource false source.old source.new self.old self.new }
         ensures half { self.new.unread.input.escapes ≡ self.old.unread.input.escapes }
         ensures reads { self.new.interpreter.reader ≡ self.old.interpreter.reader }
     {
@@ -52,7 +52,7 @@ impl Running {
     #[inline(always)]
     pub(super) fn tell_line_behind<S: ByteSource>(&mut self, source: &mut S) -> bool
         requires { IsRun TextRun self.old.interpreter.reader.reading self.old.unread.input.escapes }
-        ensures { GoesFurtherOver result S.ByteSource source.old source.new self.old self.new }
+        ensures { GoesPastOver S.ByteSource result source.old source.new self.old self.new }
     {
         match self.tell_glyphs(source) {
             Behind::Untold => false,
@@ -67,7 +67,7 @@ impl Running {
     #[inline(always)]
     pub(super) fn tell_text_behind<S: ByteSource>(&mut self, source: &mut S) -> bool
         requires { IsRun TextRun self.old.interpreter.reader.reading self.old.unread.input.escapes }
-        ensures { GoesPastOver S.ByteSource source.old source.new self.old self.new }
+        ensures { GoesPastOver S.ByteSource false source.old source.new self.old self.new }
     {
         match self.tell_glyphs(source) {
             Behind::Untold => true,
@@ -88,7 +88,7 @@ impl Running {
     #[inline(always)]
     fn tell_glyph<S: ByteSource>(&mut self, source: &mut S) -> bool
         requires { IsRun TextRun self.old.interpreter.reader.reading self.old.unread.input.escapes }
-        ensures past { GoesPastOver S.ByteSource source.old source.new self.old self.new }
+        ensures past { GoesPastOver S.ByteSource false source.old source.new self.old self.new }
         ensures half { self.new.unread.input.escapes ≡ self.old.unread.input.escapes }
         ensures reads { self.new.interpreter.reader ≡ self.old.interpreter.reader }
     {
@@ -125,7 +125,7 @@ impl Running {
         ensures none_half { self.new.unread.input.escapes ≡ [] }
         ensures prints { result ≡ Named → IsRun TextRun self.new.interpreter.reader.reading
             self.new.unread.input.escapes }
-        ensures past { TellsOver S.ByteSource source.old source.new self.old self.new }
+        ensures past { GoesPastOver S.ByteSource false source.old source.new self.old self.new }
     {
         match glyph_in_front(self.unread.front(source)) {
             None => instead,
@@ -145,7 +145,7 @@ impl Running {
     #[inline(always)]
     fn tell_behind_glyph<S: ByteSource>(&mut self, source: &mut S) -> Behind
         requires { IsRun TextRun self.old.interpreter.reader.reading self.old.unread.input.escapes }
-        ensures past { GoesPastOver S.ByteSource source.old source.new self.old self.new }
+        ensures past { GoesPastOver S.ByteSource false source.old source.new self.old self.new }
         ensures half { self.new.unread.input.escapes ≡ self.old.unread.input.escapes }
         ensures reads { self.new.interpreter.reader ≡ self.old.interpreter.reader }
     {

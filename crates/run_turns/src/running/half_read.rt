@@ -16,8 +16,8 @@ impl Running {
     ghost use Rattle.run_items.specs.Room.{SeesOn};
     ghost use Rattle.run_turns.specs.Running.Turning.{DoesItem, TurnsOver};
 
-    /// The same where something is half read: it takes the item in front, or waits for a byte, or a
-    /// condition that is read decides.
+    /// Makes a turn where something is half read: it takes the item in front, or waits for a byte,
+    /// or a condition that is read decides.
     #[inline(always)]
     pub(super) fn turn_half_read<S: ByteSource, O: ByteSink, E: MessageSink>(
         &mut self,
@@ -73,7 +73,8 @@ impl Running {
         }
     }
 
-    /// The same, with this byte ahead.
+    /// Goes on with what waits where this byte is seen ahead: the byte ends it, or the item in
+    /// front is taken.
     #[inline(always)]
     fn turn_seeing<S: ByteSource, O: ByteSink, E: MessageSink>(
         &mut self,
@@ -94,7 +95,7 @@ impl Running {
         self.turn_above(source, out, err)
     }
 
-    /// The same where no byte is known to stand ahead.
+    /// Goes on with what waits where no byte is known to stand ahead: the source is asked for one.
     #[inline(never)]
     fn turn_asking<S: ByteSource, O: ByteSink, E: MessageSink>(
         &mut self,
@@ -121,7 +122,7 @@ impl Running {
         self.turn_above(source, out, err)
     }
 
-    /// The same above what is half read, where the end of a text is often in front.
+    /// Takes the item in front above what is half read: often the end of a text.
     #[inline(always)]
     fn turn_above<S: ByteSource, O: ByteSink, E: MessageSink>(
         &mut self,
@@ -140,7 +141,7 @@ impl Running {
         self.turn_item(source, out, err)
     }
 
-    /// The same where something is half read.
+    /// Takes a byte where something is half read; the byte before it stood on this line.
     #[inline(always)]
     fn take_half<O: ByteSink, E: MessageSink>(
         &mut self,

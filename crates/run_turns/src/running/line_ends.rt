@@ -34,7 +34,7 @@ impl Running {
         }
     }
 
-    /// The same by what the line is.
+    /// Ends a control line, whose newline was taken, by what the line is.
     #[inline(always)]
     fn end_held_line<O: ByteSink, E: MessageSink>(
         &mut self,
@@ -63,7 +63,7 @@ impl Running {
         }
     }
 
-    /// The same of any line.
+    /// Ends a line of any kind, whose newline was taken.
     #[inline(never)]
     fn end_any_line<O: ByteSink, E: MessageSink>(
         &mut self,
@@ -78,7 +78,7 @@ impl Running {
         self.take(b'\n', line, out, err)
     }
 
-    /// The same of a line that calls this body.
+    /// Ends a line that calls this body, whose newline was taken.
     #[inline(never)]
     fn end_call_line<O: ByteSink, E: MessageSink>(
         &mut self,
@@ -102,7 +102,7 @@ impl Running {
         }
     }
 
-    /// The same of a break.
+    /// Ends the line of a break, whose newline was taken.
     #[inline(never)]
     fn end_break<O: ByteSink, E: MessageSink>(
         &mut self,
@@ -126,7 +126,7 @@ impl Running {
         }
     }
 
-    /// The same of this request.
+    /// Ends the line of this request, whose newline was taken.
     #[inline(never)]
     fn end_request<O: ByteSink, E: MessageSink>(
         &mut self,

@@ -21,7 +21,7 @@ use roff_scan::ByteSource;
 use run_model::Status;
 
 impl Running {
-    ghost use Rattle.run_turns.specs.Running.Turning.{ComesFurtherOver, GoesFurtherOver};
+    ghost use Rattle.run_turns.specs.Running.Turning.{ComesOver, GoesPastOver};
     ghost use Rattle.run_turns.specs.Running.Turning.{going_on, says_fewer};
 
     /// What [`pass_over`](Running::pass_over) does, unless the bytes in front were told.
@@ -33,7 +33,7 @@ impl Running {
         out: &mut O,
         err: &mut E,
     ) -> Result<bool, Status>
-        ensures { ComesFurtherOver S.ByteSource O.ByteSink E.MessageSink (says_fewer result)
+        ensures { ComesOver S.ByteSource O.ByteSink E.MessageSink (says_fewer result)
             source.old source.new out.old out.new err.old err.new
             self.old self.new (going_on result) }
     {
@@ -52,7 +52,7 @@ impl Running {
         out: &mut O,
         err: &mut E,
     ) -> Result<bool, Status>
-        ensures { ComesFurtherOver S.ByteSource O.ByteSink E.MessageSink (says_fewer result)
+        ensures { ComesOver S.ByteSource O.ByteSink E.MessageSink (says_fewer result)
             source.old source.new out.old out.new err.old err.new
             self.old self.new (going_on result) }
     {
@@ -76,7 +76,7 @@ impl Running {
         requires none_due { due self.old.interpreter.reader.reading ≡ None }
         requires takes { TakesAtBeginning self.old.interpreter.reader.reading }
         requires none_half { self.old.unread.input.escapes ≡ [] }
-        ensures { ComesFurtherOver S.ByteSource O.ByteSink E.MessageSink (says_fewer result)
+        ensures { ComesOver S.ByteSource O.ByteSink E.MessageSink (says_fewer result)
             source.old source.new out.old out.new err.old err.new
             self.old self.new (going_on result) }
     {
@@ -84,7 +84,8 @@ impl Running {
         self.pass_control_front(source, out, err)
     }
 
-    /// The same behind blanks where a branch begins.
+    /// Takes the front of a control line at once, where one may begin behind blanks, and then bytes
+    /// behind it, or takes the end of a call. Returns whether a line begins behind them.
     #[inline(always)]
     fn pass_control_front<S: ByteSource, O: ByteSink, E: MessageSink>(
         &mut self,
@@ -96,7 +97,7 @@ impl Running {
         requires none_due { due self.old.interpreter.reader.reading ≡ None }
         requires takes { TakesAtBeginning self.old.interpreter.reader.reading }
         requires none_half { self.old.unread.input.escapes ≡ [] }
-        ensures { ComesFurtherOver S.ByteSource O.ByteSink E.MessageSink (says_fewer result)
+        ensures { ComesOver S.ByteSource O.ByteSink E.MessageSink (says_fewer result)
             source.old source.new out.old out.new err.old err.new
             self.old self.new (going_on result) }
     {
@@ -123,7 +124,7 @@ impl Running {
     /// is then put into place too.
     #[inline(never)]
     fn pass_behind_front<S: ByteSource>(&mut self, source: &mut S) -> bool
-        ensures { GoesFurtherOver result S.ByteSource source.old source.new self.old self.new }
+        ensures { GoesPastOver S.ByteSource result source.old source.new self.old self.new }
     {
         self.pass_line(source)
     }
@@ -155,7 +156,7 @@ impl Running {
     /// Returns whether it took that.
     #[inline(always)]
     fn pass_line<S: ByteSource>(&mut self, source: &mut S) -> bool
-        ensures { GoesFurtherOver result S.ByteSource source.old source.new self.old self.new }
+        ensures { GoesPastOver S.ByteSource result source.old source.new self.old self.new }
     {
         match run_kind(&self.interpreter.reader, &self.unread) {
             Some(kind) => self.pass_run(kind, source),
@@ -169,10 +170,11 @@ impl Running {
         }
     }
 
-    /// The same of bytes of a string's name, of the beginning of its text, or of a title's part.
+    /// Takes bytes in front of a string's name, of the beginning of its text, or of a title's part,
+    /// and then the end of a text behind them. Returns whether it took that.
     #[inline(never)]
     fn pass_apart<S: ByteSource>(&mut self, source: &mut S) -> bool
-        ensures { GoesFurtherOver result S.ByteSource source.old source.new self.old self.new }
+        ensures { GoesPastOver S.ByteSource result source.old source.new self.old self.new }
     {
         self.take_string_name(source);
         self.take_string_front(source);
@@ -180,11 +182,12 @@ impl Running {
         self.pass_end()
     }
 
-    /// The same of bytes that do this.
+    /// Takes bytes in front that do this, and then the newline or the end of a text behind them.
+    /// Returns whether it took that.
     #[inline(always)]
     fn pass_run<S: ByteSource>(&mut self, kind: RunKind, source: &mut S) -> bool
         requires { IsRun kind self.old.interpreter.reader.reading self.old.unread.input.escapes }
-        ensures { GoesFurtherOver result S.ByteSource source.old source.new self.old self.new }
+        ensures { GoesPastOver S.ByteSource result source.old source.new self.old self.new }
     {
         match kind {
             RunKind::Dropped { within_block } => self.pass_dropped(within_block, source),
@@ -203,7 +206,7 @@ impl Running {
     #[inline(always)]
     fn take_bytes<S: ByteSource>(&mut self, kind: RunKind, source: &mut S) -> bool
         requires { IsRun kind self.old.interpreter.reader.reading self.old.unread.input.escapes }
-        ensures { GoesFurtherOver result S.ByteSource source.old source.new self.old self.new }
+        ensures { GoesPastOver S.ByteSource result source.old source.new self.old self.new }
     {
         match kind {
             RunKind::Text => self.tell_line(source),
@@ -242,7 +245,7 @@ impl Running {
     fn pass_dropped<S: ByteSource>(&mut self, within_block: bool, source: &mut S) -> bool
         requires { IsRun (DroppedRun within_block) self.old.interpreter.reader.reading
             self.old.unread.input.escapes }
-        ensures { GoesFurtherOver result S.ByteSource source.old source.new self.old self.new }
+        ensures { GoesPastOver S.ByteSource result source.old source.new self.old self.new }
     {
         let kind = RunKind::Dropped { within_block };
         take_run(&mut self.interpreter.reader, kind, &mut self.unread, source);
@@ -259,7 +262,7 @@ impl Running {
         requires ends { EndsByNewline self.old.interpreter.reader.reading }
         requires none_due { due self.old.interpreter.reader.reading ≡ None }
         requires none_half { self.old.unread.input.escapes ≡ [] }
-        ensures { GoesFurtherOver result S.ByteSource source.old source.new self.old self.new }
+        ensures { GoesPastOver S.ByteSource result source.old source.new self.old self.new }
     {
         if !self.unread.pass_newline(source) {
             return false;

@@ -27,7 +27,7 @@ impl Running {
         }
     }
 
-    /// The same of what is due.
+    /// Does this, which is due. An `Err` is the status of a run that ended.
     #[inline(never)]
     fn carry_out<E: MessageSink>(&mut self, what: Due, err: &mut E) -> Result<(), Status>
         requires { due self.old.interpreter.reader.reading ≡ Some what }

@@ -40,8 +40,8 @@ impl Running {
         }
     }
 
-    /// The same where one did, and others that are performed then may once more: fewer of them are
-    /// left each time, or the open word or field ends.
+    /// Goes on behind an event that stopped those behind it, which are performed then. One of them
+    /// may stop once more: fewer of them are left each time, or the open word or field ends.
     #[cold]
     #[inline(never)]
     fn go_on_behind_event<O: ByteSink, E: MessageSink>(
@@ -67,7 +67,8 @@ impl Running {
         Ok(())
     }
 
-    /// The same up to where one of the others stops those behind it: the one that did is returned.
+    /// Goes on behind an event that stopped those behind it, up to one of these that stops the
+    /// others: that one is returned.
     fn go_on_once<O: ByteSink, E: MessageSink>(
         &mut self,
         sprung: Sprung,
@@ -177,7 +178,7 @@ impl Running {
         }
     }
 
-    /// The same where one goes on.
+    /// Puts the events back that were left, behind one that goes on.
     fn put_going_on(&mut self, sprung: Sprung)
         requires { sprung.why ≡ GoesOnLeft }
         ensures { PutsBack (left_behind sprung self.old.interpreter.reader.meaning.events)

@@ -9,7 +9,7 @@ use read_shortcuts::step_register;
 use roff_scan::ByteSource;
 
 impl Running {
-    ghost use Rattle.run_turns.specs.Running.Turning.{GoesFurtherOver};
+    ghost use Rattle.run_turns.specs.Running.Turning.{GoesPastOver};
 
     /// Takes the escape of a string that stands whole in front on a text line, as
     /// [`tell_string`](Running::tell_string) does; or that of a register that is stepped, whose
@@ -17,7 +17,7 @@ impl Running {
     #[inline(always)]
     pub(super) fn tell_other<S: ByteSource>(&mut self, source: &mut S) -> bool
         requires { IsRun TextRun self.old.interpreter.reader.reading self.old.unread.input.escapes }
-        ensures further { GoesFurtherOver result S.ByteSource source.old source.new
+        ensures further { GoesPastOver S.ByteSource result source.old source.new
             self.old self.new }
         ensures half { self.new.unread.input.escapes ≡ self.old.unread.input.escapes }
         ensures reads { self.new.interpreter.reader.reading
@@ -34,7 +34,7 @@ impl Running {
     #[inline(always)]
     fn tell_stepped<S: ByteSource>(&mut self, source: &mut S) -> bool
         requires { IsRun TextRun self.old.interpreter.reader.reading self.old.unread.input.escapes }
-        ensures further { GoesFurtherOver result S.ByteSource source.old source.new
+        ensures further { GoesPastOver S.ByteSource result source.old source.new
             self.old self.new }
         ensures half { self.new.unread.input.escapes ≡ self.old.unread.input.escapes }
         ensures reads { self.new.interpreter.reader.reading

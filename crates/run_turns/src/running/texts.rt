@@ -19,7 +19,7 @@ use roff_scan::ByteSource;
 use run_model::{LineState, Status, TextLine};
 
 impl Running {
-    ghost use Rattle.run_turns.specs.Running.Turning.{ComesFurtherOver, DoesItem, TellsOver};
+    ghost use Rattle.run_turns.specs.Running.Turning.{ComesOver, DoesItem, GoesPastOver};
     ghost use Rattle.run_turns.specs.Running.Turning.{TurnsOver};
 
     /// Takes the item in front on this text line, where nothing is half read: most often a byte
@@ -48,7 +48,8 @@ impl Running {
         }
     }
 
-    /// The same where a line begins.
+    /// Takes the item in front where a line begins, and nothing is half read: most often a byte
+    /// that stands ready, behind which bytes are told. Returns whether they are.
     #[inline(always)]
     pub(super) fn turn_first<S: ByteSource, O: ByteSink, E: MessageSink>(
         &mut self,
@@ -104,7 +105,7 @@ impl Running {
         out: &mut O,
         err: &mut E,
     ) -> Result<bool, Status>
-        ensures { ComesFurtherOver S.ByteSource O.ByteSink E.MessageSink false
+        ensures { ComesOver S.ByteSource O.ByteSink E.MessageSink false
             source.old source.new out.old out.new err.old err.new
             self.old self.new (going_on result) }
     {
@@ -143,7 +144,8 @@ impl Running {
         }
     }
 
-    /// The same of any byte.
+    /// Takes this byte on this text line, where nothing is half read; the byte before it stood on
+    /// this line.
     #[inline(always)]
     fn take_on_line<O: ByteSink, E: MessageSink>(
         &mut self,
@@ -178,7 +180,7 @@ impl Running {
         requires none_half { self.old.unread.input.escapes ≡ [] }
         ensures none_due { due self.new.interpreter.reader.reading ≡ None }
         ensures none_half { self.new.unread.input.escapes ≡ [] }
-        ensures past { TellsOver S.ByteSource source.old source.new self.old self.new }
+        ensures past { GoesPastOver S.ByteSource false source.old source.new self.old self.new }
     {
         match self.interpreter.reader.reading() {
             LineState::LineStart => self.begin_text_line(source),
@@ -186,15 +188,15 @@ impl Running {
         }
     }
 
-    /// The same where a line begins, and then takes the escape of a register or a string behind
-    /// them.
+    /// Tells bytes of plain text that stand in front where a line begins, and takes the escape of a
+    /// register or a string behind them. Returns whether a control line may begin instead.
     #[inline(always)]
     fn begin_text_line<S: ByteSource>(&mut self, source: &mut S) -> bool
         requires begins { self.old.interpreter.reader.reading ≡ LineStart }
         requires none_half { self.old.unread.input.escapes ≡ [] }
         ensures none_due { due self.new.interpreter.reader.reading ≡ None }
         ensures none_half { self.new.unread.input.escapes ≡ [] }
-        ensures past { TellsOver S.ByteSource source.old source.new self.old self.new }
+        ensures past { GoesPastOver S.ByteSource false source.old source.new self.old self.new }
     {
         match self.begin_text(source) {
             Behind::Untold => true,
@@ -206,8 +208,8 @@ impl Running {
         }
     }
 
-    /// The same where a line begins. Returns what lies behind them, or that a control line may
-    /// begin.
+    /// Tells bytes of plain text that stand in front where a line begins, if no interrupted one
+    /// goes on. Returns what lies behind them, or that a control line may begin.
     #[inline(always)]
     fn begin_text<S: ByteSource>(&mut self, source: &mut S) -> Behind
         requires begins { self.old.interpreter.reader.reading ≡ LineStart }
@@ -216,7 +218,7 @@ impl Running {
         ensures none_half { self.new.unread.input.escapes ≡ [] }
         ensures prints { result ≡ Named → IsRun TextRun self.new.interpreter.reader.reading
             self.new.unread.input.escapes }
-        ensures past { TellsOver S.ByteSource source.old source.new self.old self.new }
+        ensures past { GoesPastOver S.ByteSource false source.old source.new self.old self.new }
     {
         let environments = &self.interpreter.formatter.composer.environments;
         match environments.interrupted_line() {
@@ -225,7 +227,8 @@ impl Running {
         }
     }
 
-    /// The same where no interrupted line goes on.
+    /// Tells bytes of plain text that stand in front where a line begins, and no interrupted one
+    /// goes on. Returns what lies behind them, or that a control line may begin.
     #[inline(always)]
     fn begin_line<S: ByteSource>(&mut self, source: &mut S) -> Behind
         requires begins { self.old.interpreter.reader.reading ≡ LineStart }
@@ -236,7 +239,7 @@ impl Running {
         ensures none_half { self.new.unread.input.escapes ≡ [] }
         ensures prints { result ≡ Named → IsRun TextRun self.new.interpreter.reader.reading
             self.new.unread.input.escapes }
-        ensures past { TellsOver S.ByteSource source.old source.new self.old self.new }
+        ensures past { GoesPastOver S.ByteSource false source.old source.new self.old self.new }
     {
         let front = self.unread.front(source);
         if !begin_with_text(front) {

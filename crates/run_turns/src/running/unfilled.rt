@@ -28,7 +28,7 @@ use run_items::Interpreter;
 use run_model::{LineState, Status};
 
 impl Running {
-    ghost use Rattle.run_turns.specs.Running.Turning.{ComesFurtherOver, DoesItem};
+    ghost use Rattle.run_turns.specs.Running.Turning.{ComesOver, DoesItem};
 
     /// What [`end_line_at_once`](Running::end_line_at_once) does where a line begins.
     #[inline(always)]
@@ -39,7 +39,7 @@ impl Running {
         err: &mut E,
     ) -> Option<Result<(), Status>>
         ensures ends { IfSome result (λ r.
-            ComesFurtherOver S.ByteSource O.ByteSink E.MessageSink true
+            ComesOver S.ByteSource O.ByteSink E.MessageSink true
             source.old source.new out.old out.new err.old err.new self.old self.new r) }
         ensures unchanged { result ≡ None → (self.new ≡ self.old) × (source.new ≡ source.old) }
         ensures sinks { result ≡ None → (out.new ≡ out.old) × (err.new ≡ err.old) }
@@ -60,7 +60,7 @@ impl Running {
         err: &mut E,
     ) -> Option<Result<(), Status>>
         ensures ends { IfSome result (λ r.
-            ComesFurtherOver S.ByteSource O.ByteSink E.MessageSink true
+            ComesOver S.ByteSource O.ByteSink E.MessageSink true
             source.old source.new out.old out.new err.old err.new self.old self.new r) }
         ensures unchanged { result ≡ None → (self.new ≡ self.old) × (source.new ≡ source.old) }
         ensures sinks { result ≡ None → (out.new ≡ out.old) × (err.new ≡ err.old) }
@@ -71,7 +71,8 @@ impl Running {
         self.end_line_in_front(source, out, err)
     }
 
-    /// The same where nothing is half read.
+    /// Tells and ends a text line that stands in front up to its newline, where nothing is half
+    /// read. Else nothing happens.
     #[inline(never)]
     fn end_line_in_front<S: ByteSource, O: ByteSink, E: MessageSink>(
         &mut self,
@@ -81,7 +82,7 @@ impl Running {
     ) -> Option<Result<(), Status>>
         requires none_half { self.old.unread.input.escapes ≡ [] }
         ensures ends { IfSome result (λ r.
-            ComesFurtherOver S.ByteSource O.ByteSink E.MessageSink true
+            ComesOver S.ByteSource O.ByteSink E.MessageSink true
             source.old source.new out.old out.new err.old err.new self.old self.new r) }
         ensures unchanged { result ≡ None → (self.new ≡ self.old) × (source.new ≡ source.old) }
         ensures sinks { result ≡ None → (out.new ≡ out.old) × (err.new ≡ err.old) }

@@ -1,11 +1,11 @@
-use Rattle.std.proofs.Common.{ap, ◌∙◌}
+use Rattle.std.proofs.Common.{false, ap, ◌∙◌}
 use Rattle.run_model.specs.Reading.Ends.{due}
-use Rattle.run_turns.proofs.PassingOn.{goes_past_if_both}
+use Rattle.run_turns.proofs.ComingFurther.{comes_both, comes_further}
 use Rattle.run_turns.proofs.running.Running.begin_text_line.Goals as goal
 
 pub returns-in-Named-clause-past : goal.returns-in-Named-clause-past
 returns-in-Named-clause-past g c = λ out err.
-    goes_past_if_both _ _ _ _ _ _ _ _ _ _ _ _ _ (c.begin_text.ensures.past out err) (c.take_named.ensures.further out err).past
+    comes_both false (c.begin_text.ensures.past out err) (comes_further (c.take_named.ensures.further out err))
 
 pub returns-in-Named-clause-none_half : goal.returns-in-Named-clause-none_half
 returns-in-Named-clause-none_half g c = c.take_named.ensures.half ∙ c.begin_text.ensures.none_half

@@ -1,17 +1,16 @@
-use Rattle.std.proofs.Common.{ap, arith, refl, sym, take, ◌∙◌}
+use Rattle.std.proofs.Common.{false, ap, arith, refl, sym, take, ◌∙◌}
 use Rattle.run_events.specs.declared.formatter.Formatter.{Formatter}
 use Rattle.read_lines.specs.Reader.State.{ReaderState}
 use Rattle.read_shortcuts.proofs.LinesBegun.{escapes-passed, is_run-begun}
-use Rattle.run_turns.proofs.PassingOn.{goes_past_if_both, goes_past_kept}
 use Rattle.run_turns.proofs.GlyphsTold.{begins_with, goes_past_begun_glyph, no_newline_in_front, two_in_front}
+use Rattle.run_turns.proofs.ComingFurther.{comes_none, comes_both, comes_nowhere}
 use Rattle.run_turns.proofs.running.Running.begin_with_glyph.Goals as goal
 
 pub returns-then-not-tell_glyph-clause-past : goal.returns-then-not-tell_glyph-clause-past
 returns-then-not-tell_glyph-clause-past g c = λ out err.
-    let past = goes_past_kept _ _ _ _ _ _ out err c.args.self.now _ refl refl refl
+    comes_nowhere _ _ _ _ _ _ out err c.args.self.now _ refl refl refl
     (ap (λ (f : Formatter). record c.args.self.now { interpreter = record c.args.self.now.interpreter { formatter = f } })
-    (c.tell_glyph.ensures.untold c.if-not-tell_glyph.true)) in
-    record { limits = past.limits; taken = past.taken; before = past.before; past = past.past; turns = λ so. past.turns }
+    (c.tell_glyph.ensures.untold c.if-not-tell_glyph.true))
 
 pub pass-requires-clause-front : goal.pass-requires-clause-front
 pass-requires-clause-front g c =
@@ -32,7 +31,7 @@ pub returns-else-not-tell_glyph-clause-past : goal.returns-else-not-tell_glyph-c
 returns-else-not-tell_glyph-clause-past g c = λ out err.
     let front = c.front.result.now in
     let begins = begins_with c.in-Some.glyph front (sym c.glyph_in_front.ensures ∙ c.in-Some.is) in
-    goes_past_if_both _ _ _ _ _ _ _ _ _ _ _ _ _
+    comes_both false
     (goes_past_begun_glyph c.args.self.now c.tell_glyph.new.self c.in-Some.glyph begins.letter begins.prints
     (c.tell_glyph.ensures.told c.if-not-tell_glyph.false) c.requires.none_half c.requires.begins c.requires.none_goes_on _ (sym c.go_on.ensures)
     _ _ _ front _ _ _ _ out err _ (ap (take 2) begins.is) (two_in_front c.in-Some.glyph front begins) c.front.ensures.bytes
@@ -45,3 +44,6 @@ pub returns-else-not-tell_glyph-clause-prints : goal.returns-else-not-tell_glyph
 returns-else-not-tell_glyph-clause-prints g c = λ named.
     is_run-begun _ _ (ap (λ (r : ReaderState). r.reading) c.tell_behind_glyph.ensures.reads ∙ ap (λ (r : ReaderState). r.reading) c.go_on.ensures)
     (c.tell_behind_glyph.ensures.half ∙ escapes-passed _ _ _ _ _ c.pass.ensures.passes ∙ c.requires.none_half)
+
+pub returns-in-None-clause-past : goal.returns-in-None-clause-past
+returns-in-None-clause-past g c = λ out err. comes_none _ _ _ _

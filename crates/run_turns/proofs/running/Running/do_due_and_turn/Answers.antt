@@ -6,7 +6,7 @@ pub turn-requires : goal.turn-requires
 turn-requires g c = (c.in-Ok.ensures 0 (g.O.ByteSink.sunk c.args.out.now)).none_due
 
 pub returns-in-Ok : goal.returns-in-Ok
-returns-in-Ok g c = comes_both false _ _ _ _ _ _ _ _ _ _ _ _ _ _ (comes_due _ _ _ _ _ _ _ (c.in-Ok.ensures _ _)) c.turn.ensures
+returns-in-Ok g c = comes_both false (comes_due _ _ (c.in-Ok.ensures _ _)) c.turn.ensures
 
 pub returns-in-Err : goal.returns-in-Err
-returns-in-Err g c = comes_ended _ _ _ _ _ _ _ _ _ _ _ (comes_due _ _ _ _ _ _ _ (c.in-Err.ensures _ _))
+returns-in-Err g c = comes_ended (comes_due _ _ (c.in-Err.ensures _ _))

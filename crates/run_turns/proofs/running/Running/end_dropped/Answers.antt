@@ -1,13 +1,13 @@
 use Rattle.std.proofs.Common.{ap}
 use Rattle.run_model.specs.Reading.Items.{PageUnread}
-use Rattle.run_turns.proofs.PassingOn.{goes_further_ended, goes_further_none, goes_past_kept}
+use Rattle.run_turns.proofs.PassingOn.{goes_further_ended}
+use Rattle.run_turns.proofs.ComingFurther.{comes_nowhere}
 use Rattle.run_turns.proofs.running.Running.end_dropped.Goals as goal
 
 pub returns-then-not-pass_newline : goal.returns-then-not-pass_newline
 returns-then-not-pass_newline g c = λ out err.
     let kept = c.pass_newline.ensures.unchanged c.if-not-pass_newline.true in
-    goes_further_none _ _ _ _ _ _ _ _
-    (goes_past_kept _ _ _ _ _ _ out err c.args.self.now _ (ap g.S.ByteSource.gives kept.1) (ap g.S.ByteSource.notes kept.1) (ap g.S.ByteSource.failures kept.1)
+    (comes_nowhere _ _ _ _ _ _ out err c.args.self.now _ (ap g.S.ByteSource.gives kept.1) (ap g.S.ByteSource.notes kept.1) (ap g.S.ByteSource.failures kept.1)
     (ap (λ (u : PageUnread). record c.args.self.now { unread = u }) kept.0))
 
 pub returns : goal.returns

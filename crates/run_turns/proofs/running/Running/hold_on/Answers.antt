@@ -1,8 +1,8 @@
 use Rattle.std.proofs.Common.{ap}
 use Rattle.read_shortcuts.specs.Runs.{run_holding}
 use Rattle.run_items.specs.declared.interpreter.Interpreter.{Interpreter}
-use Rattle.run_turns.proofs.PassingOn.{goes_further_none}
-use Rattle.run_turns.proofs.PutRegisters.{goes_further_on, run-kept}
+use Rattle.run_turns.proofs.PutRegisters.{run-kept}
+use Rattle.run_turns.proofs.ComingFurther.{comes_further, comes_on}
 use Rattle.run_turns.proofs.running.Running.hold_on.Goals as goal
 
 pub take_arguments-requires : goal.take_arguments-requires
@@ -10,8 +10,8 @@ take_arguments-requires g c =
     run-kept (run_holding c.args.most) c.args.self.now c.hold_named.new.self (ap (λ (i : Interpreter). i.reader.reading) c.hold_named.ensures.reads) c.hold_named.ensures.half c.requires
 
 pub returns-then-not-hold_named : goal.returns-then-not-hold_named
-returns-then-not-hold_named g c = λ out err. goes_further_none _ _ _ _ _ _ _ _ (c.hold_named.ensures.further out err).past
+returns-then-not-hold_named g c = λ out err. comes_further (c.hold_named.ensures.further out err)
 
 pub returns : goal.returns
 returns g c = λ out err.
-    goes_further_on _ _ _ _ _ _ _ _ _ _ _ _ _ _ c.if-not-hold_named.false (c.hold_named.ensures.further out err) (c.take_arguments.ensures.past out err)
+    comes_on _ _ c.if-not-hold_named.false (c.hold_named.ensures.further out err) (c.take_arguments.ensures.past out err)

@@ -1,12 +1,13 @@
 use Rattle.std.proofs.Common.{ap, refl}
-use Rattle.run_turns.proofs.PutRegisters.{goes_further_register, half_register}
+use Rattle.run_turns.proofs.PutRegisters.{goes_further_held, goes_past_or_stays, half_register}
 use Rattle.run_turns.proofs.running.Running.hold_text.Goals as goal
 
 pub returns-clause-further : goal.returns-clause-further
 returns-clause-further g c = λ out err.
     let took = c.hold_text.ensures in
-    goes_further_register _ _ _ _ _ _ out err c.args.self.now _ _ refl c.requires.none_due took.holds
-    (λ none. let kept = took.unchanged none in (kept.0, ap g.S.ByteSource.gives kept.1, ap g.S.ByteSource.notes kept.1)) took.notes took.failures
+    goes_past_or_stays _ _ _ _ _ _ out err c.args.self.now _ _ refl
+    (λ held. goes_further_held _ _ _ _ _ _ out err c.args.self.now _ (took.holds held) c.requires.none_due took.notes took.failures)
+    (λ none. let kept = took.unchanged none in (kept.0, ap g.S.ByteSource.gives kept.1, ap g.S.ByteSource.notes kept.1)) took.failures
 
 pub returns-clause-half : goal.returns-clause-half
 returns-clause-half g c =

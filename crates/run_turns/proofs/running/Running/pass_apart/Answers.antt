@@ -1,11 +1,12 @@
+use Rattle.std.proofs.Common.{false}
 use Rattle.run_turns.proofs.PassingEnds.{goes_further_passed}
-use Rattle.run_turns.proofs.PassingOn.{goes_further_both}
+use Rattle.run_turns.proofs.ComingFurther.{comes_both}
 use Rattle.run_turns.proofs.running.Running.pass_apart.Goals as goal
 
 pub returns : goal.returns
 returns g c = λ out err.
     let ends = c.pass_end.ensures in
-    goes_further_both _ _ _ _ _ _ _ _ _ _ _ _ _ (c.take_string_name.ensures out err)
-    (goes_further_both _ _ _ _ _ _ _ _ _ _ _ _ _ (c.take_string_front.ensures out err)
-    (goes_further_both _ _ _ _ _ _ _ _ _ _ _ _ _ (c.take_title_front.ensures out err)
+    comes_both false (c.take_string_name.ensures out err)
+    (comes_both false (c.take_string_front.ensures out err)
+    (comes_both false (c.take_title_front.ensures out err)
     (goes_further_passed _ _ _ ends.none_due ends.takes ends.passes ends.within ends.unchanged ends.others _ _ _)))

@@ -4,7 +4,7 @@ use Rattle.read_lines.specs.Reader.State.{ReaderState}
 use Rattle.run_model.specs.Reading.Items.{PageUnread}
 use Rattle.run_model.specs.Reading.Ends.{due}
 use Rattle.run_model.specs.Reading.Waiting.{line_waits}
-use Rattle.run_turns.proofs.ComingFurther.{comes_any, comes_past}
+use Rattle.run_turns.proofs.ComingFurther.{comes_any}
 use Rattle.run_turns.proofs.ConditionsAtOnce.{goes_further_at_once}
 use Rattle.run_turns.proofs.ControlsRead.{comes_behind, comes_unread}
 use Rattle.run_turns.proofs.LinesEnded.{comes-line}
@@ -26,7 +26,7 @@ returns-in-Dropped g c =
     let out = g.O.ByteSink.sunk c.args.out.now in
     let err = told_by g.E.MessageSink c.args.err.now in
     let read = c.read_control_front.ensures.read in
-    comes_past _ _ _ _ _ _ _ _ _ (goes_further_begun _ _ _ _ _ _ out err c.args.self.now _ _ (read.past (ap is_past c.in-Dropped.is)) (read.dropped c.in-Dropped.is) read.notes read.failures)
+    goes_further_begun _ _ _ _ _ _ out err c.args.self.now _ _ (read.past (ap is_past c.in-Dropped.is)) (read.dropped c.in-Dropped.is) read.notes read.failures
 
 pub returns-in-Held : goal.returns-in-Held
 returns-in-Held g c =
@@ -64,7 +64,7 @@ returns-in-HeldToEnd g c =
     let out = g.O.ByteSink.sunk c.args.out.now in
     let err = told_by g.E.MessageSink c.args.err.now in
     let read = c.read_control_front.ensures.read in
-    comes_any _ _ _ _ _ _ _ _ _ _
+    comes_any _
     (comes-line _ _ _ _ _ _ out err c.args.self.now _ _ (read.line c.in-HeldToEnd.is) _ _ _ read.notes read.failures (c.end_control_line.ensures _))
 
 pub pass_condition-requires : goal.pass_condition-requires
@@ -83,7 +83,7 @@ returns-in-Decided g c =
     let out = g.O.ByteSink.sunk c.args.out.now in
     let err = told_by g.E.MessageSink c.args.err.now in
     let read = c.read_control_front.ensures.read in
-    comes_past _ _ _ _ _ _ _ _ _ (goes_further_at_once _ _ _ _ _ _ out err c.args.self.now _ _ (read.decides c.in-Decided.is) read.notes read.failures)
+    goes_further_at_once _ _ _ _ _ _ out err c.args.self.now _ _ (read.decides c.in-Decided.is) read.notes read.failures
 
 pub returns-in-Nothing : goal.returns-in-Nothing
 returns-in-Nothing g c =

@@ -1,9 +1,8 @@
-use Rattle.std.proofs.Common.{subst, sym, ap, ◌∙◌}
+use Rattle.std.proofs.Common.{false, subst, sym, ap, ◌∙◌}
 use Rattle.read_shortcuts.specs.ControlFronts.{BeginsControl, TakesAtBeginning}
 use Rattle.run_model.specs.Reading.Ends.{due}
 use Rattle.run_turns.specs.declared.running.Running.{Running as Coded}
-use Rattle.run_turns.proofs.ComingFurther.{comes_both, comes_past}
-use Rattle.run_turns.proofs.PassingOn.{goes_further_none}
+use Rattle.run_turns.proofs.ComingFurther.{comes_both}
 use Rattle.page_bytes.specs.Told.{told_by}
 use Rattle.run_turns.proofs.running.Running.pass_control_line.Goals as goal
 
@@ -23,4 +22,4 @@ pub returns : goal.returns
 returns g c =
     let out = g.O.ByteSink.sunk c.args.out.now in
     let err = told_by g.E.MessageSink c.args.err.now in
-    comes_both _ _ _ _ _ _ _ _ _ _ _ _ _ _ _ (comes_past _ _ _ _ _ _ _ _ _ (goes_further_none _ _ _ _ _ _ _ _ (c.take_branch_blanks.ensures.past out err))) c.pass_control_front.ensures
+    comes_both false (c.take_branch_blanks.ensures.past out err) c.pass_control_front.ensures

@@ -1,9 +1,9 @@
-use Rattle.std.proofs.Common.{ap, sym, subst, ◌∙◌}
+use Rattle.std.proofs.Common.{false, ap, sym, subst, ◌∙◌}
 use Rattle.read_lines.specs.Reader.State.{ReaderState}
 use Rattle.run_model.specs.Reading.Ends.{due}
 use Rattle.run_model.specs.Stages.{EndsByNewline}
-use Rattle.run_turns.proofs.PassingOn.{goes_further_both, goes_further_none}
 use Rattle.run_turns.proofs.Turned.{goes_past_turned}
+use Rattle.run_turns.proofs.ComingFurther.{comes_both}
 use Rattle.run_turns.proofs.running.Running.pass_dropped.Goals as goal
 
 pub end_dropped-requires-clause-ends : goal.end_dropped-requires-clause-ends
@@ -16,10 +16,10 @@ end_dropped-requires-clause-none_due g c = ap (λ (r : ReaderState). due r.readi
 pub returns-then-not-has_open_escape : goal.returns-then-not-has_open_escape
 returns-then-not-has_open_escape g c = λ out err.
     let took = c.take_run.ensures in
-    goes_further_both _ _ _ _ _ _ _ _ _ _ _ _ _
+    comes_both false
     (goes_past_turned _ _ _ _ _ _ out err c.args.self.now _ _ took.past took.notes took.failures) (c.end_dropped.ensures out err)
 
 pub returns-else-not-within_block : goal.returns-else-not-within_block
 returns-else-not-within_block g c = λ out err.
     let took = c.take_run.ensures in
-    goes_further_none _ _ _ _ _ _ _ _ (goes_past_turned _ _ _ _ _ _ out err c.args.self.now _ _ took.past took.notes took.failures)
+    goes_past_turned _ _ _ _ _ _ out err c.args.self.now _ _ took.past took.notes took.failures

@@ -1,7 +1,6 @@
-use Rattle.run_turns.proofs.ComingFurther.{comes_past}
 use Rattle.page_bytes.specs.Told.{told_by}
 use Rattle.run_turns.proofs.running.Running.pass_over.Goals as goal
 
 pub returns-else-begins_control_line : goal.returns-else-begins_control_line
 returns-else-begins_control_line g c =
-    comes_past _ _ _ _ _ _ _ _ _ (c.pass_line.ensures (g.O.ByteSink.sunk c.args.out.now) (told_by g.E.MessageSink c.args.err.now))
+    c.pass_line.ensures (g.O.ByteSink.sunk c.args.out.now) (told_by g.E.MessageSink c.args.err.now)

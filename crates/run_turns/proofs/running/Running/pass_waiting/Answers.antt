@@ -3,7 +3,7 @@ use Rattle.run_model.specs.Reading.Items.{PageUnread}
 use Rattle.run_items.proofs.HalfEnded.{byte-seen}
 use Rattle.run_turns.proofs.EndsAtOnce.{ends-expression, goes_past_expression, waits-reading}
 use Rattle.run_turns.proofs.PassingEnds.{goes_past_seen}
-use Rattle.run_turns.proofs.PassingOn.{goes_past_none}
+use Rattle.run_turns.proofs.ComingFurther.{comes_none}
 use Rattle.run_turns.proofs.running.Running.pass_waiting.Goals as goal
 
 pub returns-then-is_ended_by-clause-past : goal.returns-then-is_ended_by-clause-past
@@ -23,4 +23,4 @@ returns-else-is_ended_by-clause-past g c = λ out err.
     done.ensures.passes c.stays_within-else-is_ended_by.ensures done.ensures.unchanged refl _ _ _
 
 pub returns-in-None-clause-past : goal.returns-in-None-clause-past
-returns-in-None-clause-past g c = λ out err. goes_past_none _ _ _ _
+returns-in-None-clause-past g c = λ out err. comes_none _ _ _ _

@@ -5,9 +5,9 @@ use Rattle.run_turns.proofs.running.Running.step.Goals as goal
 pub returns-then-passed : goal.returns-then-passed
 returns-then-passed g c =
     let passed = rw c.if-passed.true at c.in-Ok.ensures in
-    comes_any _ _ _ _ _ _ _ _ _ _ passed
+    comes_any _ passed
 
 pub returns-else-passed : goal.returns-else-passed
 returns-else-passed g c =
     let passed = rw c.if-passed.false at c.in-Ok.ensures in
-    comes_both false _ _ _ _ _ _ _ _ _ _ _ _ _ _ passed c.do_due_and_turn.ensures
+    comes_both false passed c.do_due_and_turn.ensures

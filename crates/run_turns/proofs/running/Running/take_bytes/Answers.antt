@@ -1,5 +1,4 @@
-use Rattle.run_turns.proofs.PassingOn.{goes_further_none}
 use Rattle.run_turns.proofs.running.Running.take_bytes.Goals as goal
 
 pub returns-in_default : goal.returns-in_default
-returns-in_default g c = λ out err. goes_further_none _ _ _ _ _ _ _ _ (c.take_run.ensures out err)
+returns-in_default g c = λ out err. c.take_run.ensures out err

@@ -1,7 +1,5 @@
 use Rattle.std.proofs.Common.{◌≡◌, Err, Ok, rules}
-use Rattle.run_turns.proofs.ComingFurther.{comes_any_as, comes_none, comes_past}
-use Rattle.run_turns.proofs.PassingOn.{goes_further_none}
-use Rattle.run_turns.proofs.Unfilled.{comes_kept}
+use Rattle.run_turns.proofs.ComingFurther.{comes_any_as, comes_kept, comes_none}
 use Rattle.page_bytes.specs.Told.{told_by}
 use Rattle.run_turns.proofs.running.Running.tell_behind.Goals as goal
 
@@ -15,15 +13,15 @@ returns-in-None g c =
     let out = g.O.ByteSink.sunk c.args.out.now in
     let err = told_by g.E.MessageSink c.args.err.now in
     let past = rw kept.1 at (c.tell_on.ensures out err) in
-    let comes = comes_kept _ _ _ _ _ _ _ _ _ _ _ kept.0 (comes_past _ _ _ _ _ _ _ _ _ (goes_further_none _ _ _ _ _ _ _ _ past)) in
+    let comes = comes_kept kept.0 past in
     rw (said.0, said.1) comes
 
 pub returns-in-Some-Ok : goal.returns-in-Some-Ok
 returns-in-Some-Ok g c =
     let is : c.in-Some-Ok.field-0 ≡ Ok (record {}) = search rules in
-    comes_any_as _ _ _ _ _ _ _ _ _ _ _ is c.in-Some-Ok.ensures.ends
+    comes_any_as _ is c.in-Some-Ok.ensures.ends
 
 pub returns-in-Some-Err : goal.returns-in-Some-Err
 returns-in-Some-Err g c =
     let is : c.in-Some-Err.field-0 ≡ Err c.in-Some-Err.status = search rules in
-    comes_any_as _ _ _ _ _ _ _ _ _ _ _ is c.in-Some-Err.ensures.ends
+    comes_any_as _ is c.in-Some-Err.ensures.ends

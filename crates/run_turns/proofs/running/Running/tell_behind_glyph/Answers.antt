@@ -1,8 +1,8 @@
-use Rattle.std.proofs.Common.{ap, ◌∙◌}
+use Rattle.std.proofs.Common.{false, ap, ◌∙◌}
 use Rattle.read_lines.specs.Reader.State.{ReaderState}
 use Rattle.roff_scan.specs.declared.run_kind.RunKind.TheVariants.{Text}
-use Rattle.run_turns.proofs.PassingOn.{goes_past_both}
 use Rattle.run_turns.proofs.PutRegisters.{run-kept}
+use Rattle.run_turns.proofs.ComingFurther.{comes_both}
 use Rattle.run_turns.proofs.running.Running.tell_behind_glyph.Goals as goal
 
 pub tell_glyphs-requires : goal.tell_glyphs-requires
@@ -11,11 +11,11 @@ tell_glyphs-requires g c =
 
 pub returns-in-Untold-tell_glyphs-clause-past : goal.returns-in-Untold-tell_glyphs-clause-past
 returns-in-Untold-tell_glyphs-clause-past g c = λ out err.
-    goes_past_both _ _ _ _ _ _ _ _ _ _ _ _ (c.tell_front.ensures.past out err) (c.tell_glyphs.ensures.past out err)
+    comes_both false (c.tell_front.ensures.past out err) (c.tell_glyphs.ensures.past out err)
 
 pub returns-in_default : goal.returns-in_default
 returns-in_default g c = record {
-  past = λ out err. goes_past_both _ _ _ _ _ _ _ _ _ _ _ _ (c.tell_front.ensures.past out err) (c.tell_glyphs.ensures.past out err);
+  past = λ out err. comes_both false (c.tell_front.ensures.past out err) (c.tell_glyphs.ensures.past out err);
   half = c.tell_glyphs.ensures.half ∙ c.tell_front.ensures.half;
   reads = c.tell_glyphs.ensures.reads ∙ c.tell_front.ensures.reads;
 }

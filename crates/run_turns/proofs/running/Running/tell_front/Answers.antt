@@ -2,12 +2,12 @@ use Rattle.std.proofs.Common.{sym, ◌∙◌}
 use Rattle.read_shortcuts.proofs.LinesBegun.{escapes-passed}
 use Rattle.run_turns.proofs.BehindTexts.{behind-told, behind-untold}
 use Rattle.run_turns.proofs.Telling.{goes_past_told}
-use Rattle.run_turns.proofs.PassingOn.{goes_past_none}
 use Rattle.run_turns.proofs.Unfilled.{no_newline_told}
+use Rattle.run_turns.proofs.ComingFurther.{comes_none}
 use Rattle.run_turns.proofs.running.Running.tell_front.Goals as goal
 
 pub returns-then-not-begins_above_controls-clause-past : goal.returns-then-not-begins_above_controls-clause-past
-returns-then-not-begins_above_controls-clause-past g c = λ out err. goes_past_none _ _ _ _
+returns-then-not-begins_above_controls-clause-past g c = λ out err. comes_none _ _ _ _
 
 pub returns-clause-past : goal.returns-clause-past
 returns-clause-past g c = λ out err.

@@ -1,13 +1,13 @@
 use Rattle.std.proofs.Common.{ap, arith, refl, sym, take, ◌∙◌}
 use Rattle.run_events.specs.declared.formatter.Formatter.{Formatter}
 use Rattle.read_shortcuts.proofs.LinesBegun.{escapes-passed}
-use Rattle.run_turns.proofs.PassingOn.{goes_past_kept}
 use Rattle.run_turns.proofs.GlyphsTold.{begins_with, goes_on_behind, goes_past_glyph, no_newline_in_front, two_in_front}
+use Rattle.run_turns.proofs.ComingFurther.{comes_none, comes_nowhere}
 use Rattle.run_turns.proofs.running.Running.tell_glyph.Goals as goal
 
 pub returns-then-not-tell_glyph-clause-past : goal.returns-then-not-tell_glyph-clause-past
 returns-then-not-tell_glyph-clause-past g c = λ out err.
-    goes_past_kept _ _ _ _ _ _ out err c.args.self.now _ refl refl refl
+    comes_nowhere _ _ _ _ _ _ out err c.args.self.now _ refl refl refl
     (ap (λ (f : Formatter). record c.args.self.now { interpreter = record c.args.self.now.interpreter { formatter = f } })
     (c.tell_glyph.ensures.untold c.if-not-tell_glyph.true))
 
@@ -33,3 +33,9 @@ returns-else-not-tell_glyph-clause-past g c = λ out err.
 
 pub returns-else-not-tell_glyph-clause-half : goal.returns-else-not-tell_glyph-clause-half
 returns-else-not-tell_glyph-clause-half g c = escapes-passed _ _ _ _ _ c.pass.ensures.passes
+
+pub returns-then-not-is_behind_glyph-clause-past : goal.returns-then-not-is_behind_glyph-clause-past
+returns-then-not-is_behind_glyph-clause-past g c = λ out err. comes_none _ _ _ _
+
+pub returns-in-None-clause-past : goal.returns-in-None-clause-past
+returns-in-None-clause-past g c = λ out err. comes_none _ _ _ _

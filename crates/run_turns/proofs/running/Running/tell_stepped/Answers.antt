@@ -6,8 +6,8 @@ use Rattle.read_shortcuts.specs.Stepped.{StepsText}
 use Rattle.read_shortcuts.proofs.RegistersHeld.{half-read, reads_text, room-left}
 use Rattle.run_turns.specs.declared.running.Running.{Running as Coded}
 use Rattle.read_lines.specs.Reader.State.{ReaderState}
-use Rattle.run_turns.proofs.PassingOn.{goes_further_none, goes_past_kept}
 use Rattle.run_turns.proofs.SteppedRegisters.{goes_further_stepped_told, run_with, same_reading}
+use Rattle.run_turns.proofs.ComingFurther.{comes_nowhere}
 use Rattle.run_turns.proofs.running.Running.tell_stepped.Goals as goal
 
 pub push_read-requires-clause-stack : goal.push_read-requires-clause-stack
@@ -62,6 +62,5 @@ pub returns-in-None-clause-further : goal.returns-in-None-clause-further
 returns-in-None-clause-further g c = λ out err.
     let old : Coded = c.args.self.now in
     let kept = c.step_register.ensures.unchanged c.in-None.is in
-    goes_further_none _ _ _ _ _ _ _ _
-    (goes_past_kept _ _ _ _ _ _ out err old _ (ap g.S.ByteSource.gives kept.2) (ap g.S.ByteSource.notes kept.2) (ap g.S.ByteSource.failures kept.2)
+    (comes_nowhere _ _ _ _ _ _ out err old _ (ap g.S.ByteSource.gives kept.2) (ap g.S.ByteSource.notes kept.2) (ap g.S.ByteSource.failures kept.2)
     (ap (λ (r : ReaderState). run_with old r c.step_register.new.unread) kept.0 ∙ ap (λ (u : PageUnread). run_with old old.interpreter.reader u) kept.1))

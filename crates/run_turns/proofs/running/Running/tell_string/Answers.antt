@@ -1,14 +1,14 @@
-use Rattle.std.proofs.Common.{true, ap, ◌∙◌}
+use Rattle.std.proofs.Common.{false, true, ap, ◌∙◌}
 use Rattle.roff_scan.specs.declared.run_kind.RunKind.TheVariants.{Text}
 use Rattle.run_items.specs.declared.interpreter.Interpreter.{Interpreter}
 use Rattle.run_turns.specs.declared.running.Running.{Running as Coded}
 use Rattle.run_turns.proofs.PassingEnds.{goes_further_passed}
-use Rattle.run_turns.proofs.PassingOn.{goes_further_none, goes_past_both}
-use Rattle.run_turns.proofs.PutRegisters.{goes_further_on, half_ended, run-kept}
+use Rattle.run_turns.proofs.PutRegisters.{half_ended, run-kept}
+use Rattle.run_turns.proofs.ComingFurther.{comes_both, comes_further, comes_on}
 use Rattle.run_turns.proofs.running.Running.tell_string.Goals as goal
 
 pub returns-then-not-put_string-clause-further : goal.returns-then-not-put_string-clause-further
-returns-then-not-put_string-clause-further g c = λ out err. goes_further_none _ _ _ _ _ _ _ _ (c.put_string.ensures.further out err).past
+returns-then-not-put_string-clause-further g c = λ out err. comes_further (c.put_string.ensures.further out err)
 
 pub tell_front-requires : goal.tell_front-requires
 tell_front-requires g c =
@@ -17,9 +17,9 @@ tell_front-requires g c =
 pub returns-clause-further : goal.returns-clause-further
 returns-clause-further g c = λ out err.
     let ends = c.pass_end.ensures in
-    goes_further_on _ true _ _ _ _ _ _ _ _ _ _ _ _ c.if-not-put_string.false (c.put_string.ensures.further out err)
-    (goes_past_both _ _ _ _ _ _ _ _ _ _ _ _ (c.tell_front.ensures.past out err)
-    (goes_further_passed _ _ _ ends.none_due ends.takes ends.passes ends.within ends.unchanged ends.others _ _ _).past)
+    comes_on _ true c.if-not-put_string.false (c.put_string.ensures.further out err)
+    (comes_both false (c.tell_front.ensures.past out err)
+    (comes_further (goes_further_passed _ _ _ ends.none_due ends.takes ends.passes ends.within ends.unchanged ends.others _ _ _)))
 
 pub returns-clause-half : goal.returns-clause-half
 returns-clause-half g c =

@@ -1,12 +1,13 @@
+use Rattle.std.proofs.Common.{true}
 use Rattle.run_turns.proofs.Turns.{TurnsBy-same}
-use Rattle.run_turns.proofs.Unfilled.{turned_further}
 use Rattle.run_turns.proofs.WaitedBytes.{byte_alone}
+use Rattle.run_turns.proofs.ComingFurther.{comes_both}
 use Rattle.run_turns.proofs.running.Running.turn_first.Goals as goal
 
 pub returns-in-Ok : goal.returns-in-Ok
 returns-in-Ok g c =
     let shown = c.in-Some.ensures in
-    turned_further _ _ _ _ _ _ _ _ _ _ _ _ _ _ _
+    comes_both true
     (byte_alone c.args.self.now _ _ _ _ _ _ shown.failures shown.notes c.in-Some.byte c.line-line_before.result c.take_first.new.self _ _ shown.takes c.requires.none_half c.line-line_before.ensures (c.in-Ok.ensures _))
     c.tell_behind.ensures
 
