@@ -34,7 +34,7 @@ use Rattle.run_model.specs.declared.line_state.LineState.{LineState}
 use Rattle.run_model.specs.declared.line_state.LineState.TheVariants.{LineStart, Text as InText}
 use Rattle.run_model.specs.declared.line_state.TextLine.{TextLine}
 use Rattle.run_model.specs.declared.phase.Phase.{Phase}
-use Rattle.read_shortcuts.specs.Glyphs.{glyph_of_letter}
+use Rattle.read_shortcuts.specs.Glyphs.{glyph_of_letter, prints_itself}
 
 -- a letter that prints this glyph
 pub data IsLetter : ℕ → Glyph → Type 0 where
@@ -43,6 +43,10 @@ pub data IsLetter : ℕ → Glyph → Type 0 where
   WithoutWidth : IsLetter 38 (Blanks 0)
   PrintsBackslash : IsLetter 101 (Printed 92)
   Doubled : IsLetter 92 (Printed 92)
+  Minus : IsLetter 45 (Printed 45)
+  Dot : IsLetter 46 (Printed 46)
+  Acute : IsLetter 39 (Printed 39)
+  Grave : IsLetter 96 (Printed 96)
 
 -- it is one of these, by what it is the same as
 letter-of : (g : Glyph) (n m : ℕ) (other : Glyph) → IsLetter m other → (n == m) ≡ true → Some other ≡ Some g → IsLetter n g
@@ -50,14 +54,27 @@ letter-of g n m other is same gives =
     let glyph : other ≡ g = cc in
     subst (λ (b : ℕ). IsLetter b g) (sym (eqb-true n m same)) (subst (λ (x : Glyph). IsLetter m x) glyph is)
 
+-- one that stands for itself
+itself-of : (g : Glyph) (n m : ℕ) → IsLetter m (Printed m) → (n == m) ≡ true → Some (Printed n) ≡ Some g → IsLetter n g
+itself-of g n m is same gives = letter-of g n m (Printed m) is same (ap (λ (b : ℕ). Some (Printed b)) (sym (eqb-true n m same)) ∙ gives)
+
+itself-by : (g : Glyph) (n : ℕ) (minus dot acute grave : Bool) → (n == 45) ≡ minus → (n == 46) ≡ dot → (n == 39) ≡ acute → (n == 96) ≡ grave
+    → (if minus || dot || acute || grave then Some (Printed n) else None) ≡ Some g → IsLetter n g
+itself-by g n true dot acute grave a b c d gives = itself-of g n 45 Minus a gives
+itself-by g n false true acute grave a b c d gives = itself-of g n 46 Dot b gives
+itself-by g n false false true grave a b c d gives = itself-of g n 39 Acute c gives
+itself-by g n false false false true a b c d gives = itself-of g n 96 Grave d gives
+itself-by g n false false false false a b c d gives = absurd (cc)
+
 letter-by : (g : Glyph) (n : ℕ) (blank digit none letter doubled : Bool) → (n == 32) ≡ blank → (n == 48) ≡ digit → (n == 38) ≡ none → (n == 101) ≡ letter → (n == 92) ≡ doubled
-    → (if blank || digit then Some (Blanks 1) else if none then Some (Blanks 0) else if letter || doubled then Some (Printed 92) else None) ≡ Some g → IsLetter n g
+    → (if blank || digit then Some (Blanks 1) else if none then Some (Blanks 0) else if letter || doubled then Some (Printed 92)
+    else if prints_itself n then Some (Printed n) else None) ≡ Some g → IsLetter n g
 letter-by g n true digit none letter doubled a b c d e gives = letter-of g n 32 (Blanks 1) Unpaddable a gives
 letter-by g n false true none letter doubled a b c d e gives = letter-of g n 48 (Blanks 1) AsWideAsADigit b gives
 letter-by g n false false true letter doubled a b c d e gives = letter-of g n 38 (Blanks 0) WithoutWidth c gives
 letter-by g n false false false true doubled a b c d e gives = letter-of g n 101 (Printed 92) PrintsBackslash d gives
 letter-by g n false false false false true a b c d e gives = letter-of g n 92 (Printed 92) Doubled e gives
-letter-by g n false false false false false a b c d e gives = absurd (cc)
+letter-by g n false false false false false a b c d e gives = itself-by g n (n == 45) (n == 46) (n == 39) (n == 96) refl refl refl refl gives
 
 pub is_letter : (g : Glyph) (n : ℕ) → glyph_of_letter n ≡ Some g → IsLetter n g
 is_letter g n gives = letter-by g n (n == 32) (n == 48) (n == 38) (n == 101) (n == 92) refl refl refl refl refl gives
@@ -83,6 +100,10 @@ prints-behind k other brace i _ _ AsWideAsADigit = refl
 prints-behind k other brace i _ _ WithoutWidth = refl
 prints-behind k other brace i _ _ PrintsBackslash = refl
 prints-behind k other brace i _ _ Doubled = refl
+prints-behind k other brace i _ _ Minus = refl
+prints-behind k other brace i _ _ Dot = refl
+prints-behind k other brace i _ _ Acute = refl
+prints-behind k other brace i _ _ Grave = refl
 
 pub reads_behind : (rs : AllRegisters) (reading : LineState) (other brace : Bool) → reading ≡ InText (behind_glyph other brace)
     → ReadsLetters rs reading other brace (λ h. Unit {0})
@@ -101,6 +122,10 @@ prints-first k i _ _ AsWideAsADigit none = ap (λ (line : Option TextLine). behi
 prints-first k i _ _ WithoutWidth none = ap (λ (line : Option TextLine). behind_events (going_on_told line) (escape_taking (with_escapes [] i) (line_begun_as line) 38)) none
 prints-first k i _ _ PrintsBackslash none = ap (λ (line : Option TextLine). behind_events (going_on_told line) (escape_taking (with_escapes [] i) (line_begun_as line) 101)) none
 prints-first k i _ _ Doubled none = ap (λ (line : Option TextLine). behind_events (going_on_told line) (escape_taking (with_escapes [] i) (line_begun_as line) 92)) none
+prints-first k i _ _ Minus none = ap (λ (line : Option TextLine). behind_events (going_on_told line) (escape_taking (with_escapes [] i) (line_begun_as line) 45)) none
+prints-first k i _ _ Dot none = ap (λ (line : Option TextLine). behind_events (going_on_told line) (escape_taking (with_escapes [] i) (line_begun_as line) 46)) none
+prints-first k i _ _ Acute none = ap (λ (line : Option TextLine). behind_events (going_on_told line) (escape_taking (with_escapes [] i) (line_begun_as line) 39)) none
+prints-first k i _ _ Grave none = ap (λ (line : Option TextLine). behind_events (going_on_told line) (escape_taking (with_escapes [] i) (line_begun_as line) 96)) none
 
 pub reads_first : (rs : AllRegisters) (reading : LineState) → reading ≡ LineStart → ReadsLetters rs reading false false (λ h. interrupted_line h ≡ None)
 reads_first rs reading is =
@@ -117,6 +142,10 @@ stays _ _ AsWideAsADigit = refl
 stays _ _ WithoutWidth = refl
 stays _ _ PrintsBackslash = refl
 stays _ _ Doubled = refl
+stays _ _ Minus = refl
+stays _ _ Dot = refl
+stays _ _ Acute = refl
+stays _ _ Grave = refl
 
 -- a run that reads this on, with these registers and messages
 module _ (l : Limits) (reading : LineState) (other brace : Bool) (rs : AllRegisters) (messages : List ℕ) (phase : Phase) (closed : Bool)

@@ -33,4 +33,5 @@ pub mod SteppedNames
 pub mod SteppingRuns
 pub mod SteppedText
 pub mod LettersRead
+pub mod FontsRead
 pub mod LinesBegun

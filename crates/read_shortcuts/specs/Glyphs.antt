@@ -6,13 +6,18 @@ use Rattle.run_model.specs.declared.line_state.LineState.{LineState}
 use Rattle.run_model.specs.declared.line_state.LineState.TheVariants.{Text as InText}
 use Rattle.input_source.specs.Bytes.{backslash}
 
--- the glyph that this letter prints behind a backslash, if it prints one of these: an unpaddable blank, a glyph without width, or a
--- backslash
+-- whether one of these stands for itself behind a backslash: a minus, a dot, an acute or a grave accent
+abbrev pub prints_itself : ℕ → Bool
+prints_itself b = b == 45 || b == 46 || b == 39 || b == 96
+
+-- the glyph that this letter prints behind a backslash, if it prints one of these: an unpaddable blank, a glyph without width, a
+-- backslash, or itself
 abbrev pub glyph_of_letter : ℕ → Option Glyph
 glyph_of_letter b =
     if b == 32 || b == 48 then Some (Blanks 1)
     else if b == 38 then Some (Blanks 0)
     else if b == 101 || b == 92 then Some (Printed 92)
+    else if prints_itself b then Some (Printed b)
     else None
 
 -- the same of the bytes behind a backslash

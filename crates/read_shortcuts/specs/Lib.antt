@@ -13,3 +13,4 @@ pub mod ControlReads
 pub mod SteppedNames
 pub mod Stepped
 pub mod Glyphs
+pub mod Fonts

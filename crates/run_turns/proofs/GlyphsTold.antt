@@ -34,11 +34,18 @@ use Rattle.run_items.specs.Outcome.{seen}
 use Rattle.run_items.specs.Performing.{going}
 use Rattle.page_bytes.specs.Sinks.{Sunk}
 use Rattle.read_shortcuts.specs.Glyphs.{glyph_behind, glyph_in_front, is_behind_glyph}
+use Rattle.read_shortcuts.specs.Runs.{IsRun}
+use Rattle.run_model.proofs.TextBytes.{prints_text}
+use Rattle.run_model.specs.Telling.{Prints}
+use Rattle.read_shortcuts.specs.Fonts.{behind_font}
+use Rattle.run_model.specs.Reading.Ends.{due}
+use Rattle.input_escapes.specs.OpenEscape.{OpenEscape}
+use Rattle.roff_scan.specs.declared.run_kind.RunKind.TheVariants.{Text as TextRun}
 use Rattle.run_turns.specs.Running.Turning.{GoesPast, IsAt, line_turns, lines_left_in, turns_of_run}
 use Rattle.run_turns.specs.declared.running.Running.{Running as Coded}
 use Rattle.read_shortcuts.proofs.LinesBegun.{turns-begun}
 use Rattle.run_turns.proofs.BytesPassed.{ComesBehind, goes_past-passed}
-use Rattle.read_shortcuts.proofs.LettersRead.{AsWideAsADigit, Doubled, IsLetter, PrintsBackslash, Unpaddable, WithoutWidth, ReadsLetters, behind_glyph, is_letter, leads-letter, reads_behind, reads_first}
+use Rattle.read_shortcuts.proofs.LettersRead.{Acute, AsWideAsADigit, Dot, Doubled, Grave, IsLetter, Minus, PrintsBackslash, Unpaddable, WithoutWidth, ReadsLetters, behind_glyph, is_letter, leads-letter, reads_behind, reads_first}
 use Rattle.run_items.proofs.FewRead.{few-alone}
 use Rattle.run_turns.proofs.Passing.{IsAt-leads}
 use Rattle.run_turns.proofs.Telling.{told_by}
@@ -79,6 +86,10 @@ letter-no_newline _ _ AsWideAsADigit = refl
 letter-no_newline _ _ WithoutWidth = refl
 letter-no_newline _ _ PrintsBackslash = refl
 letter-no_newline _ _ Doubled = refl
+letter-no_newline _ _ Minus = refl
+letter-no_newline _ _ Dot = refl
+letter-no_newline _ _ Acute = refl
+letter-no_newline _ _ Grave = refl
 
 pub no_newline_in_front : (g : Glyph) (front ready : List ℕ) (u : PageUnread) → BeginsWith front g → front ≡ front_bytes (length front) ready u
     → NoNewline (front_bytes 2 ready u)
@@ -120,6 +131,22 @@ goes_on_behind (Told aborts) is = absurd (cc)
 goes_on_behind Exiting is = absurd (cc)
 goes_on_behind TitleFront is = absurd (cc)
 goes_on_behind (InTitle delimiter) is = absurd (cc)
+
+-- bytes of plain text are told behind a glyph
+is_run-glyph : (other brace : Bool) (reading : LineState) (half : List OpenEscape) → reading ≡ InText (behind_glyph other brace) → half ≡ [] → IsRun TextRun reading half
+is_run-glyph other brace reading half is none_half = record {
+  does = λ b text. subst (λ (r : LineState). Prints r b) (sym is) (prints_text (behind_glyph other brace) refl refl b text);
+  half_read = none_half;
+  none_due = ap due is;
+}
+
+-- and so they are behind the escape of a font
+pub is_run-font : (taken : Bool) (old new : LineState) (half : List OpenEscape) → is_behind_glyph old ≡ true → new ≡ (if taken then behind_font old else old) → half ≡ []
+    → IsRun TextRun new half
+is_run-font true old new half behind is none_half =
+    let line = goes_on_behind old behind in is_run-glyph true line.brace new half (is ∙ ap behind_font line.is) none_half
+is_run-font false old new half behind is none_half =
+    let line = goes_on_behind old behind in is_run-glyph line.other line.brace new half (is ∙ line.is) none_half
 
 -- the escape of a glyph that the formatter printed, where letters are read so, and nothing is half read; no more turns are to come behind it
 module _ (old : Coded) (f : Formatter) (g : Glyph) (b : ℕ) (other brace : Bool) (letter : IsLetter b g) (told : TellsGlyph g old.interpreter.formatter f)

@@ -1,4 +1,4 @@
-//! Glyphs of a text line whose escapes have one letter, told at once.
+//! Glyphs of a text line whose escapes have one letter, told at once, and escapes of fonts.
 
 ghost use Rattle.std.specs.Prelude.{◌≡◌, [], None, false};
 ghost use Rattle.run_state.specs.Composer.Standing.{StandFor};
@@ -14,6 +14,7 @@ use super::Running;
 use super::fronts::Behind;
 use super::texts::BEHIND_GLYPH;
 use page_model::Glyph;
+use read_shortcuts::take_font;
 use roff_scan::ByteSource;
 use run_model::LineState;
 
@@ -24,19 +25,19 @@ impl Running {
     ghost use Rattle.run_turns.specs.Running.Turning.{GoesPastOver};
     ghost use Rattle.run_turns.specs.declared.running.fronts.Behind.TheVariants.{Named};
 
-    /// Tells the glyphs whose escapes of one letter stand in front, and the plain text behind each.
-    /// Returns what lies behind them.
+    /// Tells the glyphs whose escapes of one letter stand in front, and takes those of fonts, with
+    /// the plain text behind each. Returns what lies behind them.
     #[inline(never)]
     pub(super) fn tell_glyphs<S: ByteSource>(&mut self, source: &mut S) -> Behind
         requires { IsRun TextRun self.old.interpreter.reader.reading self.old.unread.input.escapes }
         ensures past { GoesPastOver S.ByteSource false source.old source.new self.old self.new }
-        ensures half { self.new.unread.input.escapes ≡ self.old.unread.input.escapes }
-        ensures reads { self.new.interpreter.reader ≡ self.old.interpreter.reader }
+        ensures run { IsRun TextRun self.new.interpreter.reader.reading
+            self.new.unread.input.escapes }
     {
         let mut left = MOST_GLYPHS;
         while left > 0 {
             left -= 1;
-            if !self.tell_glyph(source) {
+            if !self.tell_escape(source) {
                 return Behind::Escape;
             }
             match self.tell_front(source) {
@@ -81,6 +82,35 @@ impl Running {
                 false
             }
         }
+    }
+
+    /// Tells the glyph whose escape of one letter stands in front, or takes the escape of a font.
+    /// Returns whether it did.
+    #[inline(always)]
+    fn tell_escape<S: ByteSource>(&mut self, source: &mut S) -> bool
+        requires { IsRun TextRun self.old.interpreter.reader.reading self.old.unread.input.escapes }
+        ensures past { GoesPastOver S.ByteSource false source.old source.new self.old self.new }
+        ensures run { IsRun TextRun self.new.interpreter.reader.reading
+            self.new.unread.input.escapes }
+    {
+        if self.tell_glyph(source) {
+            return true;
+        }
+        self.pass_font(source)
+    }
+
+    /// Takes the escape of a font that stands whole in front behind a glyph. Returns whether it did.
+    #[inline(always)]
+    fn pass_font<S: ByteSource>(&mut self, source: &mut S) -> bool
+        requires { IsRun TextRun self.old.interpreter.reader.reading self.old.unread.input.escapes }
+        ensures past { GoesPastOver S.ByteSource false source.old source.new self.old self.new }
+        ensures run { IsRun TextRun self.new.interpreter.reader.reading
+            self.new.unread.input.escapes }
+    {
+        if !self.is_behind_glyph() {
+            return false;
+        }
+        take_font(&mut self.interpreter.reader, &mut self.unread, source)
     }
 
     /// Tells the glyph whose escape of one letter stands in front. Returns whether it did: behind a
@@ -140,14 +170,14 @@ impl Running {
         }
     }
 
-    /// Tells plain text, and glyphs whose escapes have one letter, with the text behind them.
-    /// Returns what lies behind them.
+    /// Tells plain text, and glyphs whose escapes have one letter, with the text behind them, and
+    /// takes escapes of fonts. Returns what lies behind them.
     #[inline(always)]
     fn tell_behind_glyph<S: ByteSource>(&mut self, source: &mut S) -> Behind
         requires { IsRun TextRun self.old.interpreter.reader.reading self.old.unread.input.escapes }
         ensures past { GoesPastOver S.ByteSource false source.old source.new self.old self.new }
-        ensures half { self.new.unread.input.escapes ≡ self.old.unread.input.escapes }
-        ensures reads { self.new.interpreter.reader ≡ self.old.interpreter.reader }
+        ensures run { IsRun TextRun self.new.interpreter.reader.reading
+            self.new.unread.input.escapes }
     {
         match self.tell_front(source) {
             Behind::Untold => Behind::Other,
@@ -194,6 +224,10 @@ fn glyph_of_letter(letter: u8) -> Option<Glyph>
         b'&' => Some(Glyph::Blanks(0)),
         b'e' => Some(Glyph::Printed(b'\\')),
         b'\\' => Some(Glyph::Printed(b'\\')),
+        b'-' => Some(Glyph::Printed(b'-')),
+        b'.' => Some(Glyph::Printed(b'.')),
+        b'\'' => Some(Glyph::Printed(b'\'')),
+        b'`' => Some(Glyph::Printed(b'`')),
         _ => None,
     }
 }

@@ -38,12 +38,13 @@ returns-else-not-tell_glyph-clause-past g c = λ out err.
     c.pass.ensures.passes c.pass.ensures.notes c.pass.ensures.failures) (c.tell_behind_glyph.ensures.past out err)
 
 pub returns-else-not-tell_glyph-clause-none_half : goal.returns-else-not-tell_glyph-clause-none_half
-returns-else-not-tell_glyph-clause-none_half g c = c.tell_behind_glyph.ensures.half ∙ escapes-passed _ _ _ _ _ c.pass.ensures.passes ∙ c.requires.none_half
+returns-else-not-tell_glyph-clause-none_half g c = c.tell_behind_glyph.ensures.run.half_read
+
+pub returns-else-not-tell_glyph-clause-none_due : goal.returns-else-not-tell_glyph-clause-none_due
+returns-else-not-tell_glyph-clause-none_due g c = c.tell_behind_glyph.ensures.run.none_due
 
 pub returns-else-not-tell_glyph-clause-prints : goal.returns-else-not-tell_glyph-clause-prints
-returns-else-not-tell_glyph-clause-prints g c = λ named.
-    is_run-begun _ _ (ap (λ (r : ReaderState). r.reading) c.tell_behind_glyph.ensures.reads ∙ ap (λ (r : ReaderState). r.reading) c.go_on.ensures)
-    (c.tell_behind_glyph.ensures.half ∙ escapes-passed _ _ _ _ _ c.pass.ensures.passes ∙ c.requires.none_half)
+returns-else-not-tell_glyph-clause-prints g c = λ named. c.tell_behind_glyph.ensures.run
 
 pub returns-in-None-clause-past : goal.returns-in-None-clause-past
 returns-in-None-clause-past g c = λ out err. comes_none _ _ _ _

@@ -16,6 +16,5 @@ returns-in-Untold-tell_glyphs-clause-past g c = λ out err.
 pub returns-in_default : goal.returns-in_default
 returns-in_default g c = record {
   past = λ out err. comes_both false (c.tell_front.ensures.past out err) (c.tell_glyphs.ensures.past out err);
-  half = c.tell_glyphs.ensures.half ∙ c.tell_front.ensures.half;
-  reads = c.tell_glyphs.ensures.reads ∙ c.tell_front.ensures.reads;
+  run = c.tell_glyphs.ensures.run;
 }

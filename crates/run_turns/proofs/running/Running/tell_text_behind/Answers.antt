@@ -1,7 +1,4 @@
-use Rattle.std.proofs.Common.{false, ap}
-use Rattle.read_lines.specs.Reader.State.{ReaderState}
-use Rattle.roff_scan.specs.declared.run_kind.RunKind.TheVariants.{Text}
-use Rattle.run_turns.proofs.PutRegisters.{run-kept}
+use Rattle.std.proofs.Common.{false}
 use Rattle.run_turns.proofs.ComingFurther.{comes_both, comes_further}
 use Rattle.run_turns.proofs.running.Running.tell_text_behind.Goals as goal
 
@@ -15,8 +12,7 @@ pub returns-in-Escape : goal.returns-in-Escape
 returns-in-Escape g c = λ out err. comes_both false (c.tell_glyphs.ensures.past out err) (comes_further (c.read_escape.ensures out err))
 
 pub read_named-requires : goal.read_named-requires
-read_named-requires g c =
-    run-kept Text c.args.self.now c.tell_glyphs.new.self (ap (λ (r : ReaderState). r.reading) c.tell_glyphs.ensures.reads) c.tell_glyphs.ensures.half c.requires
+read_named-requires g c = c.tell_glyphs.ensures.run
 
 pub returns-in-Named : goal.returns-in-Named
 returns-in-Named g c = λ out err. comes_both false (c.tell_glyphs.ensures.past out err) (comes_further (c.read_named.ensures out err))
