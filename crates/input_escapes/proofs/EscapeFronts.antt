@@ -1,7 +1,14 @@
 -- Fronts of escapes that read a name: what is half read behind them.
 use Rattle.std.proofs.Common.{◌≡◌, ℕ, suc, ◌+◌, ◌<◌, Bool, true, List, [], ◌∷◌, ◌++◌, length, drop, take, get_or, refl, sym, ap, subst, ◌∙◌, arith}
 use Rattle.std.proofs.Math.Seq.{take-suc}
-use Rattle.input_escapes.specs.OpenEscape.{OpenEscape, texts_held}
+use Rattle.std.specs.Prelude.{false, not, ◌&&◌, ◌||◌, ◌==◌}
+use Rattle.std.proofs.lemmas.Bool.{eqb-true}
+use Rattle.input_source.specs.Bytes.{backslash, is_argument_byte, is_dropped, newline}
+use Rattle.input_escapes.specs.OpenEscape.{Backslash, Comment, OpenEscape, texts_held}
+use Rattle.input_escapes.specs.EscapeTexts.{IsOnTop}
+use Rattle.input_escapes.specs.Nesting.{IsNested}
+use Rattle.input_escapes.specs.Waiting.{takes_backslash_alone}
+use Rattle.input_escapes.specs.declared.open_escape.HeldEscape.TheVariants.{Backslash as BackslashRead, Comment as CommentRead}
 use Rattle.input_escapes.specs.EscapeFronts.{ByteRead, HalvesRead, NothingRead, ReadsByte, ReadsFront, ReadsOn}
 use Rattle.input_escapes.specs.EscapeTexts.{KeptEscapes, leaving}
 use Rattle.input_escapes.specs.OpenEscapes.{byte_read}
@@ -60,3 +67,47 @@ pub HalvesRead-held : (half last : List OpenEscape) (bytes : List ℕ) → Halve
     → texts_held last ≡ texts_held half
 HalvesRead-held _ last _ (NothingRead half) = refl
 HalvesRead-held half _ _ (ByteRead _ next last b bytes reads others) = HalvesRead-held next last bytes others ∙ reads.held
+
+-- a comment may stand where a backslash stands
+pub IsNested-comment : (half : List OpenEscape) → IsNested half → (top : IsOnTop BackslashRead half) → IsNested (Comment ∷ drop 1 half)
+IsNested-comment half nested top =
+    subst (λ (h : List OpenEscape). IsNested (Comment ∷ drop 1 h)) (sym top.same) (subst IsNested top.same nested)
+
+none_both : (a : Bool) → (a && false) ≡ false
+none_both true = refl
+none_both false = refl
+
+-- a quote behind a backslash begins one, wherever that stands
+pub begins-comment : (rest : List OpenEscape) → ReadsOn (Backslash ∷ rest) 34 (Comment ∷ rest)
+begins-comment rest = record {
+  stands = refl;
+  no_newline = refl;
+  stays = none_both (takes_backslash_alone rest);
+  goes_on = λ base. refl;
+  held = refl;
+}
+
+-- a byte that is neither dropped nor a newline
+record IsOfComment (b : ℕ) : Type 0 where
+  stands : is_dropped b ≡ false
+  no_newline : (b == newline) ≡ false
+
+neither : (dropped line : Bool) → not (false || (dropped || line)) ≡ true → (dropped ≡ false) × (line ≡ false)
+neither true line none = absurd (cc)
+neither false true none = absurd (cc)
+neither false false none = (refl, refl)
+
+of_comment : (b : ℕ) (is_escape : Bool) → (b == backslash) ≡ is_escape → (is_escape || not (is_escape || (is_dropped b || b == newline))) ≡ true → IsOfComment b
+of_comment b true is so = subst IsOfComment (sym (eqb-true b backslash is)) (record { stands = refl; no_newline = refl })
+of_comment b false is so = let none = neither (is_dropped b) (b == newline) so in record { stands = none.0; no_newline = none.1 }
+
+-- so it changes nothing there
+pub reads-comment : (b : ℕ) (is_read : Bool) (k : KeptEscapes) → IsOnTop CommentRead k.escapes → is_read ≡ (b == backslash || is_argument_byte b) → ReadsByte b is_read k k
+reads-comment b is_read k top is = record {
+  read = λ is_so.
+      let of : IsOfComment b = of_comment b (b == backslash) refl (sym is ∙ is_so) in
+      subst (λ (half : List OpenEscape). ReadsOn half b half) (sym top.same)
+      (record { stands = of.stands; no_newline = of.no_newline; stays = of.no_newline; goes_on = λ base. refl; held = refl });
+  kept = λ isnt. refl;
+  room = refl;
+}

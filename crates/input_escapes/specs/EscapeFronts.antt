@@ -1,4 +1,5 @@
--- Bytes that change only what is half read: the fronts of escapes that read a name (manual, sections 7.2, 8 and 10.1).
+-- Bytes that change only what is half read: the fronts of escapes that read a name (manual, sections 7.2, 8 and 10.1), and comments (the
+-- list of escape sequences before section 1).
 use Rattle.std.specs.Prelude.{◌≡◌, ℕ, ◌≤◌, Bool, true, false, List, [], ◌∷◌, length, take, Some, ◌==◌}
 use Rattle.input_source.specs.Bytes.{is_dropped, newline}
 use Rattle.input_escapes.specs.OpenEscape.{OpenEscape, texts_held}

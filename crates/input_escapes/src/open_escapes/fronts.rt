@@ -17,8 +17,8 @@ use crate::open_escape::{ConditionPart, CopyUnit, HeldEscape, NamePart};
 use input_source::is_argument_byte;
 
 impl OpenEscapes {
-    /// Reads bytes one after another, as long as they are in the front of an escape that reads a
-    /// name. Returns how many.
+    /// Reads bytes one after another, as long as they are of a comment, or in the front of an escape
+    /// that reads a name. Returns how many.
     pub fn read_front(&mut self, bytes: &[u8]) -> usize
         ensures { ReadsFront bytes.now result self.old self.new }
     {
@@ -32,18 +32,44 @@ impl OpenEscapes {
         count
     }
 
-    /// Reads a byte, if it is in the front of an escape that reads a name. Returns whether it was
-    /// read; else nothing happens.
+    /// Reads a byte, if it is of a comment, or in the front of an escape that reads a name. Returns
+    /// whether it was read; else nothing happens.
     #[inline(always)]
     fn read_on(&mut self, byte: u8) -> bool
         ensures { ReadsByte byte result self.old self.new }
     {
         match self.top() {
             None => self.begin_escape(byte),
-            Some(HeldEscape::Backslash) => self.name_escape(byte),
+            Some(HeldEscape::Backslash) => self.read_letter(byte),
             Some(HeldEscape::Name(purpose, part)) => self.read_on_in_name(purpose, part, byte),
+            Some(HeldEscape::Comment) => self.read_on_in_comment(byte),
             Some(_) => false,
         }
+    }
+
+    /// Reads one byte behind a backslash, if it begins a comment, or the front of an escape that
+    /// reads a name. Returns whether it was read.
+    #[inline(always)]
+    fn read_letter(&mut self, byte: u8) -> bool
+        requires nested { IsNested self.old.escapes }
+        requires on_top { IsOnTop HeldEscape.Backslash self.old.escapes }
+        ensures { ReadsByte byte result self.old self.new }
+    {
+        if byte == b'"' {
+            self.pop();
+            self.push(HeldEscape::Comment);
+            return true;
+        }
+        self.name_escape(byte)
+    }
+
+    /// Reads one byte of a comment, unless it may end it or is dropped. Returns whether it was read.
+    #[inline(always)]
+    fn read_on_in_comment(&self, byte: u8) -> bool
+        requires { IsOnTop HeldEscape.Comment self.now.escapes }
+        ensures { ReadsByte byte result self.now self.now }
+    {
+        byte == b'\\' || is_argument_byte(byte)
     }
 
     /// Reads a byte where it may begin an escape: only a backslash is read. Returns whether it was.
