@@ -32,7 +32,7 @@ COMMANDS = {"tables": "both", "measured": "both", "blocks": "both"}
 # puts `Engine::format` into `job::run`, or that into `program::run_over`, with the turn of a byte that stands ready and
 # with the glyph that it adds; and the calls of the environment into functions of `Formatter`.
 STAGES = {
-    "turn": ["roff_tools::job", "roff_tools::program::run_over", "roff_engine", "run_turns"],
+    "turn": ["roff_tools::job", "roff_tools::program::run_over", "roff_engine", "run_shortcuts", "run_turns"],
     "source": ["input_source::source", "cli_devices", "roff_tools"],
     "unread": ["roff_scan::unread", "input_ahead", "input_model"],
     "reader": [

@@ -6,6 +6,7 @@ ghost use Rattle.run_model.specs.Run.{initial};
 ghost use Rattle.page_bytes.specs.Told.{told_by};
 
 use crate::starting::begin;
+use crate::stepping::step;
 use page_bytes::{ByteSink, MessageSink};
 use read_names::first_unread;
 use roff_num::Limits;
@@ -101,7 +102,7 @@ impl Engine {
         }
         let mut is_told = false;
         loop {
-            match running.step(is_told, source, out, err) {
+            match step(&mut running, is_told, source, out, err) {
                 Ok(told) => is_told = told,
                 Err(status) => return status,
             }

@@ -4,6 +4,7 @@
 mod engine;
 pub mod laws;
 mod starting;
+mod stepping;
 
 pub use engine::Engine;
 pub use run_model::{Start, Status, TooManyRegisters};

@@ -2,10 +2,8 @@
 pub use Rattle.run_items.specs.Outcome.{Beginning, OutcomeOf, Seen, seen}
 pub use Rattle.run_model.specs.Messages.{message_line}
 pub use Rattle.run_model.specs.Reading.Ends.{due}
-pub use Rattle.run_model.specs.Reading.Waiting.{waiting_in}
 pub use Rattle.run_model.specs.declared.line_state.Due.TheVariants.{Leaves, Tells}
 pub use Rattle.run_model.specs.declared.line_state.LineState.TheVariants.{LineStart}
-pub use Rattle.run_turns.specs.Running.Turning.{falls_told, going_on}
 pub use Rattle.page_bytes.specs.Sinks.{Puts, Sunk}
 pub use Rattle.run_model.specs.declared.message.Message.TheVariants.{ReadFailed}
 pub use Rattle.run_model.specs.declared.status.Status.TheVariants.{Device}

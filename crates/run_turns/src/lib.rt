@@ -1,4 +1,4 @@
-//! A run under way: its turns, bytes that are taken together, and what is done behind events.
+//! A run under way: its turns, and what is done behind events.
 #![tactic(auto)]
 
 mod running;

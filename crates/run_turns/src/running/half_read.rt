@@ -16,10 +16,10 @@ impl Running {
     ghost use Rattle.run_items.specs.Room.{SeesOn};
     ghost use Rattle.run_turns.specs.Running.Turning.{DoesItem, TurnsOver};
 
-    /// Makes a turn where something is half read: it takes the item in front, or waits for a byte,
-    /// or a condition that is read decides.
+    /// Takes the item in front where something is half read, or waits for a byte, or a condition
+    /// that is read decides. An `Err` is the status of a run that ended.
     #[inline(always)]
-    pub(super) fn turn_half_read<S: ByteSource, O: ByteSink, E: MessageSink>(
+    pub fn turn_half_read<S: ByteSource, O: ByteSink, E: MessageSink>(
         &mut self,
         source: &mut S,
         out: &mut O,

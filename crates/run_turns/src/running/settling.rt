@@ -16,7 +16,7 @@ impl Running {
 
     /// Does what is due before anything more is taken. An `Err` is the status of a run that ended.
     #[inline(always)]
-    pub(crate) fn do_due<E: MessageSink>(&mut self, err: &mut E) -> Result<(), Status>
+    pub fn do_due<E: MessageSink>(&mut self, err: &mut E) -> Result<(), Status>
         ensures { (failures : ℕ) (out : Sunk) → DoesDue self.old self.new
             (seen failures out (told_by E.MessageSink err.old))
             (seen failures out (told_by E.MessageSink err.new)) result }

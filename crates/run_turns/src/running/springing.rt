@@ -24,7 +24,7 @@ impl Running {
 
     /// Goes on behind the events of an item, of which one may have stopped the others.
     #[inline(always)]
-    pub(super) fn go_on<O: ByteSink, E: MessageSink>(
+    pub fn go_on<O: ByteSink, E: MessageSink>(
         &mut self,
         sprung: Option<Sprung>,
         out: &mut O,

@@ -1,0 +1,5 @@
+use Rattle.run_turns.proofs.ComingFurther.{comes_none}
+use Rattle.run_shortcuts.proofs.conditions.pass_deciding.Goals as goal
+
+pub returns-in_default-clause-past : goal.returns-in_default-clause-past
+returns-in_default-clause-past g c = λ out err. comes_none _ _ _ _

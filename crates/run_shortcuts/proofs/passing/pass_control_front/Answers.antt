@@ -1,0 +1,106 @@
+use Rattle.std.proofs.Common.{ap, ◌∙◌}
+use Rattle.read_shortcuts.specs.ControlFronts.{is_past, is_read}
+use Rattle.read_lines.specs.Reader.State.{ReaderState}
+use Rattle.run_model.specs.Reading.Items.{PageUnread}
+use Rattle.run_model.specs.Reading.Ends.{due}
+use Rattle.run_model.specs.Reading.Waiting.{line_waits}
+use Rattle.run_turns.proofs.ComingFurther.{comes_any}
+use Rattle.run_shortcuts.proofs.ConditionsAtOnce.{goes_further_at_once}
+use Rattle.run_shortcuts.proofs.ControlsRead.{comes_behind, comes_unread}
+use Rattle.run_shortcuts.proofs.LinesEnded.{comes-line}
+use Rattle.run_shortcuts.proofs.PassingEnds.{goes_further_passed, goes_further_returned}
+use Rattle.run_shortcuts.proofs.PassingOn.{goes_further_begun}
+use Rattle.page_bytes.specs.Told.{told_by}
+use Rattle.run_shortcuts.proofs.passing.pass_control_front.Goals as goal
+
+pub returns-in-Front : goal.returns-in-Front
+returns-in-Front g c =
+    let read = c.read_control_front in
+    let out = g.O.ByteSink.sunk c.args.out.now in
+    let err = told_by g.E.MessageSink c.args.err.now in
+    comes_behind g.S.ByteSource c.args.source.now read.new.source out err c.args.run.now read.new.unread read.new.reader _ read.ensures.read _ _ _ _ _
+    (c.pass_behind_front.ensures out err) (ap is_past c.in-Front.is)
+
+pub returns-in-Dropped : goal.returns-in-Dropped
+returns-in-Dropped g c =
+    let out = g.O.ByteSink.sunk c.args.out.now in
+    let err = told_by g.E.MessageSink c.args.err.now in
+    let read = c.read_control_front.ensures.read in
+    goes_further_begun _ _ _ _ _ _ out err c.args.run.now _ _ (read.past (ap is_past c.in-Dropped.is)) (read.dropped c.in-Dropped.is) read.notes read.failures
+
+pub returns-in-Held : goal.returns-in-Held
+returns-in-Held g c =
+    let read = c.read_control_front in
+    let out = g.O.ByteSink.sunk c.args.out.now in
+    let err = told_by g.E.MessageSink c.args.err.now in
+    comes_behind g.S.ByteSource c.args.source.now read.new.source out err c.args.run.now read.new.unread read.new.reader _ read.ensures.read _ _ _ _ _
+    (let ends = c.pass_end.ensures in
+    goes_further_passed _ _ _ ends.none_due ends.takes ends.passes ends.within ends.unchanged ends.others _ _ _) (ap is_past c.in-Held.is)
+
+pub hold_on-requires : goal.hold_on-requires
+hold_on-requires g c = c.read_control_front.ensures.read.escape c.in-HeldToEscape.is
+
+pub returns-in-HeldToEscape : goal.returns-in-HeldToEscape
+returns-in-HeldToEscape g c =
+    let read = c.read_control_front in
+    let out = g.O.ByteSink.sunk c.args.out.now in
+    let err = told_by g.E.MessageSink c.args.err.now in
+    comes_behind g.S.ByteSource c.args.source.now read.new.source out err c.args.run.now read.new.unread read.new.reader _ read.ensures.read _ _ _ _ _
+    (c.hold_on.ensures out err) (ap is_past c.in-HeldToEscape.is)
+
+pub hold_call_on-requires : goal.hold_call_on-requires
+hold_call_on-requires g c = c.read_control_front.ensures.read.call c.in-HeldForCall.is
+
+pub returns-in-HeldForCall : goal.returns-in-HeldForCall
+returns-in-HeldForCall g c =
+    let read = c.read_control_front in
+    let out = g.O.ByteSink.sunk c.args.out.now in
+    let err = told_by g.E.MessageSink c.args.err.now in
+    comes_behind g.S.ByteSource c.args.source.now read.new.source out err c.args.run.now read.new.unread read.new.reader _ read.ensures.read _ _ _ _ _
+    (c.hold_call_on.ensures out err) (ap is_past c.in-HeldForCall.is)
+
+pub returns-in-HeldToEnd : goal.returns-in-HeldToEnd
+returns-in-HeldToEnd g c =
+    let out = g.O.ByteSink.sunk c.args.out.now in
+    let err = told_by g.E.MessageSink c.args.err.now in
+    let read = c.read_control_front.ensures.read in
+    comes_any _
+    (comes-line _ _ _ _ _ _ out err c.args.run.now _ _ (read.line c.in-HeldToEnd.is) _ _ _ read.notes read.failures (c.end_control_line.ensures _))
+
+pub pass_condition-requires : goal.pass_condition-requires
+pass_condition-requires g c = c.read_control_front.ensures.read.condition c.in-Condition.is
+
+pub returns-in-Condition : goal.returns-in-Condition
+returns-in-Condition g c =
+    let read = c.read_control_front in
+    let out = g.O.ByteSink.sunk c.args.out.now in
+    let err = told_by g.E.MessageSink c.args.err.now in
+    comes_behind g.S.ByteSource c.args.source.now read.new.source out err c.args.run.now read.new.unread read.new.reader _ read.ensures.read _ _ _ _ _
+    (c.pass_condition.ensures out err) (ap is_past c.in-Condition.is)
+
+pub returns-in-Decided : goal.returns-in-Decided
+returns-in-Decided g c =
+    let out = g.O.ByteSink.sunk c.args.out.now in
+    let err = told_by g.E.MessageSink c.args.err.now in
+    let read = c.read_control_front.ensures.read in
+    goes_further_at_once _ _ _ _ _ _ out err c.args.run.now _ _ (read.decides c.in-Decided.is) read.notes read.failures
+
+pub returns-in-Nothing : goal.returns-in-Nothing
+returns-in-Nothing g c =
+    let read = c.read_control_front in
+    let kept = read.ensures.read.unchanged (ap is_read c.in-Nothing.is) in
+    let ends = c.pass_return.ensures in
+    let out = g.O.ByteSink.sunk c.args.out.now in
+    let err = told_by g.E.MessageSink c.args.err.now in
+    comes_unread g.S.ByteSource c.args.source.now read.new.source out err c.args.run.now read.new.unread read.new.reader _ read.ensures.read _ _ _ _ _
+    (goes_further_returned _ _ _ (ap (λ (r : ReaderState). due r.reading) kept.0 ∙ c.requires.none_due)
+    (λ place. ap (λ (r : ReaderState). line_waits r.reading place) kept.0 ∙ c.requires.takes place) (ap (λ (u : PageUnread). u.input.escapes) kept.1 ∙ c.requires.none_half)
+    ends.passes ends.within ends.reads ends.unchanged _ _ _) (ap is_read c.in-Nothing.is)
+
+pub returns-in-Escape : goal.returns-in-Escape
+returns-in-Escape g c =
+    let read = c.read_control_front in
+    let out = g.O.ByteSink.sunk c.args.out.now in
+    let err = told_by g.E.MessageSink c.args.err.now in
+    comes_unread g.S.ByteSource c.args.source.now read.new.source out err c.args.run.now read.new.unread read.new.reader _ read.ensures.read _ _ _ _ _
+    (c.put_string.ensures.further out err) (ap is_read c.in-Escape.is)

@@ -1,0 +1,10 @@
+use Rattle.std.proofs.Common.{false}
+use Rattle.run_shortcuts.proofs.PassingEnds.{goes_further_passed}
+use Rattle.run_turns.proofs.ComingFurther.{comes_both, comes_further}
+use Rattle.run_shortcuts.proofs.passing.pass_run.Goals as goal
+
+pub returns-else-take_bytes : goal.returns-else-take_bytes
+returns-else-take_bytes g c = λ out err.
+    let ends = c.pass_end.ensures in
+    comes_both false (comes_further (c.take_bytes.ensures out err))
+    (goes_further_passed _ _ _ ends.none_due ends.takes ends.passes ends.within ends.unchanged ends.others _ _ _)

@@ -1,0 +1,5 @@
+pub mod Beginning
+pub mod EndsAtOnce
+pub mod BehindText
+pub mod Unfilled
+pub mod Clauses

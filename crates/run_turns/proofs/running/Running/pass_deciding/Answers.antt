@@ -1,5 +1,0 @@
-use Rattle.run_turns.proofs.ComingFurther.{comes_none}
-use Rattle.run_turns.proofs.running.Running.pass_deciding.Goals as goal
-
-pub returns-in_default-clause-past : goal.returns-in_default-clause-past
-returns-in_default-clause-past g c = λ out err. comes_none _ _ _ _

@@ -1,8 +1,0 @@
-use Rattle.run_turns.proofs.ComingFurther.{comes_none}
-use Rattle.run_turns.proofs.running.Running.pass_expression.Goals as goal
-
-pub returns-then-not-is_ended_by-clause-past : goal.returns-then-not-is_ended_by-clause-past
-returns-then-not-is_ended_by-clause-past g c = λ out err. comes_none _ _ _ _
-
-pub returns-in_default-clause-past : goal.returns-in_default-clause-past
-returns-in_default-clause-past g c = λ out err. comes_none _ _ _ _
