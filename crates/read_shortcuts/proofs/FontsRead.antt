@@ -56,17 +56,17 @@ begins_with_font (b ∷ bytes) begins =
     subst (λ (n : ℕ). BeginsWithFont (n ∷ bytes)) (sym (eqb-true b backslash parts.0)) (font_asked bytes parts.1)
 
 -- the byte of its name is neither a backslash nor a newline, isn't dropped, and opens no longer one
-record IsName (b : ℕ) : Type 0 where
-  escape : (b == backslash) ≡ false
-  stays : is_dropped b ≡ false
-  line : (b == newline) ≡ false
-  opens : (b == 40) ≡ false
+pub record IsName (b : ℕ) : Type 0 where
+  pub escape : (b == backslash) ≡ false
+  pub stays : is_dropped b ≡ false
+  pub line : (b == newline) ≡ false
+  pub opens : (b == 40) ≡ false
 
 not_true : (a : Bool) → not a ≡ true → a ≡ false
 not_true true is = absurd (cc)
 not_true false is = refl
 
-is_name : (b : ℕ) → names_font b ≡ true → IsName b
+pub is_name : (b : ℕ) → names_font b ≡ true → IsName b
 is_name b names =
     let parts = both (is_argument_byte b) (not (b == 40)) names in
     let none = none_of_three (b == backslash) (is_dropped b) (b == newline) parts.0 in

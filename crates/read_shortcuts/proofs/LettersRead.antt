@@ -34,6 +34,7 @@ use Rattle.run_model.specs.declared.line_state.LineState.{LineState}
 use Rattle.run_model.specs.declared.line_state.LineState.TheVariants.{LineStart, Text as InText}
 use Rattle.run_model.specs.declared.line_state.TextLine.{TextLine}
 use Rattle.run_model.specs.declared.phase.Phase.{Phase}
+use Rattle.read_shortcuts.proofs.EscapeSteps.{half_at, step-read}
 use Rattle.read_shortcuts.specs.Glyphs.{glyph_of_letter, prints_itself}
 
 -- a letter that prints this glyph
@@ -155,50 +156,22 @@ module _ (l : Limits) (reading : LineState) (other brace : Bool) (rs : AllRegist
 
   -- where it has come to, reading this, with this half read
   abbrev at : LineState → Origin → List ℕ → Tape → List OpenEscape → PageInput → PageHistory → List PageEvent → State
-  at r from bytes tape half i h to_do = told_at l r rs messages phase closed (tape_at from bytes tape) (record i { ahead = ahead_at from bytes; escapes = half }) h to_do
-
-  -- a byte is taken there
-  taken : (from : Origin) (tape : Tape) (b : ℕ) (bytes : List ℕ) (half : List OpenEscape) (i : PageInput) (h : PageHistory) → IsOpenFor from closed
-      → is_ended_by half (Some b) ≡ false → i.charge + 1 ≤ l.bytes
-      → step l (at reading from (b ∷ bytes) tape half i h []) ≡ made l (at reading from (b ∷ bytes) tape half i h []) (byte_taken b (at reading from bytes tape half (behind_byte from b i) h []))
-  taken (FromAhead rest) tape b bytes half i h is_open goes few =
-      byte_ahead_is_taken l (at reading (FromAhead rest) (b ∷ bytes) tape half i h []) b (map ByteAhead bytes ++ rest) refl refl refl reads.none_due refl goes (omega (arith, few))
-  taken (FromSource behind) tape b bytes half i h is_open goes few =
-      bytes_of_the_source_are_taken l (at reading (FromSource behind) (b ∷ bytes) tape half i h []) b
-      (record { going = refl; is_open = is_open; idle = refl; unsprung = refl; none_due = reads.none_due }) refl refl goes (omega (arith, few))
-
-  -- what it means is to be done
-  taken_as-events : (state : State) (j : PageInput) (r : LineState) (events : List PageEvent) → state.messages ≡ messages → state.to_do ≡ []
-      → taken_as (meaning_events j r events) state ≡ record state { input = j; reading = r; to_do = events }
-  taken_as-events state j r events said idle =
-      ap (λ (all : List ℕ). record state { input = j; reading = r; messages = all; to_do = events ++ state.to_do }) (append-nil state.messages)
-      ∙ ap (λ (es : List PageEvent). record state { input = j; reading = r; to_do = events ++ es }) idle
-      ∙ ap (λ (es : List PageEvent). record state { input = j; reading = r; to_do = es }) (append-nil events)
+  at r from bytes tape half i h to_do = half_at l rs messages phase closed r from bytes tape half i h to_do
 
   -- the step at the backslash, and at the letter
   step-backslash : (from : Origin) (tape : Tape) (bytes : List ℕ) (i : PageInput) (h : PageHistory) → Ready h → IsOpenFor from closed → i.charge + 1 ≤ l.bytes
       → Fits l reading rs messages phase closed from bytes (record (behind_byte from backslash i) { escapes = [] })
       → step l (at reading from (backslash ∷ bytes) tape [] i h []) ≡ at reading from bytes tape (Backslash ∷ []) (behind_byte from backslash i) h []
   step-backslash from tape bytes i h ready is_open few fits =
-      let before : State = at reading from (backslash ∷ bytes) tape [] i h [] in
-      let here : State = at reading from bytes tape [] (behind_byte from backslash i) h [] in
-      let next : PageInput = record (behind_byte from backslash i) { ahead = ahead_at from bytes } in
-      taken from tape backslash bytes [] i h is_open refl few
-      ∙ ap (λ (t : Taking). made l before (taken_as t here)) (reads.opens h next ready)
-      ∙ ap (made l before) (taken_as-events here (with_escapes (Backslash ∷ []) next) reading [] refl refl)
-      ∙ ap (λ (r : Option Limit). unless_refused l r before (at reading from bytes tape (Backslash ∷ []) (behind_byte from backslash i) h [])) fits
+      step-read l rs messages phase closed reading reading from tape backslash bytes [] (Backslash ∷ []) [] i h reads.none_due is_open refl few
+      (λ j. reads.opens h j ready) fits
 
   step-letter : (from : Origin) (tape : Tape) (b : ℕ) (g : Glyph) (i : PageInput) (h : PageHistory) → Ready h → IsOpenFor from closed → i.charge + 1 ≤ l.bytes → IsLetter b g
       → Fits l reading rs messages phase closed from [] (record (behind_byte from b i) { escapes = [] })
       → step l (at reading from (b ∷ []) tape (Backslash ∷ []) i h []) ≡ at there from [] tape [] (behind_byte from b i) h (Text (Print g) ∷ [])
   step-letter from tape b g i h ready is_open few letter fits =
-      let before : State = at reading from (b ∷ []) tape (Backslash ∷ []) i h [] in
-      let here : State = at reading from [] tape (Backslash ∷ []) (behind_byte from b i) h [] in
-      let next : PageInput = record (behind_byte from b i) { ahead = ahead_at from [] } in
-      taken from tape b [] (Backslash ∷ []) i h is_open (stays b g letter) few
-      ∙ ap (λ (t : Taking). made l before (taken_as t here)) (reads.prints h next b g ready letter)
-      ∙ ap (made l before) (taken_as-events here (with_escapes [] next) there (Text (Print g) ∷ []) refl refl)
-      ∙ ap (λ (r : Option Limit). unless_refused l r before (at there from [] tape [] (behind_byte from b i) h (Text (Print g) ∷ []))) fits
+      step-read l rs messages phase closed reading there from tape b [] (Backslash ∷ []) [] (Text (Print g) ∷ []) i h reads.none_due is_open (stays b g letter) few
+      (λ j. reads.prints h j b g ready letter) fits
 
   -- and where its glyph is printed
   step-glyph : (from : Origin) (tape : Tape) (g : Glyph) (i : PageInput) (h : PageHistory) → pending_length (Print g ∷ text_of h) ≤ l.line → TakesText h

@@ -32,6 +32,8 @@ pub mod ControlReads
 pub mod SteppedNames
 pub mod SteppingRuns
 pub mod SteppedText
+pub mod EscapeSteps
 pub mod LettersRead
 pub mod FontsRead
 pub mod LinesBegun
+pub mod FontsBegun

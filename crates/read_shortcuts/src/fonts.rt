@@ -75,7 +75,7 @@ fn take_font_on<S: ByteSource>(
 
 /// Whether these bytes begin with the escape of a font whose name has one byte.
 #[inline(always)]
-fn begin_with_font(bytes: &[u8]) -> bool
+pub fn begin_with_font(bytes: &[u8]) -> bool
     ensures { result ≡ begin_with_font bytes.now }
 {
     match bytes {

@@ -17,7 +17,7 @@ mod strings;
 mod strings_ahead;
 
 pub use control::{ControlRead, begins_control_line, read_control_front};
-pub use fonts::take_font;
+pub use fonts::{begin_with_font, take_font};
 pub use registers::{TextAhead, hold_text, pass_text, text_ahead};
 pub use roff_scan::RunKind;
 pub use runs::{run_half_read, run_kind, take_arguments, take_branch_blanks, take_run};

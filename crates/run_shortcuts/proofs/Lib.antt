@@ -16,3 +16,4 @@ pub mod OtherBranches
 pub mod ConditionsAtOnce
 pub mod SteppedRegisters
 pub mod LinesAtOnce
+pub mod FontsBegun

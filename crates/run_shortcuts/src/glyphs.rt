@@ -15,10 +15,18 @@ ghost use Rattle.run_shortcuts.specs.declared.fronts.Behind.TheVariants.{Named};
 use crate::beginnings::BEHIND_GLYPH;
 use crate::fronts::{Behind, read_escape, read_named, tell_front};
 use page_model::Glyph;
-use read_shortcuts::take_font;
+use read_shortcuts::{begin_with_font, take_font};
 use roff_scan::ByteSource;
-use run_model::LineState;
+use run_model::{LineState, TextLine};
 use run_turns::Running;
+
+/// A text line behind the escape of a font alone.
+const BEHIND_FIRST_FONT: TextLine = TextLine {
+    has_glyph: false,
+    has_other: true,
+    has_brace: false,
+    leading: 0,
+};
 
 /// So many glyphs are told one behind another at the most, each with the text behind it.
 const MOST_GLYPHS: u32 = 64;
@@ -136,7 +144,8 @@ fn tell_glyph<S: ByteSource>(run: &mut Running, source: &mut S) -> bool
 }
 
 /// Tells the glyph whose escape of one letter stands in front where a line begins, and what
-/// [`tell_glyphs`] does behind it. Returns what lies behind that, or this where none stands there.
+/// [`tell_glyphs`] does behind it; or takes the escape of a font that stands there. Returns what lies
+/// behind that, or this where neither stands there.
 #[inline(never)]
 pub(crate) fn begin_with_glyph<S: ByteSource>(
     run: &mut Running,
@@ -155,7 +164,7 @@ pub(crate) fn begin_with_glyph<S: ByteSource>(
     ensures past { GoesPastOver S.ByteSource false source.old source.new run.old run.new }
 {
     match glyph_in_front(run.unread.front(source)) {
-        None => instead,
+        None => begin_behind_font(run, instead, source),
         Some(glyph) => {
             if !run.interpreter.formatter.tell_glyph(glyph) {
                 return Behind::Other;
@@ -165,6 +174,30 @@ pub(crate) fn begin_with_glyph<S: ByteSource>(
             tell_behind_glyph(run, source)
         }
     }
+}
+
+/// Takes the escape of a font that stands in front where a line begins. Returns that nothing was
+/// looked at behind it, or this where none stands there.
+#[inline(always)]
+fn begin_behind_font<S: ByteSource>(run: &mut Running, instead: Behind, source: &mut S) -> Behind
+    requires begins { run.old.interpreter.reader.reading ≡ LineStart }
+    requires none_half { run.old.unread.input.escapes ≡ [] }
+    requires none_goes_on { (l : LimitsOf) (h : PageHistory)
+        → StandFor l h run.old.interpreter.formatter.composer → interrupted_line h ≡ None }
+    requires instead { instead ≡ Named → ⊥ }
+    ensures none_due { due run.new.interpreter.reader.reading ≡ None }
+    ensures none_half { run.new.unread.input.escapes ≡ [] }
+    ensures named { result ≡ Named → ⊥ }
+    ensures past { GoesPastOver S.ByteSource false source.old source.new run.old run.new }
+{
+    if !begin_with_font(run.unread.front(source)) {
+        return instead;
+    }
+    run.unread.pass(source, 3);
+    run.interpreter
+        .reader
+        .go_on(LineState::Text(BEHIND_FIRST_FONT));
+    Behind::Other
 }
 
 /// Tells plain text, and glyphs whose escapes have one letter, with the text behind them, and takes

@@ -47,4 +47,4 @@ pub returns-else-not-tell_glyph-clause-prints : goal.returns-else-not-tell_glyph
 returns-else-not-tell_glyph-clause-prints g c = λ named. c.tell_behind_glyph.ensures.run
 
 pub returns-in-None-clause-past : goal.returns-in-None-clause-past
-returns-in-None-clause-past g c = λ out err. comes_none _ _ _ _
+returns-in-None-clause-past g c = c.begin_behind_font.ensures.past

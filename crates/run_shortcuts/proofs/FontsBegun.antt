@@ -1,0 +1,111 @@
+-- The escape of a font that was taken where a text line begins, and no interrupted one goes on: the run has come behind it.
+use Rattle.std.proofs.Common.{◌≡◌, ℕ, ◌+◌, ◌<◌, ◌≤◌, Bool, true, false, List, [], ◌∷◌, length, take, Some, None, refl, sym, ap, subst, ◌∙◌, arith}
+use Rattle.std.proofs.lemmas.List.{append-nil}
+use Rattle.std.specs.Prelude.{◌==◌, ◌&&◌, if◌then◌else◌}
+use Rattle.std.proofs.lemmas.Bool.{eqb-true}
+use Rattle.roff_num.specs.declared.limits.Limits.{Limits}
+use Rattle.input_model.specs.Input.{Ahead}
+use Rattle.input_source.specs.Bytes.{backslash, newline}
+use Rattle.input_source.specs.Tape.{Tape}
+use Rattle.input_model.specs.Looking.{is_closed, looked_then}
+use Rattle.roff_scan.specs.Unread.Calls.{NoNewline, PassesFront, front_bytes}
+use Rattle.run_model.specs.Output.{PageHistory, written}
+use Rattle.run_model.specs.Reading.Items.{PageInput, PageUnread}
+use Rattle.run_model.specs.Registers.{AllRegisters}
+use Rattle.run_model.specs.Run.{State, Leads}
+use Rattle.run_model.specs.Run.Counts.{counts_in, first_passed}
+use Rattle.run_model.specs.Environments.{interrupted_line}
+use Rattle.run_model.specs.TurnsToCome.{begun, turns_within}
+use Rattle.run_state.specs.Composer.Standing.{StandFor}
+use Rattle.read_lines.specs.Reader.State.{ReaderState}
+use Rattle.run_model.specs.declared.line_state.LineState.{LineState}
+use Rattle.run_model.specs.declared.line_state.LineState.TheVariants.{LineStart, Branch, Braced, Text as InText, Control, Name, Collecting, Deciding, Skipping, Dropped, Told, Exiting, TitleFront, Title as InTitle}
+use Rattle.run_model.specs.declared.line_state.TextLine.{TextLine}
+use Rattle.run_model.proofs.ItemsTaken.{Origin, ahead_at, tape_at}
+use Rattle.run_model.proofs.PlainRuns.{behind_bytes, counted}
+use Rattle.read_shortcuts.proofs.RunsRead.{first_of_front}
+use Rattle.read_shortcuts.proofs.PrintedRuns.{TakesText, counted-behind, turns-counted}
+use Rattle.run_items.specs.Outcome.{seen}
+use Rattle.run_items.specs.Performing.{going}
+use Rattle.page_bytes.specs.Sinks.{Sunk}
+use Rattle.read_shortcuts.specs.Runs.{IsRun}
+use Rattle.run_model.specs.Reading.Ends.{due}
+use Rattle.input_escapes.specs.OpenEscape.{OpenEscape}
+use Rattle.run_turns.specs.Running.Turning.{GoesPast, IsAt, line_turns, lines_left_in, turns_of_run}
+use Rattle.run_turns.specs.declared.running.Running.{Running as Coded}
+use Rattle.read_shortcuts.proofs.LinesBegun.{turns-begun}
+use Rattle.run_shortcuts.proofs.BytesPassed.{ComesBehind, goes_past-passed}
+use Rattle.run_items.proofs.FewRead.{few-alone}
+use Rattle.run_shortcuts.proofs.GoingPast.{IsAt-leads}
+use Rattle.run_shortcuts.proofs.Telling.{told_by}
+use Rattle.run_turns.proofs.TurnsLeft.{turns_of_run-fewer, turns_of_run-no_more}
+use Rattle.read_shortcuts.proofs.FontsBegun.{behind_first, leads-font}
+use Rattle.read_shortcuts.specs.Fonts.{names_font}
+
+module _ (old : Coded) (b : ℕ) (named : names_font b ≡ true) (none_half : old.unread.input.escapes ≡ []) (begins : old.interpreter.reader.reading ≡ LineStart)
+    (none : (l : Limits) (h : PageHistory) → StandFor l h old.interpreter.formatter.composer → interrupted_line h ≡ None) where
+  abbrev bytes : List ℕ
+  bytes = backslash ∷ 102 ∷ b ∷ []
+
+  abbrev rs : AllRegisters
+  rs = old.interpreter.reader.registers.all
+
+  abbrev behind : ReaderState → PageUnread → Coded
+  behind r u = record old { interpreter = record old.interpreter { reader = r }; unread = u }
+
+  abbrev reads : ReaderState
+  reads = record old.interpreter.reader { reading = behind_first }
+
+  -- the run comes behind it, with what is unread then
+  comes-font : (u : PageUnread) → ComesBehind bytes u old (behind reads u)
+  comes-font u whole t taken start now from is_open front few passed asked left at =
+      let l : Limits = old.unread.limits in
+      let i : PageInput = old.unread.input in
+      let input : PageInput = counted from bytes i in
+      let tape : Tape = looked_then old.unread.looked taken in
+      let h : PageHistory = at.history in
+      let reading : LineState = old.interpreter.reader.reading in
+      let here : LineState → Tape → PageInput → State = λ r tape j. going tape j r rs h at.messages old.phase (is_closed old.unread.looked) [] in
+      let led = leads-font l rs at.messages old.phase (is_closed old.unread.looked) from tape b i h (none old.limits h at.stands) is_open none_half
+      (subst (λ (items : List (Ahead _)). first_passed l (counts_in rs (record i { ahead = items })) ≡ None) front at.ready.within) few named in
+      let stands : here LineStart (tape_at from bytes tape) (record i { ahead = ahead_at from bytes }) ≡ here reading tape i =
+      ap (λ (tape : Tape). here LineStart tape (record i { ahead = ahead_at from bytes })) (sym asked)
+      ∙ ap (λ (items : List (Ahead _)). here LineStart tape (record i { ahead = items })) (sym front)
+      ∙ ap (λ (r : LineState). here r tape i) (sym begins) in
+      let same : record (behind_bytes from bytes i) { ahead = ahead_at from [] } ≡ input = counted-behind from bytes i in
+      let comes : here behind_first (tape_at from [] tape) (record (behind_bytes from bytes i) { ahead = ahead_at from [] }) ≡ here behind_first (looked_then old.unread.looked t) input =
+      ap (λ (j : PageInput). here behind_first (tape_at from [] tape) j) same ∙ ap (λ (tape : Tape). here behind_first tape input) left in
+      let way : Leads l (here reading tape i) (here behind_first (looked_then old.unread.looked t) input) =
+      subst (λ (from : State). Leads l from (here behind_first (looked_then old.unread.looked t) input)) stands
+      (subst (λ (next : State). Leads l (here LineStart (tape_at from bytes tape) (record i { ahead = ahead_at from bytes })) next) comes led.0) in
+      subst (λ (v : PageUnread). IsAt whole t start now (behind reads v)) (sym passed)
+      (IsAt-leads whole taken t start now old (record old.interpreter { reader = reads }) (record old.unread { input = input }) h at
+      (subst (λ (limits : Limits). Leads limits (here reading tape i) (here behind_first (looked_then old.unread.looked t) input)) at.limits way)
+      refl at.stands
+      (record {
+        cap = at.ready.cap;
+        line = at.ready.line;
+        within = subst (λ (j : PageInput). first_passed l (counts_in rs j) ≡ None) same led.1;
+      }) at.limits (few-alone from bytes reading behind_first i input none_half at.few front same))
+
+  -- no more turns are to come
+  turns-font : (from : Origin) → old.unread.input.ahead ≡ ahead_at from bytes → old.unread.input.charge + 3 ≤ old.unread.limits.bytes
+      → turns_of_run (behind reads (record old.unread { input = counted from bytes old.unread.input })) ≤ turns_of_run old
+  turns-font from front charged =
+      let most : ℕ = old.unread.limits.bytes in
+      let few : turns_within most (counted from bytes old.unread.input) < turns_within most old.unread.input =
+      turns-begun most from backslash (102 ∷ b ∷ []) old.unread.input front (omega (arith, charged)) in
+      let fewer = turns_of_run-fewer old (behind reads (record old.unread { input = counted from bytes old.unread.input })) (omega (arith, few)) refl in
+      omega (arith, fewer)
+
+  -- the run goes past it
+  pub goes_past_font : (r : ReaderState) → reads ≡ r → (gave gives : Tape → Type 0) (ready front : List ℕ) (noted notes failed failures : ℕ) (out err : Sunk) (u : PageUnread)
+      → take 3 front ≡ bytes → 3 ≤ length front → front ≡ front_bytes (length front) ready old.unread → PassesFront gave gives (front_bytes 3 ready old.unread) old.unread u
+      → notes ≤ noted → failures ≡ failed
+      → GoesPast false gave gives noted notes old (behind r u) (seen failed out err) (seen failures out err)
+  goes_past_font r is gave gives ready front noted notes failed failures out err u three few stood passed fewer same_failures =
+      let passes : PassesFront gave gives bytes old.unread u =
+      subst (λ (these : List ℕ). PassesFront gave gives these old.unread u) (sym (first_of_front front 3 ready old.unread stood few) ∙ three) passed in
+      subst (λ (r : ReaderState). GoesPast false gave gives noted notes old (behind r u) (seen failed out err) (seen failures out err)) is
+      (goes_past-passed false gave gives noted notes failed failures out err bytes old (behind reads u) u refl (comes-font u)
+      (λ from ahead charged is h stood. subst (λ (v : PageUnread). turns_of_run (behind reads v) ≤ turns_of_run old) (sym is) (turns-font from ahead charged)) passes fewer same_failures)
