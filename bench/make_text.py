@@ -12,6 +12,7 @@
     bench/make_text.py springs MEGABYTES    running text in which a macro springs behind every third line
     bench/make_text.py pages MEGABYTES      the same on pages of 20 lines, with a space or a page length after every 2 to 5 lines
     bench/make_text.py headers MEGABYTES    running text on pages with a header and a footer, each paragraph of which needs three lines
+    bench/make_text.py escaped MEGABYTES    running text in which words have escapes of fonts and dashes, as those of manual pages have
     bench/make_text.py diversions MEGABYTES running text of which each paragraph is diverted, and read again without filling
     bench/make_text.py diverting MEGABYTES  the same, which isn't read
     bench/make_text.py loop MEGABYTES       macros that call each other until so many bytes of them were read; writes nothing
@@ -25,8 +26,8 @@ import functools
 import random
 import sys
 
-KINDS = ("text", "requests", "registers", "code", "tabs", "fields", "skipped", "macros", "springs", "pages", "headers", "diversions",
-         "diverting", "loop", "tables", "measured", "boxes", "spans", "blocks")
+KINDS = ("text", "requests", "registers", "code", "tabs", "fields", "skipped", "macros", "springs", "pages", "headers", "escaped",
+         "diversions", "diverting", "loop", "tables", "measured", "boxes", "spans", "blocks")
 
 MEGABYTE = 1_000_000
 
@@ -219,6 +220,10 @@ SPANNED_ROWS = 10
 # The words of a block, and of a line of it.
 BLOCK_WORDS, LINE_WORDS = 40, 10
 
+# A word with escapes as manual pages have them, and how many words have none for one that has some.
+ESCAPED = ["\\fB{}\\fR", "\\fI{}\\fR", "\\fB\\-{}\\fR", "\\-\\-{}", "{}\\-off"]
+PLAIN_WORDS = 16
+
 # A field with escapes: the first word, and what stands behind it.
 MEASURED = ["\\fB{}\\fR{}", "{} \\(em{}", "{}\\-off{}"]
 
@@ -330,6 +335,8 @@ class Writer:
                 lines = self.with_requests([f"{line} {self.one_of(PLACES)}" for line in lines], SPACES)
             elif kind == "headers":
                 lines = [".ne 3", *lines]
+            elif kind == "escaped":
+                lines = [self.escaped(line) for line in lines]
             elif kind in DIVERTED:
                 lines = [".di pa", *lines, ".br", ".di", *DIVERTED[kind]]
             elif kind == "macros":
@@ -339,6 +346,11 @@ class Writer:
             length += len(part)
         text = "".join(parts)
         return text[: text.rfind("\n", 0, size) + 1].encode()
+
+    def escaped(self, line):
+        """Returns a line of which some words have escapes, and few are followed by a comment."""
+        words = [self.one_of(ESCAPED).format(word) if self.between(0, PLAIN_WORDS) == 0 else word for word in line.split(" ")]
+        return " ".join(words) + (' \\" a remark' if self.between(0, 99) == 0 else "")
 
     def with_requests(self, lines, requests):
         mixed, wait = [], self.between(2, 5)

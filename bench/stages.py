@@ -24,7 +24,8 @@ PROGRAM = os.path.join(os.path.dirname(HERE), "crates", "roff", "out", "roff")
 
 SIZE = 300_000
 PRELUDE = b".nh\n"
-KINDS = ("text", "requests", "registers", "code", "macros", "loop", "skipped", "pages", "diversions", "tables", "measured", "blocks")
+KINDS = ("text", "requests", "registers", "code", "macros", "loop", "skipped", "pages", "escaped", "diversions", "tables", "measured",
+         "blocks")
 # The command that a kind of document is for, where it isn't `nroff`.
 COMMANDS = {"tables": "both", "measured": "both", "blocks": "both"}
 

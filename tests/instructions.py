@@ -1,5 +1,5 @@
 #!/usr/bin/env python3
-"""Counts the built program's instructions on fourteen small documents, beside those that are stored.
+"""Counts the built program's instructions on fifteen small documents, beside those that are stored.
 
     tests/instructions.py [PROGRAM]        # crates/roff/out/roff, if none is given
     tests/instructions.py --store          # stores what the built program takes now
@@ -27,9 +27,9 @@ PROGRAM = TOP / "crates" / "roff" / "out" / "roff"
 STORED = TOP / "tests" / "instructions.txt"
 SIZE = 60_000
 # A kind of document, and the command that formats it.
-KINDS = {"text": "nroff", "requests": "nroff", "registers": "nroff", "macros": "nroff", "headers": "nroff", "diversions": "nroff",
-         "code": "nroff", "tabs": "nroff", "fields": "nroff", "tables": "both", "measured": "tbl", "boxes": "tbl",
-         "spans": "tbl", "blocks": "tbl"}
+KINDS = {"text": "nroff", "requests": "nroff", "registers": "nroff", "macros": "nroff", "headers": "nroff", "escaped": "nroff",
+         "diversions": "nroff", "code": "nroff", "tabs": "nroff", "fields": "nroff", "tables": "both", "measured": "tbl",
+         "boxes": "tbl", "spans": "tbl", "blocks": "tbl"}
 MORE = 1.05
 # As much as tabs that open fields may take beside those that open none.
 MOST_OF_FIELDS = 1.5
