@@ -1,9 +1,10 @@
 -- What was read of a control line at once, and what it led to, by what stood behind its name.
-use Rattle.std.proofs.Common.{◌≡◌, ℕ, ◌≤◌, Bool, true, false, List, None, Some, refl, sym, ap, subst, ◌∙◌, arith}
+use Rattle.std.proofs.Common.{◌≡◌, ℕ, ◌≤◌, Bool, true, false, List, None, Some, length, refl, sym, ap, subst, ◌∙◌, arith}
 use Rattle.input_source.specs.declared.source.ByteSource as byte_source
+use Rattle.input_model.specs.Arguments.{Arguments}
 use Rattle.input_model.specs.Unread.{IsWithin}
 use Rattle.roff_num.specs.declared.short_name.ShortName.{ShortName}
-use Rattle.roff_scan.specs.Unread.Lines.{HoldsLine, is_ended}
+use Rattle.roff_scan.specs.Unread.Lines.{HoldsLine, is_ended, with_held}
 use Rattle.roff_scan.specs.declared.run_kind.RunKind.TheVariants.{Arguments as ArgumentsRun, CallArguments, Condition as ConditionRun}
 use Rattle.roff_scan.specs.declared.unread.lines.BehindHeld.{BehindHeld}
 use Rattle.roff_scan.specs.declared.unread.lines.BehindHeld.TheVariants.{Newline, Named as AtName, Other}
@@ -15,16 +16,15 @@ use Rattle.run_model.specs.declared.line_state.LineState.TheVariants.{Collecting
 use Rattle.run_model.specs.declared.purpose.Purpose.TheVariants.{Arguments as InArguments, Calling}
 use Rattle.run_model.specs.declared.request.Request.{Request}
 use Rattle.read_shortcuts.specs.Conditions.{DecidesAtOnce}
-use Rattle.read_shortcuts.specs.ControlFronts.{StandsName, is_past, is_read, read_dropped, read_for_call, read_to}
+use Rattle.read_shortcuts.specs.ControlFronts.{is_past, is_read, read_dropped, read_for_call, read_to}
 use Rattle.read_shortcuts.specs.ControlReads.{ReadsControl}
 use Rattle.read_shortcuts.specs.DroppedLines.{LineBegun}
 use Rattle.read_shortcuts.specs.Runs.{IsRun}
 use Rattle.read_shortcuts.specs.Stages.{ReadsLine, ReadsPast}
-use Rattle.read_shortcuts.specs.declared.control.ControlFront.{ControlFront}
 use Rattle.read_shortcuts.specs.declared.control.ControlRead.{ControlRead}
 use Rattle.read_shortcuts.specs.declared.control.ControlRead.TheVariants.{Condition, Decided, Dropped, Front, Held, HeldForCall, HeldToEnd, HeldToEscape}
 use Rattle.read_shortcuts.proofs.HeldRuns.{holds_call_where}
-use Rattle.read_shortcuts.proofs.LinesRead.{call-holds, held-half, held-line, held-past, request-each, request-holds, runs-arguments, runs-call}
+use Rattle.read_shortcuts.proofs.LinesRead.{LeadsBehind, held-half, held-line, held-past, request-each, runs-arguments, runs-call}
 
 -- two that differ in this are not the same
 unlike : (f : ControlRead → Bool) (one other : ControlRead) → f one ≡ false → f other ≡ true → one ≡ other → ⊥
@@ -148,28 +148,26 @@ module _ {S : Type 0} (g : byte_source.Ghosts S) (was is : S) (es : ComposerOf) 
   call-read Other past line run =
       past-read Held refl refl (past refl) (λ wrong. absurd (cc)) (λ wrong. absurd (cc)) (λ wrong. absurd (cc)) (λ wrong. absurd (cc))
 
-  module _ (there : LineState) (front : ControlFront) (ready : List ℕ) (b : BehindHeld) (named : StandsName front there old.reading ready before)
+  module _ (there : LineState) (first ready : List ℕ) (begun : Arguments) (b : BehindHeld) (leads : LeadsBehind first there old.reading begun ready before)
       (reads : new ≡ record old { reading = there }) (within : IsWithin after) (result : ControlRead) where
     -- what was held behind a request's name
-    pub request-read : (breaks : Bool) (request : Request) → there ≡ Collecting (InArguments breaks request) → HoldsLine None 3 (g.gives was) (g.gives is) ready b before after
-        → result ≡ read_to b → Reads result
+    pub request-read : (breaks : Bool) (request : Request) → there ≡ Collecting (InArguments breaks request)
+        → HoldsLine None (length first) (g.gives was) (g.gives is) ready b (with_held begun before) after → result ≡ read_to b → Reads result
     request-read breaks request is_there line told =
-        let holds = request-holds breaks request there is_there in
         let each = request-each breaks request there is_there in
         subst Reads (sym told)
-        (arguments-read b (λ left. held-past (g.gives was) (g.gives is) old new there front ready b before after None named holds each line reads left within)
-        (λ ended. held-line (g.gives was) (g.gives is) old new there front ready b before after None named holds each line reads ended)
+        (arguments-read b (λ left. held-past (g.gives was) (g.gives is) old new there first ready b before after begun None leads each line reads left within)
+        (λ ended. held-line (g.gives was) (g.gives is) old new there first ready b before after begun None leads each line reads ended)
         (runs-arguments breaks request new.reading after.input.escapes (ap (λ (r : ReaderState). r.reading) reads ∙ is_there)
-        (held-half (g.gives was) (g.gives is) old new there front ready b before after None named holds each line reads)))
+        (held-half (g.gives was) (g.gives is) old new there first ready b before after begun None leads each line reads)))
 
     -- and behind that of a body
-    pub body-read : (name : ShortName) → there ≡ Collecting (Calling name) → HoldsLine (Some 8) 3 (g.gives was) (g.gives is) ready b before after
-        → result ≡ read_for_call b → Reads result
+    pub body-read : (name : ShortName) → there ≡ Collecting (Calling name)
+        → HoldsLine (Some 8) (length first) (g.gives was) (g.gives is) ready b (with_held begun before) after → result ≡ read_for_call b → Reads result
     body-read name is_there line told =
-        let holds = call-holds name there is_there in
         let each = holds_call_where there name is_there in
         subst Reads (sym told)
-        (call-read b (λ left. held-past (g.gives was) (g.gives is) old new there front ready b before after (Some 8) named holds each line reads left within)
-        (λ ended. held-line (g.gives was) (g.gives is) old new there front ready b before after (Some 8) named holds each line reads ended)
+        (call-read b (λ left. held-past (g.gives was) (g.gives is) old new there first ready b before after begun (Some 8) leads each line reads left within)
+        (λ ended. held-line (g.gives was) (g.gives is) old new there first ready b before after begun (Some 8) leads each line reads ended)
         (runs-call name new.reading after.input.escapes (ap (λ (r : ReaderState). r.reading) reads ∙ is_there)
-        (held-half (g.gives was) (g.gives is) old new there front ready b before after (Some 8) named holds each line reads)))
+        (held-half (g.gives was) (g.gives is) old new there first ready b before after begun (Some 8) leads each line reads)))

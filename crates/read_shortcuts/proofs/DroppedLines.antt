@@ -17,14 +17,14 @@ use Rattle.run_model.specs.Reading.Items.{PageInput, PageUnread, going_on}
 use Rattle.run_model.specs.Stages.{Ignores, Turned, stage_of}
 use Rattle.run_model.specs.declared.line_state.LineState.{LineState}
 use Rattle.run_model.specs.declared.line_state.LineState.TheVariants.{Dropped, LineStart}
-use Rattle.read_shortcuts.specs.ControlFronts.{BeginsControl, StandsName, StandsReady, control_byte}
+use Rattle.read_shortcuts.specs.ControlFronts.{BeginsControl, HoldsArguments, StandsName, StandsReady, control_byte}
 use Rattle.read_shortcuts.specs.DroppedLines.{EndsDropped, LeadsToDropped, LineBegun}
 use Rattle.read_shortcuts.specs.Stages.{ReadsPast}
 use Rattle.read_shortcuts.specs.declared.control.ControlFront.{ControlFront}
 use Rattle.read_shortcuts.proofs.AddedRuns.{turned-same}
-use Rattle.read_shortcuts.proofs.ControlFronts.{control_plain, ready-some, stage_with, turned-dropped, turned-named}
+use Rattle.read_shortcuts.proofs.ControlFronts.{control_plain, ready-some, stage_with, turned-dropped}
 use Rattle.read_shortcuts.proofs.LineEnds.{turned-ended}
-use Rattle.read_shortcuts.proofs.LinesRead.{Turned-append, front_plain, plain-append}
+use Rattle.read_shortcuts.proofs.LinesRead.{LeadsBehind, Turned-append, named-leads, plain-append, three}
 use Rattle.read_shortcuts.proofs.RegistersPut.{leaves}
 use Rattle.read_shortcuts.proofs.RunsRead.{first_of_front, reads-bytes}
 
@@ -158,34 +158,40 @@ reads-led gave gives skipped ready r new before after leads passes within is =
     subst (λ (n : ReaderState). ReadsPast gave gives r n before after) (sym is)
     (reads-bytes gave gives (front_bytes skipped ready before) r (record r { reading = Dropped }) before after passes leads.turned refl refl within)
 
+-- bytes that lead to where a line is dropped, with the arguments that were there
+pub leads-dropped : (first : List ℕ) (there reading : LineState) (ready : List ℕ) (u : PageUnread) → LeadsBehind first there reading u.input.arguments ready u → there ≡ Dropped
+    → LeadsToDropped (length first) reading ready u
+leads-dropped first there reading ready u leads is =
+    let i : PageInput = u.input in
+    let dropped : LeadsBehind first Dropped reading u.input.arguments ready u =
+    subst (λ (state : LineState). LeadsBehind first state reading u.input.arguments ready u) is leads in
+    record {
+      front = leads.stands.front;
+      plain = subst NoNewline leads.stands.are leads.plain;
+      none_half = leads.none_half;
+      turned =
+          subst (λ (some : List ℕ). Turned i.names (stage_of reading i) some (stage_of Dropped i)) leads.stands.are
+          (subst (λ (half : List OpenEscape). Turned i.names (stage_with reading half i.arguments i.open_texts) first (stage_with Dropped half i.arguments i.open_texts)) (sym leads.none_half)
+          dropped.turned);
+    }
+
 -- a backslash behind the dot or apostrophe leads there
 pub backslash-leads : (breaks : Bool) (reading : LineState) (ready : List ℕ) (u : PageUnread) → due reading ≡ None → BeginsControl reading → u.input.escapes ≡ []
     → StandsReady (control_byte breaks ∷ backslash ∷ []) ready u → LeadsToDropped 2 reading ready u
 backslash-leads breaks reading ready u none_due begins none_half stands =
     let i : PageInput = u.input in
-    record {
-      front = stands.front;
-      plain = subst NoNewline stands.are (control_plain breaks, (refl, tt));
+    leads-dropped (control_byte breaks ∷ backslash ∷ []) Dropped reading ready u (record {
+      stands = stands;
+      some = omega arith;
+      plain = (control_plain breaks, (refl, tt));
       none_half = none_half;
-      turned =
-          subst (λ (some : List ℕ). Turned i.names (stage_of reading i) some (stage_of Dropped i)) stands.are
-          (subst (λ (half : List OpenEscape). Turned i.names (stage_with reading half i.arguments i.open_texts) (control_byte breaks ∷ backslash ∷ []) (stage_with Dropped half i.arguments i.open_texts))
-          (sym none_half) (turned-dropped i.names reading breaks i.arguments i.open_texts none_due begins));
-    }
+      none_due = refl;
+      turned = turned-dropped i.names reading breaks i.arguments i.open_texts none_due begins;
+    }) refl
 
 -- and a name that stands for nothing does
 pub name-leads : (front : ControlFront) (there reading : LineState) (ready : List ℕ) (u : PageUnread) → StandsName front there reading ready u → there ≡ Dropped
     → LeadsToDropped 3 reading ready u
 name-leads front there reading ready u named is =
-    let i : PageInput = u.input in
-    let three : List ℕ = control_byte front.breaks ∷ front.first ∷ front.second ∷ [] in
-    let dropped : StandsName front Dropped reading ready u = subst (λ (state : LineState). StandsName front state reading ready u) is named in
-    record {
-      front = named.stands.front;
-      plain = front_plain front there reading ready u named;
-      none_half = named.none_half;
-      turned =
-          subst (λ (some : List ℕ). Turned i.names (stage_of reading i) some (stage_of Dropped i)) named.stands.are
-          (subst (λ (half : List OpenEscape). Turned i.names (stage_with reading half i.arguments i.open_texts) three (stage_with Dropped half i.arguments i.open_texts)) (sym named.none_half)
-          (turned-named i.names reading Dropped front.breaks front.first front.second i.arguments i.open_texts named.none_due named.begins named.first named.second dropped.leads));
-    }
+    let holds : HoldsArguments there = subst HoldsArguments (sym is) (refl, refl) in
+    leads-dropped (three front) there reading ready u (named-leads front there reading ready u named holds) is

@@ -11,6 +11,7 @@ pub mod TakenRuns
 pub mod ControlFronts
 pub mod LinesRead
 mod FrontsRead
+pub mod ShortNames
 pub mod LineEnds
 pub mod DroppedLines
 pub mod StringFronts

@@ -21,11 +21,12 @@ use Rattle.roff_scan.specs.declared.unread.lines.BehindHeld.TheVariants.{Newline
 use Rattle.run_model.proofs.ItemsTaken.{not-second}
 use Rattle.roff_scan.specs.Unread.Runs.{with_stage_of}
 use Rattle.run_model.specs.Reading.ControlLines.{BelongsToName, ends_name}
+use Rattle.run_model.specs.Reading.Ends.{due}
 use Rattle.run_model.specs.Reading.Items.{PageInput, PageUnread}
 use Rattle.run_model.specs.Stages.{Growing, Here, HoldsIfFewer, Onward, Stage, Turned, stage_of}
 use Rattle.run_model.specs.declared.line_state.LineState.{LineState}
 use Rattle.read_lines.specs.Reader.State.{ReaderState}
-use Rattle.read_shortcuts.specs.ControlFronts.{Fronts, HoldsArguments, StandsName, control_byte}
+use Rattle.read_shortcuts.specs.ControlFronts.{Fronts, HoldsArguments, StandsName, StandsReady, control_byte}
 use Rattle.read_shortcuts.specs.Stages.{ReadsLine, ReadsPast}
 use Rattle.read_shortcuts.specs.declared.control.ControlFront.{ControlFront}
 use Rattle.read_shortcuts.proofs.ControlFronts.{control_plain, stage_with, turned-named}
@@ -61,41 +62,60 @@ not_third false true third fourth none = absurd (cc)
 not_third false false true fourth none = absurd (cc)
 not_third false false false fourth none = refl
 
-named_plain : (b : ℕ) → BelongsToName b → (b == newline) ≡ false
+pub named_plain : (b : ℕ) → BelongsToName b → (b == newline) ≡ false
 named_plain b belongs = not_third (b == blank) (b == tab) (b == newline) (b == backslash) (not-second (is_dropped b) (ends_name b) belongs)
 
-pub front_plain : (front : ControlFront) (there reading : LineState) (ready : List ℕ) (u : PageUnread) → StandsName front there reading ready u → NoNewline (front_bytes 3 ready u)
-front_plain front there reading ready u named =
-    subst NoNewline named.stands.are (control_plain front.breaks, (named_plain front.first named.first, (named_plain front.second named.second, tt)))
+three_plain : (front : ControlFront) (there reading : LineState) (ready : List ℕ) (u : PageUnread) → StandsName front there reading ready u → NoNewline (three front)
+three_plain front there reading ready u named = (control_plain front.breaks, (named_plain front.first named.first, (named_plain front.second named.second, tt)))
 
-module _ (gave gives : Tape → Type 0) (r : ReaderState) (there : LineState) (front : ControlFront) (ready : List ℕ) (before : PageUnread) (held : List ℕ)
-    (named : StandsName front there r.reading ready before) (holds : HoldsArguments there) (are : AllByRecursion (λ b. is_argument_byte b ≡ true) held)
-    (turned_held : Turned before.input.names (stage_with there [] before.input.arguments before.input.open_texts) held
-    (stage_with there [] (bytes_held held before.input.arguments) before.input.open_texts)) where
+pub front_plain : (front : ControlFront) (there reading : LineState) (ready : List ℕ) (u : PageUnread) → StandsName front there reading ready u → NoNewline (front_bytes 3 ready u)
+front_plain front there reading ready u named = subst NoNewline named.stands.are (three_plain front there reading ready u named)
+
+-- These bytes stand in front, without a newline, where nothing is half read, and lead to where this is read, with these arguments of the line.
+pub record LeadsBehind (first : List ℕ) (there reading : LineState) (a : Arguments) (ready : List ℕ) (u : PageUnread) : Type 0 where
+  pub stands : StandsReady first ready u
+  pub some : 1 ≤ length first
+  pub plain : NoNewline first
+  pub none_half : u.input.escapes ≡ []
+  pub none_due : due there ≡ None
+  pub turned : Turned u.input.names (stage_with reading [] u.input.arguments u.input.open_texts) first (stage_with there [] a u.input.open_texts)
+
+-- those up to the end of a name of two bytes do, where no condition is read behind it
+pub named-leads : (front : ControlFront) (there reading : LineState) (ready : List ℕ) (u : PageUnread) → StandsName front there reading ready u → HoldsArguments there
+    → LeadsBehind (three front) there reading u.input.arguments ready u
+named-leads front there reading ready u named holds =
+    let i : PageInput = u.input in
+    record {
+      stands = named.stands;
+      some = omega arith;
+      plain = three_plain front there reading ready u named;
+      none_half = named.none_half;
+      none_due = holds.0;
+      turned =
+          subst (λ (deciding : Bool). Turned i.names (stage_with reading [] i.arguments i.open_texts) (three front) (stage_with there (half_begun deciding []) i.arguments i.open_texts)) holds.1
+          (turned-named i.names reading there front.breaks front.first front.second i.arguments i.open_texts named.none_due named.begins named.first named.second named.leads);
+    }
+
+module _ (gave gives : Tape → Type 0) (r : ReaderState) (there : LineState) (first ready : List ℕ) (before : PageUnread) (begun : Arguments) (held : List ℕ)
+    (leads : LeadsBehind first there r.reading begun ready before) (are : AllByRecursion (λ b. is_argument_byte b ≡ true) held)
+    (turned_held : Turned before.input.names (stage_with there [] begun before.input.open_texts) held (stage_with there [] (bytes_held held begun) before.input.open_texts)) where
   abbrev i : PageInput
   i = before.input
 
   abbrev a : Arguments
-  a = bytes_held held i.arguments
+  a = bytes_held held begun
 
   -- the bytes of the line
   abbrev pub line_bytes : List ℕ
-  line_bytes = front_bytes 3 ready before ++ held
+  line_bytes = front_bytes (length first) ready before ++ held
 
   -- they lead behind its arguments
-  turned-bare : Turned i.names (stage_with r.reading [] i.arguments i.open_texts) (three front ++ held) (stage_with there [] a i.open_texts)
-  turned-bare =
-      let name : Turned i.names (stage_with r.reading [] i.arguments i.open_texts) (three front) (stage_with there [] i.arguments i.open_texts) =
-      subst (λ (deciding : Bool). Turned i.names (stage_with r.reading [] i.arguments i.open_texts) (three front) (stage_with there (half_begun deciding []) i.arguments i.open_texts)) holds.1
-      (turned-named i.names r.reading there front.breaks front.first front.second i.arguments i.open_texts named.none_due named.begins named.first named.second named.leads) in
-      Turned-append i.names (stage_with r.reading [] i.arguments i.open_texts) (stage_with there [] i.arguments i.open_texts) (stage_with there [] a i.open_texts) (three front) held
-      name turned_held
-
   turned-line : Turned i.names (stage_of r.reading i) line_bytes (stage_with there i.escapes a i.open_texts)
   turned-line =
-      subst (λ (bytes : List ℕ). Turned i.names (stage_of r.reading i) (bytes ++ held) (stage_with there i.escapes a i.open_texts)) named.stands.are
-      (subst (λ (half : List OpenEscape). Turned i.names (stage_with r.reading half i.arguments i.open_texts) (three front ++ held) (stage_with there half a i.open_texts)) (sym named.none_half)
-      turned-bare)
+      subst (λ (bytes : List ℕ). Turned i.names (stage_of r.reading i) (bytes ++ held) (stage_with there i.escapes a i.open_texts)) leads.stands.are
+      (subst (λ (half : List OpenEscape). Turned i.names (stage_with r.reading half i.arguments i.open_texts) (first ++ held) (stage_with there half a i.open_texts)) (sym leads.none_half)
+      (Turned-append i.names (stage_with r.reading [] i.arguments i.open_texts) (stage_with there [] begun i.open_texts) (stage_with there [] a i.open_texts) first held
+      leads.turned turned_held))
 
   module _ (bytes : List ℕ) (after : PageUnread) (passes : PassesFront gave gives bytes (with_held a before) after) where
     -- what they change is there
@@ -110,7 +130,7 @@ module _ (gave gives : Tape → Type 0) (r : ReaderState) (there : LineState) (f
   -- there are some
   some_bytes : 1 ≤ length line_bytes
   some_bytes =
-      subst (λ (bytes : List ℕ). 1 ≤ length (bytes ++ held)) named.stands.are (omega (arith, length-append (three front) held))
+      subst (λ (bytes : List ℕ). 1 ≤ length (bytes ++ held)) leads.stands.are (omega (arith, length-append first held, leads.some))
 
   -- so the bytes were read past
   pub reads-held : (after : PageUnread) → PassesFront gave gives line_bytes (with_held a before) after → IsWithin after → ReadsPast gave gives r (record r { reading = there }) before after
@@ -129,35 +149,35 @@ module _ (gave gives : Tape → Type 0) (r : ReaderState) (there : LineState) (f
   reads-line after within passes =
       let is : after.input ≡ staged i.escapes a i.open_texts after.input = stage (line_bytes ++ newline ∷ []) after passes in
       let same : with_stage_of after.input i ≡ staged i.escapes a i.open_texts i = ap (λ (j : PageInput). with_stage_of j i) is in
+      let first_plain : NoNewline (front_bytes (length first) ready before) = subst NoNewline leads.stands.are leads.plain in
       record {
         bytes = line_bytes;
         turned = turned-there (line_bytes ++ newline ∷ []) after passes;
         some = some_bytes;
-        plain = plain-append (front_bytes 3 ready before) held (front_plain front there r.reading ready before named) (no_newline_of is_argument_byte refl held are);
+        plain = plain-append (front_bytes (length first) ready before) held first_plain (no_newline_of is_argument_byte refl held are);
         passes = subst (λ (j : PageInput). PassesFront gave gives (line_bytes ++ newline ∷ []) (record before { input = j }) after) (sym same) passes;
         within = subst (λ (j : PageInput). IsWithin (record before { input = j })) (sym same) within;
         registers = refl;
         meaning = refl;
-        none_half = ap (λ (j : PageInput). j.escapes) is ∙ named.none_half;
-        none_due = holds.0;
+        none_half = ap (λ (j : PageInput). j.escapes) is ∙ leads.none_half;
+        none_due = leads.none_due;
       }
 
 -- what was held of a line leads there
-module _ (gave gives : Tape → Type 0) (r new : ReaderState) (there : LineState) (front : ControlFront) (ready : List ℕ) (behind : BehindHeld) (before after : PageUnread) (most : Option ℕ)
-    (named : StandsName front there r.reading ready before) (holds : HoldsArguments there) (each : (b : ℕ) → is_argument_byte b ≡ true → HoldsIfFewer most there b)
-    (line : HoldsLine most 3 gave gives ready behind before after) (is : new ≡ record r { reading = there }) where
-  turned : Turned before.input.names (stage_with there [] before.input.arguments before.input.open_texts) line.held
-      (stage_with there [] (bytes_held line.held before.input.arguments) before.input.open_texts)
-  turned = turned-held most before.input.names there [] before.input.open_texts before.input.arguments line.held refl holds.0 each line.are_held line.fewer
+module _ (gave gives : Tape → Type 0) (r new : ReaderState) (there : LineState) (first ready : List ℕ) (behind : BehindHeld) (before after : PageUnread) (begun : Arguments) (most : Option ℕ)
+    (leads : LeadsBehind first there r.reading begun ready before) (each : (b : ℕ) → is_argument_byte b ≡ true → HoldsIfFewer most there b)
+    (line : HoldsLine most (length first) gave gives ready behind (with_held begun before) after) (is : new ≡ record r { reading = there }) where
+  turned : Turned before.input.names (stage_with there [] begun before.input.open_texts) line.held (stage_with there [] (bytes_held line.held begun) before.input.open_texts)
+  turned = turned-held most before.input.names there [] before.input.open_texts begun line.held refl leads.none_due each line.are_held line.fewer
 
   -- past its bytes
   pub held-past : is_ended behind ≡ false → IsWithin after → ReadsPast gave gives r new before after
   held-past left within =
       subst (λ (n : ReaderState). ReadsPast gave gives r n before after) (sym is)
-      (reads-held gave gives r there front ready before line.held named holds line.are_held turned after (past behind left line.passes) within)
+      (reads-held gave gives r there first ready before begun line.held leads line.are_held turned after (past behind left line.passes) within)
     where
-      past : (b : BehindHeld) → is_ended b ≡ false → PassesFront gave gives (ended_by b (front_bytes 3 ready before ++ line.held)) (with_held (bytes_held line.held before.input.arguments) before) after
-          → PassesFront gave gives (front_bytes 3 ready before ++ line.held) (with_held (bytes_held line.held before.input.arguments) before) after
+      past : (b : BehindHeld) → is_ended b ≡ false → PassesFront gave gives (ended_by b (front_bytes (length first) ready before ++ line.held)) (with_held (bytes_held line.held begun) before) after
+          → PassesFront gave gives (front_bytes (length first) ready before ++ line.held) (with_held (bytes_held line.held begun) before) after
       past Newline left passes = absurd (cc)
       past AtName left passes = passes
       past Other left passes = passes
@@ -166,29 +186,29 @@ module _ (gave gives : Tape → Type 0) (r new : ReaderState) (there : LineState
   pub held-half : after.input.escapes ≡ []
   held-half =
       ap (λ (j : PageInput). j.escapes)
-      (stage-behind gave gives (ended_by behind (front_bytes 3 ready before ++ line.held)) before.input.escapes (bytes_held line.held before.input.arguments) before.input.open_texts before after line.passes)
-      ∙ named.none_half
+      (stage-behind gave gives (ended_by behind (front_bytes (length first) ready before ++ line.held)) before.input.escapes (bytes_held line.held begun) before.input.open_texts before after line.passes)
+      ∙ leads.none_half
 
   -- up to its newline
   pub held-line : is_ended behind ≡ true → ReadsLine gave gives r new before after
   held-line ended =
       subst (λ (n : ReaderState). ReadsLine gave gives r n before after) (sym is)
-      (reads-line gave gives r there front ready before line.held named holds line.are_held turned after line.within (past behind ended line.passes))
+      (reads-line gave gives r there first ready before begun line.held leads line.are_held turned after line.within (past behind ended line.passes))
     where
-      past : (b : BehindHeld) → is_ended b ≡ true → PassesFront gave gives (ended_by b (front_bytes 3 ready before ++ line.held)) (with_held (bytes_held line.held before.input.arguments) before) after
-          → PassesFront gave gives (front_bytes 3 ready before ++ line.held ++ newline ∷ []) (with_held (bytes_held line.held before.input.arguments) before) after
+      past : (b : BehindHeld) → is_ended b ≡ true → PassesFront gave gives (ended_by b (front_bytes (length first) ready before ++ line.held)) (with_held (bytes_held line.held begun) before) after
+          → PassesFront gave gives (front_bytes (length first) ready before ++ line.held ++ newline ∷ []) (with_held (bytes_held line.held begun) before) after
       past Newline ended passes = passes
       past AtName ended passes = absurd (cc)
       past Other ended passes = absurd (cc)
 
 -- a line of which nothing was held
-pub bare-line : (gave gives : Tape → Type 0) (r new : ReaderState) (there : LineState) (front : ControlFront) (ready : List ℕ) (before after : PageUnread)
-    → StandsName front there r.reading ready before → HoldsArguments there → IsWithin before → PassesFront gave gives (front_bytes 3 ready before ++ newline ∷ []) before after
+pub bare-line : (gave gives : Tape → Type 0) (r new : ReaderState) (there : LineState) (first ready : List ℕ) (before after : PageUnread)
+    → LeadsBehind first there r.reading before.input.arguments ready before → IsWithin before → PassesFront gave gives (front_bytes (length first) ready before ++ newline ∷ []) before after
     → new ≡ record r { reading = there } → ReadsLine gave gives r new before after
-bare-line gave gives r new there front ready before after named holds within passes is =
+bare-line gave gives r new there first ready before after leads within passes is =
     subst (λ (n : ReaderState). ReadsLine gave gives r n before after) (sym is)
-    (reads-line gave gives r there front ready before [] named holds tt (Here (stage_with there [] before.input.arguments before.input.open_texts)) after within
-    (subst (λ (bytes : List ℕ). PassesFront gave gives (bytes ++ newline ∷ []) before after) (sym (append-nil (front_bytes 3 ready before))) passes))
+    (reads-line gave gives r there first ready before before.input.arguments [] leads tt (Here (stage_with there [] before.input.arguments before.input.open_texts)) after within
+    (subst (λ (bytes : List ℕ). PassesFront gave gives (bytes ++ newline ∷ []) before after) (sym (append-nil (front_bytes (length first) ready before))) passes))
 
 -- a newline stands behind the front that bytes begin with
 pub ended-front : (front : ControlFront) (bytes ready : List ℕ) (u : PageUnread) (fronts : Fronts bytes front) → bytes ≡ front_bytes (length bytes) ready u → IsFront (length bytes) ready u

@@ -1,6 +1,6 @@
 -- The front of a control line, up to its name: what its bytes lead to.
 use Rattle.std.specs.Prelude.{◌≡◌, ◌==◌, ◌||◌, ◌&&◌, not, nat_lt, ℕ, Bool, true, false, if◌then◌else◌, List, [], ◌∷◌, length, Some, None}
-use Rattle.input_source.specs.Bytes.{apostrophe, backslash, blank, dot}
+use Rattle.input_source.specs.Bytes.{apostrophe, backslash, blank, dot, newline}
 use Rattle.roff_scan.specs.Unread.Calls.{IsFront, front_bytes}
 use Rattle.roff_scan.specs.Unread.Lines.{StandsNewline, begins_with_newline}
 use Rattle.run_model.specs.Reading.Items.{PageUnread}
@@ -108,9 +108,9 @@ pub record StandsName (front : ControlFront) (there reading : LineState) (ready 
 abbrev pub prints_in_name : ℕ → Bool
 prints_in_name b = nat_lt blank b && (not (b == 127) && not (b == backslash))
 
--- whether these two bytes are read at once behind it: a backslash is, and a name of two bytes that print
+-- whether these two bytes are read at once behind it: a backslash is, a name of two bytes that print, and one of such a byte in front of a newline
 abbrev pub is_front_read : ℕ → ℕ → Bool
-is_front_read first second = first == backslash || (prints_in_name first && prints_in_name second)
+is_front_read first second = first == backslash || (prints_in_name first && (prints_in_name second || second == newline))
 
 -- whether the front of a control line is read at once, with which these bytes begin
 abbrev pub reads_front : List ℕ → Bool

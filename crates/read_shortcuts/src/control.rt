@@ -18,6 +18,7 @@ ghost use Rattle.roff_scan.specs.Unread.Calls.{IsFront, NoNewline, PassesFront, 
 use crate::conditions::read_condition;
 use crate::dropped::drop_line;
 use crate::other_branch::take_other;
+use crate::short_names::read_short;
 use read_lines::{CALL_ARGUMENTS, Reader};
 use read_names::{begin_deciding, behind_called, called_by};
 use roff_num::ShortName;
@@ -81,8 +82,8 @@ pub fn begins_control_line(reader: &Reader) -> bool
 }
 
 /// Reads at once the front of a control line, if it stands in front: the dot or apostrophe and a
-/// name of two bytes, or a backslash, behind which the line is dropped. Else nothing happens.
-/// Returns what was read.
+/// name of two bytes, or of one with the blank or newline behind it, or a backslash, behind which
+/// the line is dropped. Else nothing happens. Returns what was read.
 #[inline(always)]
 pub fn read_control_front<S: ByteSource>(
     reader: &mut Reader,
@@ -130,8 +131,11 @@ fn read_control<S: ByteSource>(
     if front.first == b'\\' {
         return dropped_to(drop_line(reader, unread, source, 2));
     }
-    if !belongs_to_name(front.first) || !belongs_to_name(front.second) {
+    if !belongs_to_name(front.first) {
         return ControlRead::Nothing;
+    }
+    if !belongs_to_name(front.second) {
+        return read_short(reader, front, unread, source);
     }
     let name = ShortName {
         first: front.first,
@@ -253,7 +257,7 @@ fn read_ended<S: ByteSource>(
 
 /// What was read of a control line, by what stands behind the bytes that were held.
 #[inline(always)]
-fn held_to(behind: BehindHeld) -> ControlRead
+pub(super) fn held_to(behind: BehindHeld) -> ControlRead
     ensures { result ≡ read_to behind }
 {
     match behind {
@@ -265,7 +269,7 @@ fn held_to(behind: BehindHeld) -> ControlRead
 
 /// What was read of a line that calls a body, by what stands behind the bytes that were held.
 #[inline(always)]
-fn held_for_call(behind: BehindHeld) -> ControlRead
+pub(super) fn held_for_call(behind: BehindHeld) -> ControlRead
     ensures { result ≡ read_for_call behind }
 {
     match behind {
@@ -277,7 +281,7 @@ fn held_for_call(behind: BehindHeld) -> ControlRead
 
 /// What was read of a line that is dropped, by whether its newline was taken.
 #[inline(always)]
-fn dropped_to(is_ended: bool) -> ControlRead
+pub(super) fn dropped_to(is_ended: bool) -> ControlRead
     ensures { result ≡ read_dropped is_ended }
 {
     if is_ended {

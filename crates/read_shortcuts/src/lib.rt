@@ -12,6 +12,7 @@ mod kept;
 mod other_branch;
 mod registers;
 mod runs;
+mod short_names;
 mod stepped;
 mod strings;
 mod strings_ahead;

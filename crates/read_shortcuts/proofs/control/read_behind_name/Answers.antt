@@ -4,6 +4,7 @@ use Rattle.run_model.specs.declared.purpose.Purpose.TheVariants.{Arguments as In
 use Rattle.read_shortcuts.proofs.ControlFronts.{reads-named}
 use Rattle.read_shortcuts.proofs.ControlReads.{body-read, condition-read, dropped-read, front-read, line-read, request-read}
 use Rattle.read_shortcuts.proofs.DroppedLines.{name-leads}
+use Rattle.read_shortcuts.proofs.LinesRead.{call-holds, named-leads, request-holds, three}
 use Rattle.read_shortcuts.proofs.control.read_behind_name.Goals as goal
 
 pub returns-then-front-clause-read : goal.returns-then-front-clause-read
@@ -17,8 +18,10 @@ returns-else-front-clause-read g c =
     let there = c.args.reading in
     let is : there ≡ Collecting (InArguments c.in-Collecting-Arguments.field-0-0 c.in-Collecting-Arguments.field-0-1) = search rules in
     let held = c.hold_line-behind in
+    let ready = g.S.ByteSource.ready c.args.source.now in
     request-read g.S.ByteSource c.args.source.now held.new.source c.args.composer.now c.args.reader.now c.go_on.new.self c.args.unread.now held.new.self
-    held.ensures.notes held.ensures.failures there c.args.front (g.S.ByteSource.ready c.args.source.now) held.result c.requires c.go_on.ensures c.stays_within.ensures c.held_to.result
+    held.ensures.notes held.ensures.failures there (three c.args.front) ready c.args.unread.now.input.arguments held.result
+    (named-leads c.args.front there c.args.reader.now.reading ready c.args.unread.now c.requires (request-holds _ _ there is)) c.go_on.ensures c.stays_within.ensures c.held_to.result
     _ _ is held.ensures.holds c.held_to.ensures
 
 pub returns-then-front-2-clause-read : goal.returns-then-front-2-clause-read
@@ -32,8 +35,10 @@ returns-else-front-2-clause-read g c =
     let there = c.args.reading in
     let is : there ≡ Collecting (Calling c.in-Collecting-Calling.field-0-0) = search rules in
     let held = c.hold_call-behind in
+    let ready = g.S.ByteSource.ready c.args.source.now in
     body-read g.S.ByteSource c.args.source.now held.new.source c.args.composer.now c.args.reader.now c.go_on-in-Collecting-Calling.new.self c.args.unread.now held.new.self
-    held.ensures.notes held.ensures.failures there c.args.front (g.S.ByteSource.ready c.args.source.now) held.result c.requires c.go_on-in-Collecting-Calling.ensures
+    held.ensures.notes held.ensures.failures there (three c.args.front) ready c.args.unread.now.input.arguments held.result
+    (named-leads c.args.front there c.args.reader.now.reading ready c.args.unread.now c.requires (call-holds _ there is)) c.go_on-in-Collecting-Calling.ensures
     c.stays_within-in-Collecting-Calling.ensures c.held_for_call.result
     _ is held.ensures.holds c.held_for_call.ensures
 

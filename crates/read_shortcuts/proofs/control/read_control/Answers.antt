@@ -21,6 +21,9 @@ returns-then-front-eq92-clause-read g c =
 pub returns-then-not-belongs_to_name-clause-read : goal.returns-then-not-belongs_to_name-clause-read
 returns-then-not-belongs_to_name-clause-read g c = nothing-read _ _ _ _ _ _ refl refl
 
+pub returns-then-not-belongs_to_name-2-clause-read : goal.returns-then-not-belongs_to_name-2-clause-read
+returns-then-not-belongs_to_name-2-clause-read g c = c.read_short.ensures.read c.args.composer.now
+
 pub read_behind_name-requires : goal.read_behind_name-requires
 read_behind_name-requires g c = record {
   stands = c.requires.ready;
