@@ -9,7 +9,7 @@ ghost use Rattle.run_model.specs.declared.line_state.LineState.TheVariants.{Text
 use page_bytes::{ByteSink, MessageSink};
 use roff_scan::ByteSource;
 use run_model::{LineState, Status, TextLine};
-use run_shortcuts::{begin_and_end_line, pass_over, tell_beginning, tell_behind};
+use run_shortcuts::{Begun, begin_text_at_once, pass_over, tell_behind};
 use run_turns::Running;
 
 /// Takes bytes at once that stand in front, or else does what is due, and takes an item of the
@@ -116,34 +116,17 @@ fn turn_beginning<S: ByteSource, O: ByteSink, E: MessageSink>(
         source.old source.new out.old out.new err.old err.new
         run.old run.new (going_on result) }
 {
-    match begin_and_end_line(run, source, out, err) {
-        None => turn_told(run, is_told, source, out, err),
-        Some(Ok(())) => Ok(true),
-        Some(Err(status)) => Err(status),
+    match begin_text_at_once(run, source, out, err) {
+        Ok(Begun::Line) => Ok(true),
+        Ok(Begun::Front(may_be_control)) => {
+            if is_told & may_be_control {
+                Ok(false)
+            } else {
+                turn_alone(run, source, out, err)
+            }
+        }
+        Err(status) => Err(status),
     }
-}
-
-/// Makes a turn where nothing is half read, and no line can be put at once: the front of a text
-/// line that begins is told before. Returns whether bytes in front are told behind it.
-#[inline(always)]
-fn turn_told<S: ByteSource, O: ByteSink, E: MessageSink>(
-    run: &mut Running,
-    is_told: bool,
-    source: &mut S,
-    out: &mut O,
-    err: &mut E,
-) -> Result<bool, Status>
-    requires none_due { due run.old.interpreter.reader.reading ≡ None }
-    requires none_half { run.old.unread.input.escapes ≡ [] }
-    ensures { ComesOver S.ByteSource O.ByteSink E.MessageSink (falls_told is_told result)
-        source.old source.new out.old out.new err.old err.new
-        run.old run.new (going_on result) }
-{
-    let may_be_control = tell_beginning(run, source);
-    if is_told & may_be_control {
-        return Ok(false);
-    }
-    turn_alone(run, source, out, err)
 }
 
 /// Takes an item of the input alone, where nothing is half read. Returns whether bytes in front are

@@ -1,14 +1,15 @@
 //! Text that is told at once where a text line begins, and behind a byte of one.
 
-ghost use Rattle.std.specs.Prelude.{◌≡◌, [], None, false, true};
+ghost use Rattle.std.specs.Prelude.{◌≡◌, Bool, [], None, Ok, false, true};
 ghost use Rattle.run_shortcuts.specs.Clauses.{LineStart, StandFor, due, going_on};
-ghost use Rattle.run_shortcuts.specs.Beginning.{BeginWithText, begins_text};
+ghost use Rattle.run_shortcuts.specs.Beginning.{BeginWithText, begins_text, line_ended};
 ghost use Rattle.roff_num.specs.declared.limits.Limits.{Limits as LimitsOf};
+ghost use Rattle.run_shortcuts.specs.declared.beginnings.Begun.TheVariants.{Front};
 ghost use Rattle.run_shortcuts.specs.declared.fronts.Behind.TheVariants.{Named};
 ghost use Rattle.run_model.specs.Environments.{PageHistory, interrupted_line};
 ghost use Rattle.read_shortcuts.specs.Runs.{IsRun};
 ghost use Rattle.roff_scan.specs.declared.run_kind.RunKind.TheVariants.{Text as TextRun};
-ghost use Rattle.run_turns.specs.Running.Turning.{ComesOver, GoesPastOver};
+ghost use Rattle.run_turns.specs.Running.Turning.{ComesOver, GoesPastOver, says_fewer};
 
 use crate::fronts::{Behind, behind_text, take_named, tell_on};
 use crate::glyphs::begin_with_glyph;
@@ -18,20 +19,62 @@ use roff_scan::ByteSource;
 use run_model::{LineState, Status, TextLine};
 use run_turns::Running;
 
-/// Tells bytes of plain text that stand in front where a line begins, if no interrupted one goes
-/// on: as many as no limit refuses, and none that finishes a line. Returns whether a control line
-/// may begin instead.
+/// What was told where a text line begins.
+pub enum Begun {
+    /// A whole line, which was ended.
+    Line,
+    /// Its front, or nothing: whether a control line may begin instead.
+    Front(bool),
+}
+
+/// Tells a text line that stands in front where one begins, and ends it; or bytes of plain text of
+/// its front, if no interrupted line goes on: as many as no limit refuses, and none that finishes a
+/// line.
 #[inline(always)]
-pub fn tell_beginning<S: ByteSource>(run: &mut Running, source: &mut S) -> bool
+pub fn begin_text_at_once<S: ByteSource, O: ByteSink, E: MessageSink>(
+    run: &mut Running,
+    source: &mut S,
+    out: &mut O,
+    err: &mut E,
+) -> Result<Begun, Status>
     requires none_due { due run.old.interpreter.reader.reading ≡ None }
     requires none_half { run.old.unread.input.escapes ≡ [] }
-    ensures none_due { due run.new.interpreter.reader.reading ≡ None }
-    ensures none_half { run.new.unread.input.escapes ≡ [] }
-    ensures past { GoesPastOver S.ByteSource false source.old source.new run.old run.new }
+    ensures none_due { (may_be_control : Bool) → result ≡ Ok (Front may_be_control)
+        → due run.new.interpreter.reader.reading ≡ None }
+    ensures none_half { (may_be_control : Bool) → result ≡ Ok (Front may_be_control)
+        → run.new.unread.input.escapes ≡ [] }
+    ensures further { ComesOver S.ByteSource O.ByteSink E.MessageSink
+        (says_fewer (line_ended result)) source.old source.new out.old out.new err.old err.new
+        run.old run.new (going_on (line_ended result)) }
 {
     match run.interpreter.reader.reading() {
-        LineState::LineStart => begin_text_line(run, source),
-        _ => false,
+        LineState::LineStart => begin_or_end_line(run, source, out, err),
+        _ => Ok(Begun::Front(false)),
+    }
+}
+
+/// Tells a text line that stands in front where one begins, and ends it, or tells its front.
+#[inline(always)]
+fn begin_or_end_line<S: ByteSource, O: ByteSink, E: MessageSink>(
+    run: &mut Running,
+    source: &mut S,
+    out: &mut O,
+    err: &mut E,
+) -> Result<Begun, Status>
+    requires begins { run.old.interpreter.reader.reading ≡ LineStart }
+    requires none_half { run.old.unread.input.escapes ≡ [] }
+    ensures none_due { (may_be_control : Bool) → result ≡ Ok (Front may_be_control)
+        → due run.new.interpreter.reader.reading ≡ None }
+    ensures none_half { (may_be_control : Bool) → result ≡ Ok (Front may_be_control)
+        → run.new.unread.input.escapes ≡ [] }
+    ensures further { ComesOver S.ByteSource O.ByteSink E.MessageSink
+        (says_fewer (line_ended result)) source.old source.new out.old out.new err.old err.new
+        run.old run.new (going_on (line_ended result)) }
+{
+    match end_line_at_once(run, source, out, err) {
+        None => Ok(Begun::Front(begin_text_line(run, source))),
+        Some(Ok(())) => Ok(Begun::Line),
+        Some(Err(status)) => Err(status),
     }
 }
 

@@ -11,6 +11,5 @@ mod passing;
 mod stepping;
 mod unfilled;
 
-pub use beginnings::{tell_beginning, tell_behind};
+pub use beginnings::{Begun, begin_text_at_once, tell_behind};
 pub use passing::pass_over;
-pub use unfilled::begin_and_end_line;

@@ -26,27 +26,6 @@ use run_items::Interpreter;
 use run_model::{LineState, Status};
 use run_turns::Running;
 
-/// Tells a text line that stands in front up to its newline where a line begins, ends it, and
-/// places the line that this finishes, where words aren't measured. Else nothing happens.
-#[inline(always)]
-pub fn begin_and_end_line<S: ByteSource, O: ByteSink, E: MessageSink>(
-    run: &mut Running,
-    source: &mut S,
-    out: &mut O,
-    err: &mut E,
-) -> Option<Result<(), Status>>
-    ensures ends { IfSome result (λ r.
-        ComesOver S.ByteSource O.ByteSink E.MessageSink true
-        source.old source.new out.old out.new err.old err.new run.old run.new r) }
-    ensures unchanged { result ≡ None → (run.new ≡ run.old) × (source.new ≡ source.old) }
-    ensures sinks { result ≡ None → (out.new ≡ out.old) × (err.new ≡ err.old) }
-{
-    match run.interpreter.reader.reading() {
-        LineState::LineStart => end_line_at_once(run, source, out, err),
-        _ => None,
-    }
-}
-
 /// Tells a text line that stands in front up to its newline, ends it, and places the line that this
 /// finishes, where words aren't measured. Else nothing happens.
 #[inline(always)]
