@@ -3,10 +3,11 @@ use Rattle.std.proofs.Common.{◌≡◌, ℕ, ◌+◌, ◌*◌, ◌≤◌, List,
 use Rattle.std.proofs.lemmas.List.{take_at, drop_at, length-take-le}
 use Rattle.input_model.specs.Arguments.{total_length}
 use Rattle.input_model.specs.Arguments.{live_bytes}
-use Rattle.input_arguments.specs.ArgumentTexts.Ends.{texts_ending, EndWithin}
+use Rattle.roff_num.specs.Lists.{EndInOrder}
+use Rattle.roff_num.specs.Lists.{parts_ending}
 use Rattle.input_arguments.specs.Calls.Kept.{calls_in, IsOnTop, AreStacked}
 use Rattle.input_arguments.specs.declared.calls.CallStart.{CallStart}
-use Rattle.input_arguments.proofs.Ends.{total_length-texts_ending}
+use Rattle.input_arguments.proofs.Ends.{total_length-parts_ending}
 
 -- as many calls as starts
 pub length-calls_in : (starts : List CallStart) (bytes ends : List ℕ) → length (calls_in starts bytes ends) ≡ length starts
@@ -22,7 +23,7 @@ live_bytes-calls_in (start ∷ below) bytes ends stacked =
     let top = stacked.0 in
     omega (
       arith,
-      total_length-texts_ending (drop start.byte bytes) 0 (drop start.end ends) top.within,
+      total_length-parts_ending (drop start.byte bytes) 0 (drop start.end ends) top.within,
       live_bytes-calls_in below (take start.byte bytes) (take start.end ends) stacked.1,
       top.last,
       length-drop start.byte bytes,
@@ -47,7 +48,7 @@ few_ends (start ∷ below) bytes ends stacked =
 
 -- arguments that have all bytes of a block, and of which few have none, lie on top of the others once they are behind them
 module _ (start : CallStart) (bytes ends block more : List ℕ) (byte : length bytes ≡ start.byte) (end : length ends ≡ start.end) where
-  IsOnTop-push : EndWithin (length block) 0 more → total_length (texts_ending block 0 more) ≡ length block
+  IsOnTop-push : EndInOrder (length block) 0 more → total_length (parts_ending block 0 more) ≡ length block
       → length more ≤ length block + 32 → IsOnTop start (bytes ++ block) (ends ++ more)
   IsOnTop-push within full few =
       let bytes_on_top = drop_at bytes block start.byte byte in
@@ -56,12 +57,12 @@ module _ (start : CallStart) (bytes ends block more : List ℕ) (byte : length b
         byte = omega (arith, byte, length-append bytes block);
         end = omega (arith, end, length-append ends more);
         within = rw (bytes_on_top, ends_on_top) within;
-        last = rw (bytes_on_top, ends_on_top) (omega (arith, full, total_length-texts_ending block 0 more within));
+        last = rw (bytes_on_top, ends_on_top) (omega (arith, full, total_length-parts_ending block 0 more within));
         few = rw (bytes_on_top, ends_on_top) few;
       }
 
-  pub AreStacked-push : (below : List CallStart) → EndWithin (length block) 0 more
-      → total_length (texts_ending block 0 more) ≡ length block → length more ≤ length block + 32
+  pub AreStacked-push : (below : List CallStart) → EndInOrder (length block) 0 more
+      → total_length (parts_ending block 0 more) ≡ length block → length more ≤ length block + 32
       → AreStacked below bytes ends → AreStacked (start ∷ below) (bytes ++ block) (ends ++ more)
   AreStacked-push below within full few stacked =
       let others : AreStacked below (take start.byte (bytes ++ block)) (take start.end (ends ++ more)) =

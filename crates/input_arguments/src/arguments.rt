@@ -9,8 +9,10 @@ ghost use Rattle.input_model.specs.Arguments.{with_plain, with_byte, with_whole,
 ghost use Rattle.input_model.specs.Arguments.{finished, held, is_held, kept, in_argument};
 ghost use Rattle.input_model.specs.Arguments.{total_length};
 ghost use Rattle.roff_num.specs.Lists.{last_end};
-ghost use Rattle.input_arguments.specs.ArgumentTexts.Ends.{is_kept, EndWithin};
-ghost use Rattle.input_arguments.specs.ArgumentTexts.Ends.{EndWithin-prop, texts_ending};
+ghost use Rattle.input_arguments.specs.ArgumentTexts.Ends.{is_kept};
+ghost use Rattle.roff_num.specs.Lists.{EndInOrder};
+ghost use Rattle.input_arguments.specs.ArgumentTexts.Ends.{EndInOrder-prop};
+ghost use Rattle.roff_num.specs.Lists.{parts_ending};
 
 use input_escapes::CopyUnit;
 use input_model::Place;
@@ -39,7 +41,7 @@ pub struct ArgumentTexts {
 pub struct ArgumentList<'a> {
     bytes: &'a [u8],
     ends: &'a [u32],
-    ghost within: { EndWithin (length bytes.now) 0 ends.now } by { EndWithin-prop _ _ _ },
+    ghost within: { EndInOrder (length bytes.now) 0 ends.now } by { EndInOrder-prop _ _ _ },
 }
 
 impl Model for ArgumentTexts {
@@ -272,16 +274,16 @@ impl<'a> ArgumentList<'a> {
 
     /// The arguments that lie one behind another in a block of bytes, each of which ends there.
     pub fn new(bytes: &'a [u8], ends: &'a [u32]) -> Self
-        requires { EndWithin (length bytes.now) 0 ends.now }
-        ensures { listed result ≡ texts_ending bytes.now 0 ends.now }
+        requires { EndInOrder (length bytes.now) 0 ends.now }
+        ensures { listed result ≡ parts_ending bytes.now 0 ends.now }
     {
         ArgumentList { bytes, ends }
     }
 
     /// The bytes of all of them, one after another.
     pub(crate) fn block(&self) -> &'a [u8]
-        ensures texts { texts_ending result.now 0 self.now.ends.now ≡ listed self.now }
-        ensures within { EndWithin (length result.now) 0 self.now.ends.now }
+        ensures texts { parts_ending result.now 0 self.now.ends.now ≡ listed self.now }
+        ensures within { EndInOrder (length result.now) 0 self.now.ends.now }
         ensures len { length result.now ≡ total_length (listed self.now) }
     {
         &self.bytes[..last_end(self.ends) as usize]

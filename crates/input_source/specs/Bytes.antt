@@ -1,5 +1,5 @@
 -- Kinds of input bytes (manual, sections 1.1 and 10.1).
-use Rattle.std.specs.Prelude.{ℕ, Bool, ◌&&◌, ◌||◌, not, [], ◌∷◌, nat_le, nat_lt, ◌==◌}
+use Rattle.std.specs.Prelude.{ℕ, Bool, ◌&&◌, ◌||◌, not, List, [], ◌∷◌, if◌then◌else◌, nat_le, nat_lt, ◌==◌}
 use Rattle.std.specs.List.{list_any}
 
 -- bytes with a meaning
@@ -52,3 +52,8 @@ is_text_byte b = not (nat_lt b 32 || (b == 127 || b == backslash))
 -- a byte of a line that is held as it is read: neither a backslash, a newline nor one that is dropped
 abbrev pub is_argument_byte : ℕ → Bool
 is_argument_byte b = not (b == backslash || (is_dropped b || b == newline))
+
+-- a text without the blanks at its front
+abbrev pub behind_blanks : List ℕ → List ℕ
+behind_blanks [] = []
+behind_blanks (b ∷ text) = if b == blank then behind_blanks text else b ∷ text

@@ -21,7 +21,8 @@ use Rattle.input_escapes.specs.declared.escapes.NameUse.TheVariants.{Register}
 use Rattle.law_reading.proofs.InterpolatedNames.{escapes_read_as_texts}
 use Rattle.law_reading.specs.CallLaws.{BeginsLine}
 use Rattle.law_reading.specs.InterpolationLaws.{IsEscapeOf, Short, Long, ShortString, LongString, OfArgument, StandsForItself, stepped, text_named, with_text_ahead}
-use Rattle.law_reading.specs.MessageLaws.{HasMessage, without_front}
+use Rattle.law_reading.specs.MessageLaws.{HasMessage}
+use Rattle.input_source.specs.Bytes.{behind_blanks}
 use Rattle.law_escapes.specs.MessageLines.{MessagesTellWhatIsRead, message_line, steps}
 use Rattle.run_model.proofs.ItemsTaken.{Fits-IsWithin, FromAhead, Origin, made-Fits, step-reads, taken_as-going_on}
 use Rattle.run_model.proofs.Leads.{after-add}
@@ -288,7 +289,7 @@ module _ (l : Limits) (s : State) (control : ℕ) (name : ShortName) (front behi
   abbrev told : State
   told = record s {
     input = record s.input { ahead = rest; charge = s.input.charge + length line + length text + 1 };
-    messages = s.messages ++ told_line false (without_front ((front ++ text) ++ behind));
+    messages = s.messages ++ told_line false (behind_blanks ((front ++ text) ++ behind));
   }
 
   -- and all is told
@@ -301,7 +302,7 @@ module _ (l : Limits) (s : State) (control : ℕ) (name : ShortName) (front behi
       } in
       let total : ℕ = s.input.charge + length line + length text + 1 in
       let sum : c5 + 1 ≡ total = omega (arith, lengths) in
-      let all : List ℕ = without_front ((front ++ text) ++ behind) in
+      let all : List ℕ = behind_blanks ((front ++ text) ++ behind) in
       let begin : Bool × Arguments = (true, no_arguments) in
       let folded : fold tell begin ((front ++ text) ++ behind) ≡ t3 =
       fold-append tell begin (front ++ text) behind ∙ ap (λ (t : Bool × Arguments). fold tell t behind) (fold-append tell begin front text) in

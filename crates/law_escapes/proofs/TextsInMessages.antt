@@ -26,7 +26,7 @@ use Rattle.law_reading.proofs.MessageLaws.{held-fold, tell, told-front}
 use Rattle.law_escapes.proofs.MessageLines.{step-told}
 use Rattle.law_reading.specs.CallLaws.{BeginsLine}
 use Rattle.law_reading.specs.InterpolationLaws.{text_named}
-use Rattle.law_reading.specs.MessageLaws.{without_front}
+use Rattle.input_source.specs.Bytes.{behind_blanks}
 use Rattle.law_reading.specs.WordCalls.{call_with}
 use Rattle.run_model.proofs.ItemsTaken.{Fits-IsWithin, FromAhead, FromSource, Origin, ahead_at, made-Fits, tape_at, taken_as-going_on}
 use Rattle.run_model.proofs.Leads.{after-add}
@@ -106,7 +106,7 @@ held-parts t bytes most few = omega (arith, few, held-fold t bytes)
 -- a run that told a message
 abbrev told_from : State → Origin → List ℕ → List ℕ → State
 told_from s from line text =
-    record s { tape = tape_at from [] s.tape; input = counted from line s.input; messages = s.messages ++ told_line false (without_front text) }
+    record s { tape = tape_at from [] s.tape; input = counted from line s.input; messages = s.messages ++ told_line false (behind_blanks text) }
 
 -- it is told behind its line
 tells-behind : (s : State) (from : Origin) (front : List ℕ) (text : List ℕ) → BeginsLine s
@@ -297,7 +297,7 @@ ended-with-texts : (l : Limits) (s : State) (from : Origin) (control : ℕ) (nam
     let read : List ℕ = copied (rewritten (known s) s.input parts) in
     s.input.ahead ≡ ahead_at from line → s.tape ≡ tape_at from line s.tape → s.input.charge + cost ≤ l.bytes → HasRoomForTexts l s (rewritten (known s) s.input parts) → IsWithin l s
     → let ended : State = after l (cost + 1) s in
-    EndsBy s (without_front read) cost ended × (ended.input.ahead ≡ ahead_at from []) × (ended.tape ≡ tape_at from [] s.tape)
+    EndsBy s (behind_blanks read) cost ended × (ended.input.ahead ≡ ahead_at from []) × (ended.tape ≡ tape_at from [] s.tape)
 ended-with-texts l s from control name parts begins has may ahead tape charge has_room within =
     let line : List ℕ = call_with control name (bytes_of parts) in
     let texts_cost : ℕ = cost_of_texts (known s) s.input parts in
@@ -326,7 +326,7 @@ messages_tell_the_texts_read l s control name parts rest begins has may ahead ro
     let line : List ℕ = call_with control name (bytes_of parts) in
     let cost : ℕ = cost_of_texts (known s) s.input parts in
     let read : List ℕ = copied (rewritten (known s) s.input parts) in
-    let of : PageInput → State = λ i. record s { registers = registers_behind s.registers parts; input = i; messages = s.messages ++ told_line false (without_front read) } in
+    let of : PageInput → State = λ i. record s { registers = registers_behind s.registers parts; input = i; messages = s.messages ++ told_line false (behind_blanks read) } in
     let sum : s.input.charge + cost + length line ≡ s.input.charge + (length line + cost) = omega arith in
     let is : told_from (paid s (registers_behind s.registers parts) cost) (FromAhead rest) line read ≡ of (record s.input { ahead = rest; charge = s.input.charge + (length line + cost) }) =
     ap of (counted-ahead rest line (charged cost s.input)) ∙ ap (λ (n : ℕ). of (record s.input { ahead = rest; charge = n })) sum in
@@ -337,7 +337,7 @@ messages_of_the_source_tell_the_texts_read l s control name parts tape begins ha
     let line : List ℕ = call_with control name (bytes_of parts) in
     let cost : ℕ = cost_of_texts (known s) s.input parts in
     let read : List ℕ = copied (rewritten (known s) s.input parts) in
-    let of : PageInput → State = λ i. record s { tape = tape; registers = registers_behind s.registers parts; input = i; messages = s.messages ++ told_line false (without_front read) } in
+    let of : PageInput → State = λ i. record s { tape = tape; registers = registers_behind s.registers parts; input = i; messages = s.messages ++ told_line false (behind_blanks read) } in
     let is : told_from (paid s (registers_behind s.registers parts) cost) (FromSource tape) line read ≡ of (record (lines_taken line s.input) { charge = s.input.charge + (length line + cost) }) =
     ap of (counted-source tape line (charged cost s.input) none ∙ lines_taken-charged line cost s.input) in
     told-with-texts l s (FromSource tape) control name parts begins has may none stands room within (subst (IsWithin l) (sym is) within_told) ∙ is

@@ -9,7 +9,8 @@ use Rattle.input_escapes.specs.declared.escapes.NameUse.{NameUse}
 use Rattle.input_escapes.specs.declared.escapes.NameUse.TheVariants.{Register}
 use Rattle.law_reading.specs.CallLaws.{BeginsLine}
 use Rattle.law_reading.specs.InterpolationLaws.{IsEscapeOf, StandsForItself, text_named}
-use Rattle.law_reading.specs.MessageLaws.{HasMessage, without_front}
+use Rattle.law_reading.specs.MessageLaws.{HasMessage}
+use Rattle.input_source.specs.Bytes.{behind_blanks}
 use Rattle.run_model.specs.Messages.{told_line}
 use Rattle.run_model.specs.Run.{State, after, known}
 use Rattle.run_model.specs.Within.{IsWithin}
@@ -41,7 +42,7 @@ MessagesTellWhatIsRead =
     let told : State =
     record s {
       input = record s.input { ahead = rest; charge = s.input.charge + length line + length text + 1 };
-      messages = s.messages ++ told_line false (without_front ((front ++ text) ++ behind));
+      messages = s.messages ++ told_line false (behind_blanks ((front ++ text) ++ behind));
     } in
     pushed s.input + length text ≤ l.stack → depth s.input + 1 ≤ l.depth → IsWithin l s → IsWithin l told →
     after l (length line + length text + 2) s ≡ told

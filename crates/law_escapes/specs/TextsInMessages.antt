@@ -11,7 +11,7 @@ use Rattle.input_model.specs.Input.{Ahead, ByteAhead, lines_taken}
 use Rattle.law_escapes.specs.Parts.{AreParts, IsCopiedPart, Part, bytes_of, cost_of_texts, registers_behind, rewritten}
 use Rattle.law_escapes.specs.TextsInCalls.{HasRoomForTexts}
 use Rattle.law_reading.specs.CallLaws.{BeginsLine, IsControl}
-use Rattle.law_reading.specs.MessageLaws.{without_front}
+use Rattle.input_source.specs.Bytes.{behind_blanks}
 use Rattle.law_reading.specs.WordCalls.{call_with}
 use Rattle.run_model.specs.Messages.{told_line}
 use Rattle.run_model.specs.Reading.ControlLines.{BelongsToName}
@@ -47,7 +47,7 @@ MessagesTellTheTextsRead =
     record s {
       registers = registers_behind s.registers parts;
       input = record s.input { ahead = rest; charge = s.input.charge + cost };
-      messages = s.messages ++ told_line false (without_front (copied read));
+      messages = s.messages ++ told_line false (behind_blanks (copied read));
     } in
     HasRoomForTexts l s read → IsWithin l s → IsWithin l told → after l (cost + 1) s ≡ told
 
@@ -67,7 +67,7 @@ MessagesOfTheSourceTellTheTextsRead =
       tape = tape;
       registers = registers_behind s.registers parts;
       input = behind;
-      messages = s.messages ++ told_line false (without_front (copied read));
+      messages = s.messages ++ told_line false (behind_blanks (copied read));
     } in
     HasRoomForTexts l s read → IsWithin l s → IsWithin l told → after l (cost + 1) s ≡ told
 
@@ -88,7 +88,7 @@ RunsEndWithTheTextsRead =
     let read : List ℕ = rewritten (known s) s.input parts in
     let cost : ℕ = length line + cost_of_texts (known s) s.input parts in
     s.input.ahead ≡ map ByteAhead line ++ rest → s.input.charge + cost ≤ l.bytes → HasRoomForTexts l s read → IsWithin l s →
-    EndsBy s (without_front (copied read)) cost (after l (cost + 1) s) × ((after l (cost + 1) s).input.ahead ≡ rest)
+    EndsBy s (behind_blanks (copied read)) cost (after l (cost + 1) s) × ((after l (cost + 1) s).input.ahead ≡ rest)
 
 -- and so it is where the line stands in the source itself, with nothing ahead of it
 abbrev pub RunsEndWithTheTextsOfTheSource : Type 0
@@ -100,4 +100,4 @@ RunsEndWithTheTextsOfTheSource =
     let read : List ℕ = rewritten (known s) s.input parts in
     let cost : ℕ = length line + cost_of_texts (known s) s.input parts in
     s.tape ≡ items_then (map OneByte line) tape → s.input.charge + cost ≤ l.bytes → HasRoomForTexts l s read → IsWithin l s →
-    EndsBy s (without_front (copied read)) cost (after l (cost + 1) s) × ((after l (cost + 1) s).tape ≡ tape)
+    EndsBy s (behind_blanks (copied read)) cost (after l (cost + 1) s) × ((after l (cost + 1) s).tape ≡ tape)

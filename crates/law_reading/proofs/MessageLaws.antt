@@ -12,7 +12,8 @@ use Rattle.roff_store.specs.Named.{Named}
 use Rattle.roff_store.specs.Texts.{Entry}
 use Rattle.law_reading.proofs.LineNames.{Allows, ReadsAs, ReadsName, onward, reads-name}
 use Rattle.law_reading.specs.InterpolationLaws.{StandsForItself}
-use Rattle.law_reading.specs.MessageLaws.{HasMessage, MessagesAreTheirTexts, TellsText, without_front}
+use Rattle.law_reading.specs.MessageLaws.{HasMessage, MessagesAreTheirTexts, TellsText}
+use Rattle.input_source.specs.Bytes.{behind_blanks}
 use Rattle.run_model.proofs.NameBytes.{stage}
 use Rattle.run_model.proofs.PlainRuns.{Here, Onward, Path, Path-append}
 use Rattle.run_model.specs.Reading.ControlLines.{behind_name, line_taking}
@@ -80,10 +81,10 @@ tells-behind k aborts i a (b ∷ text) themselves =
 
 -- the first byte, by whether it is a blank
 tells-first : (k : Known) (aborts is_blank : Bool) (i : PageInput) (b : ℕ) (text : List ℕ) → (b == blank) ≡ is_blank → All StandsForItself (b ∷ text)
-    → TellsText aborts (without_front text) (taking_all k (Collecting (Telling aborts true)) (with_text i no_arguments) (text ++ newline ∷ []))
-    → TellsText aborts (if is_blank then without_front text else b ∷ text) (taking_all k (Collecting (Telling aborts true)) (with_text i no_arguments) (b ∷ text ++ newline ∷ []))
+    → TellsText aborts (behind_blanks text) (taking_all k (Collecting (Telling aborts true)) (with_text i no_arguments) (text ++ newline ∷ []))
+    → TellsText aborts (if is_blank then behind_blanks text else b ∷ text) (taking_all k (Collecting (Telling aborts true)) (with_text i no_arguments) (b ∷ text ++ newline ∷ []))
 tells-first k aborts true i b text is themselves others =
-    tells-cons k aborts true (with_text i no_arguments) b (text ++ newline ∷ []) (without_front text) (going_on (with_text i no_arguments) (Collecting (Telling aborts true)))
+    tells-cons k aborts true (with_text i no_arguments) b (text ++ newline ∷ []) (behind_blanks text) (going_on (with_text i no_arguments) (Collecting (Telling aborts true)))
     (taking-message k aborts true i no_arguments b (All-head StandsForItself b text themselves)
     ∙ ap (λ (c : Bool). if c then going_on (with_text i no_arguments) (Collecting (Telling aborts true)) else going_on (with_text i (with_byte no_arguments InPlain b)) (Collecting (Telling aborts false))) is)
     others
@@ -95,7 +96,7 @@ tells-first k aborts false i b text is themselves others =
 
 -- the whole line
 tells-line : (k : Known) (aborts : Bool) (i : PageInput) (text : List ℕ) → All StandsForItself text
-    → TellsText aborts (without_front text) (taking_all k (Collecting (Telling aborts true)) (with_text i no_arguments) (text ++ newline ∷ []))
+    → TellsText aborts (behind_blanks text) (taking_all k (Collecting (Telling aborts true)) (with_text i no_arguments) (text ++ newline ∷ []))
 tells-line k aborts i [] themselves = record { reading = refl; told = refl }
 tells-line k aborts i (b ∷ text) themselves =
     tells-first k aborts (b == blank) i b text refl themselves (tells-line k aborts i text (All-tail StandsForItself b text themselves))
@@ -104,7 +105,7 @@ pub messages_are_their_texts : MessagesAreTheirTexts
 messages_are_their_texts k aborts i text half none themselves =
     let input : with_text i no_arguments ≡ i =
     ap (λ (h : List OpenEscape). record i { escapes = h; arguments = no_arguments }) (sym half) ∙ ap (λ (a : Arguments). record i { arguments = a }) (sym none) in
-    subst (λ (j : PageInput). TellsText aborts (without_front text) (taking_all k (Collecting (Telling aborts true)) j (text ++ newline ∷ []))) input
+    subst (λ (j : PageInput). TellsText aborts (behind_blanks text) (taking_all k (Collecting (Telling aborts true)) j (text ++ newline ∷ []))) input
     (tells-line k aborts i text themselves)
 
 -- what is held of a message, and whether nothing but blanks was read of it
@@ -156,12 +157,12 @@ told-behind a (b ∷ bytes) =
     ∙ ap (λ (front : List ℕ). front ++ bytes) (reverse-append (b ∷ []) a.begun)
     ∙ append_assoc (reverse a.begun) (b ∷ []) bytes
 
-told-if : (b : ℕ) (bytes : List ℕ) (c : Bool) → reverse (fold tell (true, no_arguments) bytes).1.begun ≡ without_front bytes
-    → reverse (fold tell (if c then (true, no_arguments) else (false, with_byte no_arguments InPlain b)) bytes).1.begun ≡ (if c then without_front bytes else b ∷ bytes)
+told-if : (b : ℕ) (bytes : List ℕ) (c : Bool) → reverse (fold tell (true, no_arguments) bytes).1.begun ≡ behind_blanks bytes
+    → reverse (fold tell (if c then (true, no_arguments) else (false, with_byte no_arguments InPlain b)) bytes).1.begun ≡ (if c then behind_blanks bytes else b ∷ bytes)
 told-if b bytes true others = others
 told-if b bytes false others = told-behind (with_byte no_arguments InPlain b) bytes
 
-pub told-front : (bytes : List ℕ) → reverse (fold tell (true, no_arguments) bytes).1.begun ≡ without_front bytes
+pub told-front : (bytes : List ℕ) → reverse (fold tell (true, no_arguments) bytes).1.begun ≡ behind_blanks bytes
 told-front [] = refl
 told-front (b ∷ bytes) = told-if b bytes (b == blank) (told-front bytes)
 

@@ -3,7 +3,7 @@ use Rattle.std.specs.Prelude.{◌≡◌, ℕ, Bool, true, false, List, [], ◌�
 use Rattle.roff_num.specs.ShortNames.{name_bytes}
 use Rattle.roff_num.specs.declared.short_name.ShortName.{ShortName}
 use Rattle.input_model.specs.Arguments.{no_arguments}
-use Rattle.input_source.specs.Bytes.{blank, newline}
+use Rattle.input_source.specs.Bytes.{blank, newline, behind_blanks}
 use Rattle.roff_store.specs.Named.{Named}
 use Rattle.roff_store.specs.Texts.{Entry}
 use Rattle.law_reading.specs.CallLaws.{IsControl}
@@ -28,11 +28,6 @@ pub record HasMessage (names : Named Entry) (control : ℕ) (name : ShortName) :
   pub stands_for : called_by name names ≡ ARequest of_request
   pub reads_message : (row_of of_request).line ≡ ByMessage false
 
--- a text without the blanks in front
-abbrev pub without_front : List ℕ → List ℕ
-without_front [] = []
-without_front (b ∷ text) = if b == blank then without_front text else b ∷ text
-
 -- the line of a message has ended, and this is its text
 pub record TellsText (aborts : Bool) (text : List ℕ) (t : Taking) : Type 0 where
   pub reading : t.reading ≡ Told aborts
@@ -43,4 +38,4 @@ abbrev pub MessagesAreTheirTexts : Type 0
 MessagesAreTheirTexts =
     (k : Known) (aborts : Bool) (i : PageInput) (text : List ℕ) → i.escapes ≡ [] → i.arguments ≡ no_arguments →
     All StandsForItself text →
-    TellsText aborts (without_front text) (taking_all k (Collecting (Telling aborts true)) i (text ++ newline ∷ []))
+    TellsText aborts (behind_blanks text) (taking_all k (Collecting (Telling aborts true)) i (text ++ newline ∷ []))

@@ -12,7 +12,7 @@ ghost use Rattle.law_reading.specs.EndedLaws.{UnendedDefinitionsEnterNothing};
 ghost use Rattle.law_reading.specs.EndedLaws.{UnfinishedTextLinesTellTheirWords};
 ghost use Rattle.law_runs.specs.Rows.{gives, formatted, formatted_from};
 ghost use Rattle.roff_num.specs.declared.limit.Limit.TheVariants.{Names};
-ghost use Rattle.run_model.specs.Requests.Numbering.{number};
+ghost use Rattle.roff_num.specs.Ranges.{number};
 ghost use Rattle.run_model.specs.declared.status.Status.TheVariants.{Done, Limit as Limited};
 
 /// Behind the input's last line the text of the last macro is read, an end behind it, and then the

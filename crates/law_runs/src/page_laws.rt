@@ -1,7 +1,7 @@
 //! Facts about the pages of whole runs alone, as contracts of functions that do nothing.
 
 ghost use Rattle.std.specs.Prelude.{◌≡◌, [], ◌∷◌, None, Some, codes, pos};
-ghost use Rattle.run_model.specs.Requests.Numbering.{number};
+ghost use Rattle.roff_num.specs.Ranges.{number};
 ghost use Rattle.run_model.specs.declared.status.Status.TheVariants.{Done};
 ghost use Rattle.law_runs.specs.PageLaws.{WritesWholePages};
 ghost use Rattle.law_runs.specs.Rows.{formatted, formatted_paged, gives};

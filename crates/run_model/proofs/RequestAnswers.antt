@@ -26,7 +26,8 @@ use Rattle.run_model.specs.Requests.Adjustment.{adjusting_in, centre, centring, 
 use Rattle.run_model.specs.Requests.Effects.{Response, Around, Ignored, Obeyed, happens, nothing, page_numbered}
 use Rattle.run_model.specs.Requests.Lengths.{length_set, length_wanted, setting_length, temporary_indent}
 use Rattle.run_model.specs.Requests.Naming.{removals, rename}
-use Rattle.run_model.specs.Requests.Numbering.{assign_format, format_as, if_named, increment_given, name_given, names_given, number, number_of_page, set_register, set_to}
+use Rattle.run_model.specs.Requests.Numbering.{assign_format, format_as, if_named, increment_given, name_given, names_given, number_of_page, set_register, set_to}
+use Rattle.roff_num.specs.Ranges.{number}
 use Rattle.run_model.specs.Requests.Paging.{begin_page, ejected, ejected_by, ejected_to, lines_on_page, lines_set, next_numbered, offset_to, page_asked, page_ejected, page_length, page_number, page_of}
 use Rattle.run_model.specs.Requests.Spacing.{line_spacing, need, needed, space_down, spaced, spacing}
 use Rattle.run_model.specs.Requests.Springing.{input_trap, trap_set}

@@ -3,7 +3,7 @@
 -- and what belongs to titles (section 14).
 use Rattle.std.specs.Prelude.{ℕ, ◌*◌, ◌%◌, ◌==◌, unsigned_abs, Bool, ◌&&◌, not, List, [], ◌∷◌, ℤ, pos, negsuc, bytes_eq, codes, find, fold, min, is_some, option_map, Option, Some, None, if◌then◌else◌}
 use Rattle.page_model.specs.declared.settings.Settings.{Settings}
-use Rattle.roff_num.specs.Ranges.{is_in_range}
+use Rattle.roff_num.specs.Ranges.{greatest_number, is_in_range}
 use Rattle.roff_num.specs.RegisterText.{register_text}
 use Rattle.roff_num.specs.ShortNames.{name_bytes}
 use Rattle.roff_num.specs.declared.format.Format.{Format}
@@ -93,9 +93,6 @@ abbrev pub in_heights : ℕ → ℕ
 in_heights lines = 40 * lines
 
 -- a count above the greatest number reads as that
-abbrev pub greatest_number : ℕ
-greatest_number = 2147483647
-
 abbrev pub at_greatest : ℕ → ℤ
 at_greatest n = pos (min n greatest_number)
 

@@ -3,7 +3,9 @@ use Rattle.std.proofs.Common.{◌≡◌, ℕ, zero, suc, ◌+◌, ◌-◌, ◌<�
 use Rattle.std.specs.List.{slice_range}
 use Rattle.std.proofs.lemmas.List.{drop-append-le, length-take-le, take-append-le, take_rest}
 use Rattle.roff_num.specs.Lists.{last_end}
-use Rattle.tbl_format.specs.Parts.{EndInOrder, EndWithin, parts_ending}
+use Rattle.tbl_format.specs.Parts.{EndWithin}
+use Rattle.roff_num.specs.Lists.{EndInOrder}
+use Rattle.roff_num.specs.Lists.{parts_ending}
 
 -- the last of them ends within the list
 pub EndWithin-last : (len from : ℕ) (ends : List ℕ) → EndWithin len from ends → last_end from ends ≤ len

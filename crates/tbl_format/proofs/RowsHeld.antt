@@ -3,7 +3,8 @@ use Rattle.std.proofs.Common.{◌≡◌, ℕ, zero, suc, ◌+◌, ◌<◌, ◌�
 use Rattle.std.specs.List.{AllByRecursion}
 use Rattle.tbl_format.specs.Format.{Format, FormatRow, asked_by, asking, asking_for_bars, at_fault, columns_of, done, fault_if, format_byte, format_byte_at, further, has_some, is_misplaced, looked_again, most_bars, plain_key, read_behind, said_by, stepped, with_any_key, with_asked, with_columns, with_last, with_whole, widened}
 use Rattle.tbl_format.specs.Cells.{start_of}
-use Rattle.tbl_format.specs.FormatLaws.{AreHeld, Further, IsHeld, IsRead, Line, NoByte, RowHeld, bars_beside, most_beside}
+use Rattle.tbl_format.specs.FormatLaws.{AreHeld, Further, IsHeld, IsRead, Line, NoByte, RowHeld, most_beside}
+use Rattle.tbl_format.specs.FormatLaws.{bars_among}
 use Rattle.tbl_format.specs.FormatSteps.{step}
 use Rattle.tbl_format.specs.RowsServed.{all_rows}
 use Rattle.tbl_format.specs.declared.format.Asked.{Asked}
@@ -71,7 +72,7 @@ held-key key f held =
     let others = with_columns f.asked count in
     let columns = length-with_columns f.asked count held.row.short in
     let more = columns-most f.front f.asked count in
-    let most : (cell : ℕ) → bars_beside f.row f.bars cell ≤ most_beside f.front others (start_of f.row cell) =
+    let most : (cell : ℕ) → bars_among f.row f.bars cell ≤ most_beside f.front others (start_of f.row cell) =
     λ cell. omega (arith, held.row.most cell, more (start_of f.row cell)) in
     record {
       rows = rows-more f.front f.front f.asked others (record { columns = omega (arith, columns); most = more }) (all_rows f) held.rows;

@@ -14,11 +14,11 @@ pub data IsRead : Format → Type 0 where
   Further : (f : Format) → IsRead f → IsRead (further f)
 
 -- how many bars these keys have in front of one of them, or behind the last
-abbrev pub bars_beside : List FormatKey → ℕ → ℕ → ℕ
-bars_beside [] last zero = last
-bars_beside [] last (suc cell) = 0
-bars_beside (k ∷ keys) last zero = k.bars
-bars_beside (k ∷ keys) last (suc cell) = bars_beside keys last cell
+abbrev pub bars_among : List FormatKey → ℕ → ℕ → ℕ
+bars_among [] last zero = last
+bars_among [] last (suc cell) = 0
+bars_among (k ∷ keys) last zero = k.bars
+bars_among (k ∷ keys) last (suc cell) = bars_among keys last cell
 
 -- the most that formats ask for in front of a column
 abbrev pub most_beside : ℕ → List Asked → ℕ → ℕ
@@ -30,7 +30,7 @@ most_beside front asked (suc column) = get_or (map (λ (a : Asked). a.bars) aske
 pub record IsHeld (front : ℕ) (asked : List Asked) (keys : List FormatKey) (bars : ℕ) : Type 0 where
   pub cells : AreCells 0 keys
   pub short : columns_of keys ≤ length asked
-  pub most : (cell : ℕ) → bars_beside keys bars cell ≤ most_beside front asked (start_of keys cell)
+  pub most : (cell : ℕ) → bars_among keys bars cell ≤ most_beside front asked (start_of keys cell)
 
 -- all rows of the formats are held
 abbrev pub RowHeld : ℕ → List Asked → FormatRow → Type 0

@@ -13,7 +13,8 @@ use Rattle.tbl_lines.specs.PictureLines.{OfKeys, RuleLine, Whole, boxed_from, fr
 use Rattle.tbl_giving.proofs.LinesGo.{row-split, rule-of}
 use Rattle.tbl_giving.proofs.LinesLaid.{StillCome, still-come}
 use Rattle.tbl_picture.proofs.RuleLengths.{some-rows}
-use Rattle.tbl_giving.specs.LinesWalked.{HasCome, IsHigh, IsRow, IsRowOf, IsRuleFirst, KeptLineByLine, SignTold, StandsAtRule, StandsInFront, boxed_now, coming, elements_left, heights_now, sheet_by}
+use Rattle.tbl_giving.specs.LinesWalked.{HasCome, IsHigh, IsRowOf, IsRuleFirst, KeptLineByLine, SignTold, StandsAtRule, StandsInFront, boxed_now, coming, elements_left, heights_now, sheet_by}
+use Rattle.tbl_picture.specs.RulesWalked.{IsRowFirst}
 use Rattle.tbl_giving.specs.PartsToCome.{ToCome}
 use Rattle.tbl_giving.specs.declared.line_by_line.Place.{Place}
 use Rattle.tbl_giving.specs.declared.line_by_line.Place.TheVariants.{AtElement, AtTop, OnRow, OnRule}
@@ -134,7 +135,7 @@ module _ (bytes : List ℕ) (formats : List FormatRow) (rows : KeptRows) (g : Ke
     whole-next some =
         let rest = row-of (keys_left formats g.tall.band) ∷ behind in
         rule-next AtElement InFront (Some Single) come come.stands refl (OneRule Single ∷ rest) (row-left false some) (Whole Single) rest WholeComes
-        (subst (λ (es : List KeptElement). IsRow es) (sym is) tt) (told-whole (OneRule Single ∷ rest) rest Single refl)
+        (subst (λ (es : List KeptElement). IsRowFirst es) (sym is) tt) (told-whole (OneRule Single ∷ rest) rest Single refl)
 
     -- rows of rule keys are left, or none
     keys-next : (rules : List FormatRow) → keys_left formats g.tall.band ≡ rules → 0 < length rules → (wholes_left g.tall.band == 0) ≡ true
@@ -144,7 +145,7 @@ module _ (bytes : List ℕ) (formats : List FormatRow) (rows : KeptRows) (g : Ke
         let fields = fields_of bytes (row_at formats keys) entries in
         rule-next AtElement InFront None come come.stands refl (row-of (rule ∷ rules) ∷ behind)
         (row-left true none ∙ ap (λ (rs : List FormatRow). row-of rs ∷ behind) rules_are) (OfKeys rule) (row-of rules ∷ behind) KeysCome
-        (subst (λ (es : List KeptElement). IsRow es) (sym is) tt)
+        (subst (λ (es : List KeptElement). IsRowFirst es) (sym is) tt)
         (told-keys (row-of (rule ∷ rules) ∷ behind) behind rule rules (row_at formats keys) fields refl)
 
     pub rule-keys-next : wholes_left g.tall.band ≡ 0 → nat_lt g.tall.band.at (g.tall.band.wholes + g.tall.band.count) ≡ true

@@ -12,7 +12,8 @@ use Rattle.tbl_tall.specs.BandLaws.{HasLinePlaces}
 use Rattle.tbl_options.specs.declared.options.Boxing.{Boxing}
 use Rattle.tbl_giving.proofs.LinesGo.{PartCame, behind-in-front, behind-last, behind-whole, gone, part-came, rule-height}
 use Rattle.tbl_giving.proofs.PartsCome.{rule-behind, rule-has}
-use Rattle.tbl_giving.specs.LinesWalked.{HasCome, IsRow, IsRuleFirst, KeptLineByLine, PartGone, is_on_line, StandsNext, boxed_now, coming, elements_left, heights_left, heights_now, sheet_by}
+use Rattle.tbl_giving.specs.LinesWalked.{HasCome, IsRuleFirst, KeptLineByLine, PartGone, is_on_line, StandsNext, boxed_now, coming, elements_left, heights_left, heights_now, sheet_by}
+use Rattle.tbl_picture.specs.RulesWalked.{IsRowFirst}
 use Rattle.tbl_giving.specs.PartsToCome.{ToCome, behind_part}
 use Rattle.tbl_giving.specs.declared.line_by_line.Place.{Place}
 use Rattle.tbl_giving.specs.declared.line_by_line.Place.TheVariants.{AtElement, AtEnd, OnRule}
@@ -144,7 +145,7 @@ module _ (bytes : List ℕ) (formats : List FormatRow) (rows : KeptRows) (g : Ke
       (ap (λ (es : List KeptElement). heights_now g.tall.lines_left es) next_is ∙ ap (λ (es : List KeptElement). heights_now g.tall.lines_left es) (sym is))
       (ap (λ (es : List KeptElement). heights_of es) next_is ∙ ap (λ (es : List KeptElement). heights_of es) (sym is))
 
-  front-by : (kept : List KeptElement) → drop g.element rows.elements ≡ kept → IsRow kept
+  front-by : (kept : List KeptElement) → drop g.element rows.elements ≡ kept → IsRowFirst kept
       → HasCome bytes formats rows (record g { place = OnRule InFront }) room → PartAt InFront g.element AtElement
   front-by [] is first come = absurd first
   front-by (Rule sign ∷ kept) is first come = absurd first

@@ -11,7 +11,8 @@ use Rattle.tbl_giving.proofs.LineStepsMade.{begins-step, off-line}
 use Rattle.tbl_giving.proofs.LinesLaid.{StillCome}
 use Rattle.tbl_giving.proofs.PartsNext.{RuleNext, element-next, end-next, row-next, rule-keys-next, top-next, whole-next}
 use Rattle.tbl_giving.proofs.StepsOnLines.{come-at}
-use Rattle.tbl_giving.specs.LinesWalked.{CanGo, HasCome, IsRow, KeptLineByLine, LineBegins, LineSteps, boxed_now, coming, is_on_line, lines_to_come, sheet_by}
+use Rattle.tbl_giving.specs.LinesWalked.{CanGo, HasCome, KeptLineByLine, LineBegins, LineSteps, boxed_now, coming, is_on_line, lines_to_come, sheet_by}
+use Rattle.tbl_picture.specs.RulesWalked.{IsRowFirst}
 use Rattle.tbl_giving.specs.PartsToCome.{all_lines}
 use Rattle.tbl_picture.specs.Walks.{KeptWalk}
 use Rattle.tbl_giving.specs.declared.line_by_line.Place.{Place}
@@ -46,7 +47,7 @@ module _ (bytes : List ℕ) (formats : List FormatRow) (rows : KeptRows) (g : Ke
     here : HasCome bytes formats rows (record g { place = AtElement }) w.room
     here = come-at bytes formats rows g w AtElement is w.room can.come
 
-    whole-by : (kept : List KeptElement) → drop g.element rows.elements ≡ kept → IsRow kept → (wholes_left g.tall.band == 0) ≡ false
+    whole-by : (kept : List KeptElement) → drop g.element rows.elements ≡ kept → IsRowFirst kept → (wholes_left g.tall.band == 0) ≡ false
         → RuleNext bytes formats rows g AtElement InFront (Some Single) w.room
     whole-by [] kept_is row some = absurd row
     whole-by (Rule sign ∷ kept) kept_is row some = absurd row
@@ -54,11 +55,11 @@ module _ (bytes : List ℕ) (formats : List FormatRow) (rows : KeptRows) (g : Ke
     whole-by (Row keys others height entries ∷ kept) kept_is row some =
         whole-next bytes formats rows g w.room keys others height entries kept kept_is here some
 
-    pub whole-at : IsRow (drop g.element rows.elements) → (wholes_left g.tall.band == 0) ≡ false
+    pub whole-at : IsRowFirst (drop g.element rows.elements) → (wholes_left g.tall.band == 0) ≡ false
         → RuleNext bytes formats rows g AtElement InFront (Some Single) w.room
     whole-at row some = whole-by (drop g.element rows.elements) refl row some
 
-    keys-by : (kept : List KeptElement) → drop g.element rows.elements ≡ kept → IsRow kept → wholes_left g.tall.band ≡ 0
+    keys-by : (kept : List KeptElement) → drop g.element rows.elements ≡ kept → IsRowFirst kept → wholes_left g.tall.band ≡ 0
         → nat_lt g.tall.band.at (g.tall.band.wholes + g.tall.band.count) ≡ true → RuleNext bytes formats rows g AtElement InFront None w.room
     keys-by [] kept_is row none more = absurd row
     keys-by (Rule sign ∷ kept) kept_is row none more = absurd row
@@ -66,11 +67,11 @@ module _ (bytes : List ℕ) (formats : List FormatRow) (rows : KeptRows) (g : Ke
     keys-by (Row keys others height entries ∷ kept) kept_is row none more =
         rule-keys-next bytes formats rows g w.room keys others height entries kept kept_is here none more
 
-    pub keys-at : IsRow (drop g.element rows.elements) → wholes_left g.tall.band ≡ 0
+    pub keys-at : IsRowFirst (drop g.element rows.elements) → wholes_left g.tall.band ≡ 0
         → nat_lt g.tall.band.at (g.tall.band.wholes + g.tall.band.count) ≡ true → RuleNext bytes formats rows g AtElement InFront None w.room
     keys-at row none more = keys-by (drop g.element rows.elements) refl row none more
 
-    line-by : (kept : List KeptElement) → drop g.element rows.elements ≡ kept → IsRow kept → wholes_left g.tall.band ≡ 0
+    line-by : (kept : List KeptElement) → drop g.element rows.elements ≡ kept → IsRowFirst kept → wholes_left g.tall.band ≡ 0
         → nat_lt g.tall.band.at (g.tall.band.wholes + g.tall.band.count) ≡ false
         → StillCome bytes formats rows (record g { place = AtElement }) (record g { place = OnRow }) w.room
     line-by [] kept_is row none more = absurd row
@@ -79,7 +80,7 @@ module _ (bytes : List ℕ) (formats : List FormatRow) (rows : KeptRows) (g : Ke
     line-by (Row keys others height entries ∷ kept) kept_is row none more =
         row-next bytes formats rows g w.room keys others height entries kept kept_is here none more
 
-    pub line-at : IsRow (drop g.element rows.elements) → wholes_left g.tall.band ≡ 0
+    pub line-at : IsRowFirst (drop g.element rows.elements) → wholes_left g.tall.band ≡ 0
         → nat_lt g.tall.band.at (g.tall.band.wholes + g.tall.band.count) ≡ false
         → StillCome bytes formats rows (record g { place = AtElement }) (record g { place = OnRow }) w.room
     line-at row none more = line-by (drop g.element rows.elements) refl row none more

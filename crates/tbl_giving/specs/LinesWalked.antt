@@ -24,6 +24,7 @@ pub use Rattle.tbl_giving.specs.CutsCounted.{IsHigh, RulesPlaced}
 use Rattle.tbl_tall.specs.Bands.{keys_left, wholes_left}
 use Rattle.tbl_line_cells.specs.LinesDrawn.{Draws, laid_row}
 use Rattle.tbl_tall.specs.TallRows.{Comes, KeptTall, RowStands, RowsLie, RuleComes, SignIs}
+use Rattle.tbl_picture.specs.RulesWalked.{IsRowFirst}
 
 -- how many elements were given, what comes next, the row that comes or is under way, the picture's bars, and how wide it is
 pub record KeptLineByLine : Type 0 where
@@ -140,17 +141,11 @@ IsRowOf formats format (Row keys rules height entries ∷ elements) = format ≡
 IsRowOf formats format (Rule sign ∷ elements) = ⊥
 IsRowOf formats format (Command from to ∷ elements) = ⊥
 
-abbrev pub IsRow : List KeptElement → Type 0
-IsRow [] = ⊥
-IsRow (Row keys rules height entries ∷ elements) = Unit {0}
-IsRow (Rule sign ∷ elements) = ⊥
-IsRow (Command from to ∷ elements) = ⊥
-
 -- where a line of rules stands, such elements come
 abbrev pub StandsAtRule : RuleAt → List KeptElement → Type 0
 StandsAtRule OfTop elements = Unit {0}
 StandsAtRule OfElement elements = IsRuleFirst elements
-StandsAtRule InFront elements = IsRow elements
+StandsAtRule InFront elements = IsRowFirst elements
 StandsAtRule OfEnd elements = elements ≡ []
 
 -- a line is under way, which is this text as a whole

@@ -75,7 +75,8 @@ impl Model for LineByLine {
 }
 
 impl LineByLine {
-    ghost use Rattle.tbl_giving.specs.LinesWalked.{CanGo, HasCome, IsRow, LineBegins};
+    ghost use Rattle.tbl_giving.specs.LinesWalked.{CanGo, HasCome, LineBegins};
+    ghost use Rattle.tbl_picture.specs.RulesWalked.{IsRowFirst};
     ghost use Rattle.tbl_giving.specs.LinesWalked.{LineSteps, LineStepsIf, RulesPlaced};
     ghost use Rattle.tbl_giving.specs.LinesWalked.{SignTold, lines_to_come};
     ghost use Rattle.tbl_picture.specs.Walks.{KeptWalk};
@@ -245,7 +246,7 @@ impl LineByLine {
     )
         requires place { self.old.place ≡ AtElement }
         requires can { CanGo bytes.now (all_rows format.now.format) rows.now self.old walk.old }
-        requires row { IsRow (drop self.old.element rows.now.elements) }
+        requires row { IsRowFirst (drop self.old.element rows.now.elements) }
         ensures step { (frame : List ℕ) (pieces : KeptPieces) → LineSteps bytes.now frame
             (all_rows format.now.format) rows.now self.old self.new walk.old walk.new
             pieces pieces }
@@ -270,7 +271,7 @@ impl LineByLine {
     )
         requires place { self.old.place ≡ AtElement }
         requires can { CanGo bytes.now (all_rows format.now.format) rows.now self.old walk.old }
-        requires row { IsRow (drop self.old.element rows.now.elements) }
+        requires row { IsRowFirst (drop self.old.element rows.now.elements) }
         requires none { wholes_left self.old.tall.band ≡ 0 }
         ensures step { (frame : List ℕ) (pieces : KeptPieces) → LineSteps bytes.now frame
             (all_rows format.now.format) rows.now self.old self.new walk.old walk.new

@@ -19,7 +19,8 @@ use Rattle.tbl_layout.specs.declared.entry.EntryKind.{EntryKind}
 use Rattle.tbl_layout.specs.declared.entry.EntryKind.TheVariants.{Above as AboveKind, Block as BlockKind, Repeated as RepeatedKind, Ruled as RuledKind, Short as ShortKind, Split as SplitKind, Text as TextKind}
 use Rattle.tbl_layout.proofs.BlocksFilled.{filled-completed}
 use Rattle.tbl_kept.specs.Rows.{AreKept, AreLaid, Command, ElementKept, ElementLaid, KeptElement, Row, Rule, element_of, elements_of, height_of, rows_in_front}
-use Rattle.tbl_kept.specs.RowsLaying.{FieldLies, FieldsLie, block_stands_by, laid_by, laid_element, laid_entries}
+use Rattle.tbl_kept.specs.RowsLaying.{FieldsLie, block_stands_by, laid_by, laid_element, laid_entries}
+use Rattle.tbl_layout.specs.KeptEntries.{Lies}
 use Rattle.tbl_kept.proofs.Stepping.{greatest-more}
 
 -- a field that is kept is laid out once it is filled, and is the same text, or the same block in its measure
@@ -146,7 +147,7 @@ height_of-more entries at e more =
     ap height_of (take_more_set entries at e more) ∙ last
 
 -- fields that are kept lie within the table's bytes
-field-lies : (kind : EntryKind) (bytes : List ℕ) (key : Key) (e : Entry) → IsKeptBy kind bytes key e → FieldLies bytes e
+field-lies : (kind : EntryKind) (bytes : List ℕ) (key : Key) (e : Entry) → IsKeptBy kind bytes key e → Lies bytes e
 field-lies (TextKind glyphs width) bytes key e kept = record { order = kept.order; within = kept.within }
 field-lies (SplitKind s) bytes key e kept = record { order = kept.order; within = kept.within }
 field-lies (BlockKind b) bytes key e kept = record { order = kept.lies.order; within = kept.lies.within }

@@ -9,7 +9,7 @@ use Rattle.tbl_format.specs.declared.format.FormatKey.{FormatKey}
 use Rattle.tbl_format.specs.declared.format.Key.{Key}
 use Rattle.tbl_format.specs.declared.format.Key.TheVariants.{Above as AboveKey}
 use Rattle.tbl_layout.specs.Columns.{row_stands}
-use Rattle.tbl_layout.specs.KeptEntries.{block_filled, block_lines, not_filled, stands_of}
+use Rattle.tbl_layout.specs.KeptEntries.{block_filled, block_lines, not_filled, stands_of, Lies}
 use Rattle.tbl_layout.specs.Spans.{Wide, all_fitted, measure_of, wide_entries}
 use Rattle.tbl_layout.specs.declared.bars.Bars.{Bars}
 use Rattle.tbl_layout.specs.declared.columns.Column.{Column}
@@ -117,13 +117,8 @@ fitted_rows formats bars asked [] columns = columns
 fitted_rows formats bars asked (e ∷ elements) columns =
     fitted_rows formats bars asked elements (all_fitted bars asked (wide_in formats e) columns)
 
--- a field lies within the table's bytes
-pub record FieldLies (bytes : List ℕ) (e : Entry) : Type 0 where
-  pub order : e.from ≤ e.to
-  pub within : e.to ≤ length bytes
-
 abbrev pub FieldsLie : List ℕ → List Entry → Type 0
-FieldsLie bytes entries = AllByRecursion (FieldLies bytes) entries
+FieldsLie bytes entries = AllByRecursion (Lies bytes) entries
 
 -- whether a field is a block, and fields of which none is
 abbrev pub is_block : EntryKind → Bool

@@ -5,7 +5,8 @@ ghost use Rattle.std.specs.Prelude.{false, get_or, map, slice_range, vec_capacit
 ghost use Rattle.tbl_kept.specs.Rows.{height_of, holding, no_column};
 ghost use Rattle.tbl_format.specs.Cells.{cell_count};
 ghost use Rattle.tbl_format.specs.FormatRows.{AreWithin};
-ghost use Rattle.tbl_kept.specs.RowsLaying.{AreOpened, FieldLies, FieldsLie, IsOpenedKind};
+ghost use Rattle.tbl_kept.specs.RowsLaying.{AreOpened, FieldsLie, IsOpenedKind};
+ghost use Rattle.tbl_layout.specs.KeptEntries.{Lies};
 ghost use Rattle.tbl_kept.specs.RowsLaying.{block_stands, counted_if, held_at, holding_blocks};
 ghost use Rattle.tbl_kept.specs.RowsLaying.{laid_entry, laid_row};
 ghost use Rattle.tbl_layout.specs.Columns.{alone, in_columns, in_strip, needing};
@@ -120,7 +121,7 @@ fn fill_field(
     columns: &mut [Column],
 ) -> Entry
     requires small { length bytes.now < 2 ^ 32 }
-    requires lies { FieldLies bytes.now entry }
+    requires lies { Lies bytes.now entry }
     requires order { cell.from < cell.end }
     requires within { cell.end ≤ length filling.asked.now }
     requires columns { length columns.old ≡ length filling.asked.now }
@@ -164,7 +165,7 @@ fn hold_entry(columns: &mut [Column], cell: Cell, entry: Stands)
 /// A block, filled in a measure.
 fn filled(escapes: &mut OpenEscapes, bytes: &[u8], entry: Entry, measure: u32) -> Entry
     requires small { length bytes.now < 2 ^ 32 }
-    requires lies { FieldLies bytes.now entry }
+    requires lies { Lies bytes.now entry }
     ensures value { result ≡ record entry {
       kind = EntryKind.Block
           (block_filled measure (block_lines bytes.now entry.from entry.to));

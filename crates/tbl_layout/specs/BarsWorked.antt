@@ -11,8 +11,8 @@ use Rattle.tbl_layout.specs.declared.columns.Column.{Column}
 abbrev pub boxed : ℕ → Boxing
 boxed count = record { bars = count; is_inside = false }
 
-abbrev pub all_boxed : Boxing
-all_boxed = record { bars = 1; is_inside = true }
+abbrev pub each_field : Boxing
+each_field = record { bars = 1; is_inside = true }
 
 -- the format that a line is
 abbrev pub format_of : List ℕ → Format

@@ -1,6 +1,6 @@
 -- The lines of a table's data: commands, rows of fields, and the lines of text blocks (Lesk, "Tbl": Data).
 use Rattle.std.specs.Prelude.{ℕ, ◌+◌, Bool, true, false, not, ◌&&◌, ◌||◌, List, [], ◌∷◌, take, drop, get_or, length, Option, None, Some, bytes_eq, codes, if◌then◌else◌, ◌==◌}
-use Rattle.input_source.specs.Bytes.{tab, blank, backslash}
+use Rattle.input_source.specs.Bytes.{tab, blank, backslash, behind_blanks}
 use Rattle.tbl_layout.specs.Data.{fields, is_command, is_opening}
 use Rattle.tbl_format.specs.declared.format.Key.{Key}
 use Rattle.tbl_layout.specs.RuleKeys.{kind_of_key}
@@ -77,11 +77,6 @@ block_line_kind line =
     if bytes_eq (take 2 line) (codes "T}") then End
     else if bytes_eq (take 1 line) (codes ".") then Request
     else Text
-
--- a text behind the blanks at its front
-abbrev pub behind_blanks : List ℕ → List ℕ
-behind_blanks [] = []
-behind_blanks (b ∷ text) = if b == blank then behind_blanks text else b ∷ text
 
 -- whether a field opens a text block: it is `T{`, with blanks around it or without
 abbrev pub opens_block : List ℕ → Bool

@@ -3,7 +3,8 @@
 ghost use Rattle.std.specs.Prelude.{◌≡◌, ◌==◌, ◌&&◌, not, drop, [], ◌∷◌, if◌then◌else◌};
 ghost use Rattle.input_source.specs.Bytes.{backslash};
 ghost use Rattle.tbl_layout.specs.Data.{fields, is_command};
-ghost use Rattle.tbl_layout.specs.DataLines.{begins_format, behind_blanks, behind_first};
+ghost use Rattle.tbl_layout.specs.DataLines.{begins_format, behind_first};
+ghost use Rattle.input_source.specs.Bytes.{behind_blanks};
 ghost use Rattle.tbl_layout.specs.DataLines.{block_kind_ends_row, block_line_kind, ends_in_block};
 ghost use Rattle.tbl_layout.specs.DataLines.{ends_row, field_kind, is_repeated, kind_ends_row};
 ghost use Rattle.tbl_layout.specs.DataLines.{kind_under};

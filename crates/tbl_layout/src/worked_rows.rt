@@ -6,7 +6,8 @@ ghost use Rattle.tbl_format.specs.declared.format.Key.TheVariants.{Alphabetic, C
 ghost use Rattle.tbl_format.specs.declared.format.Key.TheVariants.{DoubleRule, Rule as RuleKey};
 ghost use Rattle.tbl_format.specs.declared.format.Key.TheVariants.{Above as AboveKey};
 ghost use Rattle.tbl_format.specs.declared.format.Key.TheVariants.{Numeric, Right};
-ghost use Rattle.tbl_layout.specs.BarsWorked.{all_boxed, behind_column, boxed, edges, separations};
+ghost use Rattle.tbl_layout.specs.BarsWorked.{behind_column, boxed, edges, separations};
+ghost use Rattle.tbl_layout.specs.BarsWorked.{each_field};
 ghost use Rattle.tbl_layout.specs.Columns.{bars_end, needs_of, stands, widest_entry, width_of};
 ghost use Rattle.tbl_layout.specs.DataLines.{block_line_kind, ends_in_block, ends_row};
 ghost use Rattle.tbl_layout.specs.DataLines.{field_kind, line_kind, without_opening};
@@ -97,7 +98,7 @@ pub fn bars()
     ensures least_of_two { separations (boxed 0) (codes "l2 || l || l1.") ≡ 4 ∷ 4 ∷ 1 ∷ [] }
     ensures wide { separations (boxed 0) (codes "l7 | l7 || l.") ≡ 7 ∷ 7 ∷ 3 ∷ [] }
     ensures most { separations (boxed 0) (codes "l0 l0, l | l, l || l.") ≡ 4 ∷ 0 ∷ [] }
-    ensures inside { separations all_boxed (codes "l0 l1 || l.") ≡ 3 ∷ 4 ∷ 3 ∷ [] }
+    ensures inside { separations each_field (codes "l0 l1 || l.") ≡ 3 ∷ 4 ∷ 3 ∷ [] }
     ensures outside { separations (boxed 2) (codes "l0 l1 l.") ≡ 0 ∷ 1 ∷ 3 ∷ [] }
     ensures no_edge { edges (boxed 0) (codes "l | l.") ≡ 0 ∷ 0 ∷ [] }
     ensures format_edges { edges (boxed 0) (codes "| l || l ||, l.") ≡ 2 ∷ 3 ∷ [] }

@@ -14,12 +14,12 @@ use Rattle.tbl_format.proofs.CellColumns.{cells-few}
 use Rattle.tbl_layout.specs.Spans.{as_one, cells_of}
 use Rattle.tbl_layout.specs.declared.columns.Column.{Column}
 use Rattle.tbl_lines.proofs.CellsLent.{cell-lies, cells_of-at, length-cells_of}
-use Rattle.tbl_line_cells.specs.LinesDrawn.{keys_of}
+use Rattle.tbl_line_cells.specs.LinesDrawn.{keys_in}
 use Rattle.tbl_line_cells.specs.declared.cells.CellLeft.{CellLeft}
 
 -- where a cell ends
 end-by : (cells : List CellLeft) (n d : ℕ) (x : CellLeft) → n < length cells
-    → get_or (map (λ (k : FormatKey). k.end) (keys_of cells)) n d ≡ (get_or cells n x).key.end
+    → get_or (map (λ (k : FormatKey). k.end) (keys_in cells)) n d ≡ (get_or cells n x).key.end
 end-by [] n d x few = absurd (omega (arith, few))
 end-by (c ∷ cells) zero d x few = refl
 end-by (c ∷ cells) (suc n) d x few = end-by cells n d x (omega (arith, few))
@@ -43,29 +43,29 @@ no_cell = record {
   is_cut = false;
 }
 
-module _ (cells : List CellLeft) (columns : List Column) (x : CellLeft) (within : AreWithin (length columns) (keys_of cells)) where
+module _ (cells : List CellLeft) (columns : List Column) (x : CellLeft) (within : AreWithin (length columns) (keys_in cells)) where
   abbrev all : List Column
-  all = cells_of (keys_of cells) columns
+  all = cells_of (keys_in cells) columns
 
   abbrev last : ℕ → ℕ
-  last n = columns_of (keys_of cells) + (n + 1 - length (keys_of cells))
+  last n = columns_of (keys_in cells) + (n + 1 - length (keys_in cells))
 
   many : length cells ≤ length all
-  many = omega (arith, length-cells_of (keys_of cells) columns within, length-map cells (λ (c : CellLeft). c.key))
+  many = omega (arith, length-cells_of (keys_in cells) columns within, length-map cells (λ (c : CellLeft). c.key))
 
   pub few-cells : length cells ≤ length columns
-  few-cells = omega (arith, cells-few (keys_of cells) within.cells, within.short, length-map cells (λ (c : CellLeft). c.key))
+  few-cells = omega (arith, cells-few (keys_in cells) within.cells, within.short, length-map cells (λ (c : CellLeft). c.key))
 
-  column-by : (n from end : ℕ) → n < length cells → start_of (keys_of cells) n ≡ from → end_of (keys_of cells) n ≡ end
+  column-by : (n from end : ℕ) → n < length cells → start_of (keys_in cells) n ≡ from → end_of (keys_in cells) n ≡ end
       → ColumnAt columns all from end n
   column-by n from end few from_is end_is =
-      let lies = cell-lies (keys_of cells) columns n within (omega (arith, few, many)) in
+      let lies = cell-lies (keys_in cells) columns n within (omega (arith, few, many)) in
       record {
         order = omega (arith, lies.order, from_is, end_is);
         within = omega (arith, lies.within, end_is);
         is =
-            cells_of-at (keys_of cells) columns n within (omega (arith, few, many))
-            ∙ ap (λ (i : ℕ). as_one (slice_range columns i (end_of (keys_of cells) n)) ∷ drop (suc n) all) from_is
+            cells_of-at (keys_in cells) columns n within (omega (arith, few, many))
+            ∙ ap (λ (i : ℕ). as_one (slice_range columns i (end_of (keys_in cells) n)) ∷ drop (suc n) all) from_is
             ∙ ap (λ (i : ℕ). as_one (slice_range columns from i) ∷ drop (suc n) all) end_is;
       }
 
@@ -75,4 +75,4 @@ module _ (cells : List CellLeft) (columns : List Column) (x : CellLeft) (within 
   pub next-column : (n m : ℕ) → m ≡ suc n → m < length cells → ColumnAt columns all (get_or cells n x).key.end (get_or cells m x).key.end m
   next-column n m is some =
       column-by m (get_or cells n x).key.end (get_or cells m x).key.end some
-      (ap (start_of (keys_of cells)) is ∙ end-by cells n (last n) x (omega (arith, some, is))) (end-by cells m (last m) x some)
+      (ap (start_of (keys_in cells)) is ∙ end-by cells n (last n) x (omega (arith, some, is))) (end-by cells m (last m) x some)

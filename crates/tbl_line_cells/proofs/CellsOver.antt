@@ -9,17 +9,17 @@ use Rattle.tbl_layout.specs.declared.columns.Column.{Column}
 use Rattle.tbl_lines.specs.CellsLeft.{Left, goes_on}
 use Rattle.tbl_lines.specs.LinesLeft.{Free, Through, is_within, over_at, overs}
 use Rattle.tbl_line_cells.specs.KeptCells.{AllLeft, IsLeft}
-use Rattle.tbl_line_cells.specs.LinesDrawn.{keys_of}
+use Rattle.tbl_line_cells.specs.LinesDrawn.{keys_in}
 use Rattle.tbl_line_cells.specs.RulesDrawn.{Cover, HasColumn, begin_from, over_of}
 use Rattle.tbl_line_cells.specs.declared.cells.CellLeft.{CellLeft}
 use Rattle.tbl_line_cells.proofs.OversMet.{cover-few, left_keys, over-there}
 
-pub keys-left : (bytes : List ℕ) (cells : List CellLeft) (lefts : List Left) → AllLeft bytes cells lefts → keys_of cells ≡ left_keys lefts
+pub keys-left : (bytes : List ℕ) (cells : List CellLeft) (lefts : List Left) → AllLeft bytes cells lefts → keys_in cells ≡ left_keys lefts
 keys-left bytes [] [] all = refl
 keys-left bytes [] (l ∷ lefts) all = absurd all
 keys-left bytes (c ∷ cells) [] all = absurd all
 keys-left bytes (c ∷ cells) (l ∷ lefts) all =
-    ap (λ (k : FormatKey). k ∷ keys_of cells) all.0.key ∙ ap (λ (ks : List FormatKey). l.key ∷ ks) (keys-left bytes cells lefts all.1)
+    ap (λ (k : FormatKey). k ∷ keys_in cells) all.0.key ∙ ap (λ (ks : List FormatKey). l.key ∷ ks) (keys-left bytes cells lefts all.1)
 
 -- what is left of one of them
 pub record LeftAt (bytes : List ℕ) (c : CellLeft) (lefts : List Left) (cell : ℕ) : Type 0 where
@@ -78,10 +78,10 @@ over-cell-by bytes lefts columns keys cell at c same here cover has =
     }
 
 pub over-cell : (bytes : List ℕ) (cells : List CellLeft) (lefts : List Left) (columns : List Column) (cell at : ℕ) (c : CellLeft)
-    → AllLeft bytes cells lefts → Cover 0 (length columns) (keys_of cells) → HasColumn (keys_of cells) cell at
-    → OverCell bytes (get_or cells cell c) lefts columns (begin_from 0 cell (keys_of cells)) (begin_from 0 (suc cell) (keys_of cells)) at
+    → AllLeft bytes cells lefts → Cover 0 (length columns) (keys_in cells) → HasColumn (keys_in cells) cell at
+    → OverCell bytes (get_or cells cell c) lefts columns (begin_from 0 cell (keys_in cells)) (begin_from 0 (suc cell) (keys_in cells)) at
 over-cell bytes cells lefts columns cell at c all cover has =
-    over-cell-by bytes lefts columns (keys_of cells) cell at (get_or cells cell c) (keys-left bytes cells lefts all)
+    over-cell-by bytes lefts columns (keys_in cells) cell at (get_or cells cell c) (keys-left bytes cells lefts all)
     (left-at bytes cells lefts cell c all (omega (arith, has.is_cell, length-map cells (λ (c : CellLeft). c.key)))) cover has
 
 -- the cell behind one that ends in front of the last column
@@ -151,7 +151,7 @@ begins-most from count zero keys cover within = cover-few from count keys cover
 begins-most from count (suc cell) [] cover within = absurd (omega (arith, within))
 begins-most from count (suc cell) (k ∷ keys) cover within = begins-most k.end count cell keys cover.1 (omega (arith, within))
 
-pub keys-some : (count : ℕ) (cells : List CellLeft) → Cover 0 count (keys_of cells) → 0 < count → 0 < length cells
+pub keys-some : (count : ℕ) (cells : List CellLeft) → Cover 0 count (keys_in cells) → 0 < count → 0 < length cells
 keys-some count [] cover some = absurd (omega (arith, cover, some))
 keys-some count (c ∷ cells) cover some = omega arith
 
@@ -175,7 +175,7 @@ within-is begin at own one =
 
 -- where the next cell begins
 pub begin-of : (from : ℕ) (cells : List CellLeft) (cell : ℕ) (c : CellLeft) → cell < length cells
-    → (get_or cells cell c).key.end ≡ begin_from from (suc cell) (keys_of cells)
+    → (get_or cells cell c).key.end ≡ begin_from from (suc cell) (keys_in cells)
 begin-of from [] cell c within = absurd (omega (arith, within))
 begin-of from (x ∷ cells) zero c within = refl
 begin-of from (x ∷ cells) (suc cell) c within = begin-of x.key.end cells cell c (omega (arith, within))

@@ -6,7 +6,7 @@ use Rattle.tbl_lines.specs.CellsLeft.{Left}
 use Rattle.tbl_lines.specs.LinesLeft.{Beside, Over, bars_met, front_between, is_within, over_at, overs}
 use Rattle.tbl_lines.specs.PictureLines.{Cell, RuleLine, Sheet}
 use Rattle.tbl_line_cells.specs.KeptCells.{AllLeft}
-use Rattle.tbl_line_cells.specs.LinesDrawn.{keys_of}
+use Rattle.tbl_line_cells.specs.LinesDrawn.{keys_in}
 use Rattle.tbl_line_cells.specs.RulesDrawn.{Cover, HasColumn, begin_from, front_list}
 use Rattle.tbl_line_cells.specs.declared.cells.CellLeft.{CellLeft}
 use Rattle.tbl_line_cells.proofs.CellsOver.{over-cell, within-is}
@@ -15,16 +15,16 @@ use Rattle.tbl_line_cells.proofs.FrontsOf.{no_cell, no_column}
 
 -- whether the next column is a further one of a cell that goes through
 pub next-within : (bytes : List ℕ) (cells : List CellLeft) (lefts : List Left) (columns : List Column) (next at : ℕ) → AllLeft bytes cells lefts
-    → Cover 0 (length columns) (keys_of cells) → HasColumn (keys_of cells) next (at + 1)
+    → Cover 0 (length columns) (keys_in cells) → HasColumn (keys_in cells) next (at + 1)
     → is_within (over_at (overs 0 lefts columns) (suc at))
-    ≡ (nat_lt 0 (get_or cells next no_cell).rows && nat_lt (begin_from 0 next (keys_of cells)) (at + 1))
+    ≡ (nat_lt 0 (get_or cells next no_cell).rows && nat_lt (begin_from 0 next (keys_in cells)) (at + 1))
 next-within bytes cells lefts columns next at all cover has =
     let one : at + 1 ≡ suc at = omega arith in
     let met = over-cell bytes cells lefts columns next (at + 1) no_cell all cover has in
     ap (λ (n : ℕ). is_within (over_at (overs 0 lefts columns) n)) (sym one)
     ∙ ap (λ (o : Over). is_within o) met.over
-    ∙ within-is (begin_from 0 next (keys_of cells)) (at + 1) met.own _
-    ∙ ap (λ (n : ℕ). nat_lt 0 n && nat_lt (begin_from 0 next (keys_of cells)) (at + 1)) (sym met.left.rows)
+    ∙ within-is (begin_from 0 next (keys_in cells)) (at + 1) met.own _
+    ∙ ap (λ (n : ℕ). nat_lt 0 n && nat_lt (begin_from 0 next (keys_in cells)) (at + 1)) (sym met.left.rows)
 
 module _ (s : Sheet) (line : RuleLine) (all : List Over) (above below : Beside) (at : ℕ) where
   abbrev count : ℕ

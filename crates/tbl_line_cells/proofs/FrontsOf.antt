@@ -13,7 +13,7 @@ use Rattle.tbl_lines.specs.CellsLeft.{Left, goes_on}
 use Rattle.tbl_lines.specs.LinesLeft.{Beside, Over, bars_met, front_between, if_ruled, joined_here, over_at, overs, sign_at}
 use Rattle.tbl_lines.specs.PictureLines.{Cell, RuleLine}
 use Rattle.tbl_lines.specs.declared.fronts.Front.{Front}
-use Rattle.tbl_line_cells.specs.LinesDrawn.{keys_of}
+use Rattle.tbl_line_cells.specs.LinesDrawn.{keys_in}
 use Rattle.tbl_line_cells.specs.RulesDrawn.{Cover, HasColumn, RuleGiven, StandsAs, begin_from, over_of}
 use Rattle.tbl_line_cells.specs.declared.cells.CellLeft.{CellLeft}
 use Rattle.tbl_text.specs.declared.block_parts.BlockPlace.TheVariants.{AtLine}
@@ -70,8 +70,8 @@ are-there columns at c d others within is =
 
 module _ (bytes : List ℕ) (cells : List CellLeft) (signs : List (Option RuleSign)) (counts : List ℕ) (columns : List Column) (lefts : List Left)
     (bars : Bars) (line : RuleLine) (above below : Beside) (given : RuleGiven bytes cells signs counts columns lefts bars line above below)
-    (cover : Cover 0 (length columns) (keys_of cells)) (cell next at : ℕ) (has : HasColumn (keys_of cells) cell at)
-    (has_next : HasColumn (keys_of cells) next (at + 1)) (within : at + 1 < length columns)
+    (cover : Cover 0 (length columns) (keys_in cells)) (cell next at : ℕ) (has : HasColumn (keys_in cells) cell at)
+    (has_next : HasColumn (keys_in cells) next (at + 1)) (within : at + 1 < length columns)
     (c d : Column) (others : List Column) (is : drop at columns ≡ c ∷ d ∷ others) where
   abbrev pub all : List Over
   all = overs 0 lefts columns
@@ -82,14 +82,14 @@ module _ (bytes : List ℕ) (cells : List CellLeft) (signs : List (Option RuleSi
   abbrev pub stands : Cell
   stands = front_between line at (over_at all at) (over_at all (suc at)) count c d
 
-  pub met : OverCell bytes (get_or cells cell no_cell) lefts columns (begin_from 0 cell (keys_of cells)) (begin_from 0 (suc cell) (keys_of cells)) at
+  pub met : OverCell bytes (get_or cells cell no_cell) lefts columns (begin_from 0 cell (keys_in cells)) (begin_from 0 (suc cell) (keys_in cells)) at
   met = over-cell bytes cells lefts columns cell at no_cell given.left cover has
 
-  pub met-next : OverCell bytes (get_or cells next no_cell) lefts columns (begin_from 0 next (keys_of cells))
-      (begin_from 0 (suc next) (keys_of cells)) (suc at)
+  pub met-next : OverCell bytes (get_or cells next no_cell) lefts columns (begin_from 0 next (keys_in cells))
+      (begin_from 0 (suc next) (keys_in cells)) (suc at)
   met-next =
       let one : at + 1 ≡ suc at = omega arith in
-      over-cell bytes cells lefts columns next (suc at) no_cell given.left cover (subst (λ (n : ℕ). HasColumn (keys_of cells) next n) one has_next)
+      over-cell bytes cells lefts columns next (suc at) no_cell given.left cover (subst (λ (n : ℕ). HasColumn (keys_in cells) next n) one has_next)
 
   pub places : Placed count c d
   places = placed-between count c d (given.fit at c d others is)
@@ -106,16 +106,16 @@ module _ (bytes : List ℕ) (cells : List CellLeft) (signs : List (Option RuleSi
   on-next = ap (λ (n : ℕ). nat_lt 0 n) (sym met-next.left.rows)
 
   abbrev begin : ℕ
-  begin = begin_from 0 cell (keys_of cells)
+  begin = begin_from 0 cell (keys_in cells)
 
   abbrev begin-next : ℕ
-  begin-next = begin_from 0 next (keys_of cells)
+  begin-next = begin_from 0 next (keys_in cells)
 
   abbrev one : Column
-  one = as_one (take (begin_from 0 (suc cell) (keys_of cells) - begin) (drop begin columns))
+  one = as_one (take (begin_from 0 (suc cell) (keys_in cells) - begin) (drop begin columns))
 
   abbrev two : Column
-  two = as_one (take (begin_from 0 (suc next) (keys_of cells) - begin-next) (drop begin-next columns))
+  two = as_one (take (begin_from 0 (suc next) (keys_in cells) - begin-next) (drop begin-next columns))
 
   abbrev here : Over
   here = over_of (at - begin == 0) met.own one

@@ -10,7 +10,8 @@ use Rattle.tbl_lines.specs.LinesLeft.{bars_there, between, first_bars, row_front
 use Rattle.tbl_lines.specs.PictureLines.{Cell}
 use Rattle.tbl_options.specs.declared.options.Boxing.{Boxing}
 use Rattle.tbl_line_cells.specs.KeptCells.{AllLeft}
-use Rattle.tbl_line_cells.specs.LinesDrawn.{if_any, keys_of}
+use Rattle.tbl_line_cells.specs.LinesDrawn.{if_any}
+use Rattle.tbl_line_cells.specs.LinesDrawn.{keys_in}
 use Rattle.tbl_line_cells.specs.declared.cells.CellLeft.{CellLeft}
 use Rattle.tbl_line_cells.proofs.RowLaid.{keys-left}
 
@@ -26,9 +27,9 @@ module _ (bytes : List ℕ) (bars : Bars) (columns : List Column) (boxing : Boxi
   of_keys keys = cells_of keys columns
 
   pub row-shown-is : bars.boxing ≡ boxing → AllLeft bytes cells lefts
-      → row_shown boxing lefts (of_keys (keys_of cells)) ≡ row_shown bars.boxing lefts (of_keys (map (λ (l : Left). l.key) lefts))
+      → row_shown boxing lefts (of_keys (keys_in cells)) ≡ row_shown bars.boxing lefts (of_keys (map (λ (l : Left). l.key) lefts))
   row-shown-is boxing_is all =
-      ap (λ (b : Boxing). row_shown b lefts (of_keys (keys_of cells))) (sym boxing_is)
+      ap (λ (b : Boxing). row_shown b lefts (of_keys (keys_in cells))) (sym boxing_is)
       ∙ ap (λ (ks : List FormatKey). row_shown bars.boxing lefts (of_keys ks)) (sym (keys-left bytes cells lefts all))
 
 module _ (bytes : List ℕ) (bars : Bars) (width : ℕ) (columns : List Column) (boxing : Boxing) (cells : List CellLeft) (lefts : List Left)
@@ -38,11 +39,11 @@ module _ (bytes : List ℕ) (bars : Bars) (width : ℕ) (columns : List Column) 
 
   pub row-fronts-are : bars.boxing ≡ boxing → AllLeft bytes cells lefts → 0 < length cells → left ≡ edge_bars boxing (get_or cells 0 x).key.bars
       → right ≡ edge_bars boxing last_bars
-      → fronts_by boxing left right (cells_of (keys_of cells) columns)
+      → fronts_by boxing left right (cells_of (keys_in cells) columns)
       ≡ row_fronts (record { bars = bars; width = width; columns = columns }) last_bars lefts
       (cells_of (map (λ (l : Left). l.key) lefts) columns)
   row-fronts-are boxing_is all some left_is right_is =
-      let own = cells_of (keys_of cells) columns in
+      let own = cells_of (keys_in cells) columns in
       let front : left ≡ edge_bars bars.boxing (first_bars lefts)
       = left_is
       ∙ ap (edge_bars boxing) (first-in-front bytes cells lefts x all some)

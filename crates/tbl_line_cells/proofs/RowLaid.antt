@@ -10,12 +10,13 @@ use Rattle.tbl_lines.specs.PictureLines.{Cell}
 use Rattle.tbl_lines.proofs.RowColumns.{drop-none, take-next}
 use Rattle.tbl_options.specs.declared.options.Boxing.{Boxing}
 use Rattle.tbl_line_cells.specs.KeptCells.{AllLeft, IsLeft}
-use Rattle.tbl_line_cells.specs.LinesDrawn.{KeptLine, SoFar, keys_of}
+use Rattle.tbl_line_cells.specs.LinesDrawn.{KeptLine, SoFar}
+use Rattle.tbl_line_cells.specs.LinesDrawn.{keys_in}
 use Rattle.tbl_line_cells.specs.declared.cells.CellLeft.{CellLeft}
 
 -- the cells that are left have the same keys
 pub keys-left : (bytes : List ℕ) (cells : List CellLeft) (lefts : List Left) → AllLeft bytes cells lefts
-    → map (λ (l : Left). l.key) lefts ≡ keys_of cells
+    → map (λ (l : Left). l.key) lefts ≡ keys_in cells
 keys-left bytes [] [] all = refl
 keys-left bytes [] (l ∷ lefts) all = absurd all
 keys-left bytes (c ∷ cells) [] all = absurd all

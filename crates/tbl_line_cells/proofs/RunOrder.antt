@@ -18,7 +18,8 @@ use Rattle.tbl_lines.specs.LinesLeft.{Free, Over, Shown, Through, all_shown, dra
 use Rattle.tbl_lines.specs.PictureLines.{RuleLine, sign_over}
 use Rattle.tbl_options.specs.declared.options.Boxing.{Boxing}
 use Rattle.tbl_line_cells.specs.KeptCells.{AllLeft}
-use Rattle.tbl_line_cells.specs.LinesDrawn.{EndsBehind, RunInOrder, end_behind, keys_of}
+use Rattle.tbl_line_cells.specs.LinesDrawn.{EndsBehind, RunInOrder, end_behind}
+use Rattle.tbl_line_cells.specs.LinesDrawn.{keys_in}
 use Rattle.tbl_line_cells.specs.RulesDrawn.{Cover, HasColumn, begin_behind, begin_from, end_at, over_of}
 use Rattle.tbl_line_cells.specs.declared.cells.CellLeft.{CellLeft}
 use Rattle.tbl_line_cells.proofs.CellsOver.{begin-of, begins-most, column-behind, column-within, first-column, over-cell, split}
@@ -119,14 +120,14 @@ order-over line at true true own one count from begin end done more few low rest
     order-cons count from own one (one.start + one.width) done (more refl) few (rest own.key.end (omega arith))
 order-over line at true false own one count from begin end done more few low rest = rest from low
 
-length-keys : (cells : List CellLeft) → length (keys_of cells) ≡ length cells
+length-keys : (cells : List CellLeft) → length (keys_in cells) ≡ length cells
 length-keys [] = refl
 length-keys (c ∷ cells) = ap suc (length-keys cells)
 
 module _ (bytes : List ℕ) (cells : List CellLeft) (lefts : List Left) (all_columns : List Column) (left : AllLeft bytes cells lefts)
-    (cover : Cover 0 (length all_columns) (keys_of cells)) (line : RuleLine) (to : ℕ) where
+    (cover : Cover 0 (length all_columns) (keys_in cells)) (line : RuleLine) (to : ℕ) where
   abbrev keys : List FormatKey
-  keys = keys_of cells
+  keys = keys_in cells
 
   abbrev count : ℕ
   count = length all_columns

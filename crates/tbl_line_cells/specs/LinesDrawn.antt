@@ -196,8 +196,8 @@ pub record Draws (bytes : List ℕ) (bars : Bars) (width : ℕ) (line : KeptLine
   pub text : line_of 0 (line_cells (laid_row bytes bars width line) 0 line.places) ≡ given
 
 -- the keys of some cells
-abbrev pub keys_of : List CellLeft → List FormatKey
-keys_of cells = map (λ (c : CellLeft). c.key) cells
+abbrev pub keys_in : List CellLeft → List FormatKey
+keys_in cells = map (λ (c : CellLeft). c.key) cells
 
 -- all but the cells and what stands in front of them stays, and there is as much room
 pub record KeepsRow (old new : LineCells) : Type 0 where

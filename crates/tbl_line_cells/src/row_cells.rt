@@ -17,7 +17,8 @@ ghost use Rattle.tbl_line_cells.specs.KeptCells.{AllLeft, AreKept, IsLeft};
 ghost use Rattle.tbl_line_cells.specs.LaidCells.{on_line};
 ghost use Rattle.tbl_line_cells.specs.LinesDrawn.{CutOn, Draws, HasRoom, KeepsRow};
 ghost use Rattle.tbl_line_cells.specs.LinesDrawn.{RowIsLaid, SoFar};
-ghost use Rattle.tbl_line_cells.specs.LinesDrawn.{kept_line, keys_of};
+ghost use Rattle.tbl_line_cells.specs.LinesDrawn.{kept_line};
+ghost use Rattle.tbl_line_cells.specs.LinesDrawn.{keys_in};
 
 use crate::cells::CellLeft;
 use crate::laid_cells::{laid, laid_within};
@@ -44,7 +45,7 @@ impl LineCells {
         width: usize,
     )
         requires some { 0 < length cells.now }
-        requires within { AreWithin (length columns.now) (keys_of cells.now) }
+        requires within { AreWithin (length columns.now) (keys_in cells.now) }
         requires narrow { AreNarrow columns.now }
         requires few { length columns.now < 2 ^ 32 }
         requires wide { width < 2 ^ 32 }
@@ -80,7 +81,7 @@ impl LineCells {
         width: usize,
     )
         requires some { 0 < length cells.now }
-        requires within { AreWithin (length columns.now) (keys_of cells.now) }
+        requires within { AreWithin (length columns.now) (keys_in cells.now) }
         requires narrow { AreNarrow columns.now }
         requires empty { self.old.cells.items ≡ [] }
         requires no_front { self.old.fronts.items ≡ [] }
@@ -105,13 +106,13 @@ impl LineCells {
     /// All cells of a row but the last, and what stands between them. Answers the columns of that.
     fn lay_cells(&mut self, cells: &[CellLeft], columns: &[Column], boxing: Boxing) -> Column
         requires some { 0 < length cells.now }
-        requires within { AreWithin (length columns.now) (keys_of cells.now) }
+        requires within { AreWithin (length columns.now) (keys_in cells.now) }
         requires narrow { AreNarrow columns.now }
         requires empty { self.old.cells.items ≡ [] }
         requires one { length self.old.fronts.items ≡ 1 }
         requires room { HasRoom (length columns.now) self.old }
         ensures narrow { IsNarrow result }
-        ensures last { drop (length cells.now - 1) (cells_of (keys_of cells.now) columns.now)
+        ensures last { drop (length cells.now - 1) (cells_of (keys_in cells.now) columns.now)
             ≡ result ∷ drop (length cells.now) (cells_of (keys_of cells.now) columns.now) }
         ensures so_far { (bytes : List ℕ) (lefts : List Left) (fronts : List Cell)
             → AllLeft bytes cells.now lefts → SoFar bytes (kept_line self.old) [] fronts

@@ -12,7 +12,8 @@ ghost use Rattle.tbl_lines.specs.LinesLeft.{overs, rule_cut, rule_line_left};
 ghost use Rattle.tbl_lines.specs.PictureLines.{Cell, RuleLine, Sheet};
 ghost use Rattle.tbl_lines.specs.RowsWalked.{AreNarrow, IsNarrow};
 ghost use Rattle.tbl_line_cells.specs.LinesDrawn.{CutOn, Draws, HasRoom, KeepsRow, SoFar};
-ghost use Rattle.tbl_line_cells.specs.LinesDrawn.{kept_line, keys_of};
+ghost use Rattle.tbl_line_cells.specs.LinesDrawn.{kept_line};
+ghost use Rattle.tbl_line_cells.specs.LinesDrawn.{keys_in};
 ghost use Rattle.tbl_line_cells.specs.RulesDrawn.{Cover, HasColumn, LaidTo, RuleGiven, RuleIsGiven};
 ghost use Rattle.tbl_line_cells.specs.RulesDrawn.{RuleIsLaid, StandsAs};
 ghost use Rattle.tbl_line_cells.specs.RulesDrawn.{begin_from, edge_drawn, front_list};
@@ -43,7 +44,7 @@ impl LineCells {
     )
         requires some { 0 < length columns.now }
         requires few { length columns.now < 2 ^ 32 }
-        requires cover { Cover 0 (length columns.now) (keys_of cells.now) }
+        requires cover { Cover 0 (length columns.now) (keys_in cells.now) }
         requires signs { length self.old.signs.items ≡ length columns.now }
         requires counts { length counts.now ≡ length columns.now + 1 }
         requires narrow { AreNarrow columns.now }
@@ -86,7 +87,7 @@ impl LineCells {
     )
         requires some { 0 < length columns.now }
         requires few { length columns.now < 2 ^ 32 }
-        requires cover { Cover 0 (length columns.now) (keys_of cells.now) }
+        requires cover { Cover 0 (length columns.now) (keys_in cells.now) }
         requires signs { length self.old.signs.items ≡ length columns.now }
         requires counts { length counts.now ≡ length columns.now + 1 }
         requires narrow { AreNarrow columns.now }
@@ -126,7 +127,7 @@ impl LineCells {
         to: usize,
     )
         requires some { 0 < length columns.now }
-        requires cover { Cover 0 (length columns.now) (keys_of cells.now) }
+        requires cover { Cover 0 (length columns.now) (keys_in cells.now) }
         requires signs { length self.old.signs.items ≡ length columns.now }
         requires counts { length counts.now ≡ length columns.now + 1 }
         requires narrow { AreNarrow columns.now }
@@ -175,10 +176,10 @@ impl LineCells {
         from: usize,
         to: usize,
     )
-        requires cover { Cover 0 (length columns.now) (keys_of cells.now) }
+        requires cover { Cover 0 (length columns.now) (keys_in cells.now) }
         requires signs { length self.old.signs.items ≡ length columns.now }
         requires within { at < length columns.now }
-        requires column { HasColumn (keys_of cells.now) cell at }
+        requires column { HasColumn (keys_in cells.now) cell at }
         requires narrow { AreNarrow columns.now }
         requires small { from < 2 ^ 32 }
         requires small_to { to < 2 ^ 32 }
@@ -236,11 +237,11 @@ impl LineCells {
         next: usize,
         at: usize,
     )
-        requires cover { Cover 0 (length columns.now) (keys_of cells.now) }
+        requires cover { Cover 0 (length columns.now) (keys_in cells.now) }
         requires signs { length self.old.signs.items ≡ length columns.now }
         requires counts { length counts.now ≡ length columns.now + 1 }
         requires within { at < length columns.now }
-        requires column { HasColumn (keys_of cells.now) cell at }
+        requires column { HasColumn (keys_in cells.now) cell at }
         requires next { at + 1 < length columns.now
             → HasColumn (keys_of cells.now) next (at + 1) }
         requires narrow { AreNarrow columns.now }
@@ -277,12 +278,12 @@ impl LineCells {
         next: usize,
         at: usize,
     ) -> Front
-        requires cover { Cover 0 (length columns.now) (keys_of cells.now) }
+        requires cover { Cover 0 (length columns.now) (keys_in cells.now) }
         requires signs { length self.now.signs.items ≡ length columns.now }
         requires counts { length counts.now ≡ length columns.now + 1 }
         requires within { at + 1 < length columns.now }
-        requires column { HasColumn (keys_of cells.now) cell at }
-        requires next { HasColumn (keys_of cells.now) next (at + 1) }
+        requires column { HasColumn (keys_in cells.now) cell at }
+        requires next { HasColumn (keys_in cells.now) next (at + 1) }
         requires narrow { AreNarrow columns.now }
         ensures stands { (bytes : List ℕ) (lefts : List Left) (bars : Bars) (line : RuleLine)
             (above below : Beside) (c d : Column) (others : List Column)
@@ -318,7 +319,7 @@ fn rules_edge(is_whole: bool, cell: CellLeft) -> bool
 /// Behind how many columns a cell begins.
 fn begin_of(cells: &[CellLeft], cell: usize) -> usize
     requires { cell ≤ length cells.now }
-    ensures { result ≡ begin_from 0 cell (keys_of cells.now) }
+    ensures { result ≡ begin_from 0 cell (keys_in cells.now) }
 {
     if cell == 0 {
         0
@@ -329,9 +330,9 @@ fn begin_of(cells: &[CellLeft], cell: usize) -> usize
 
 /// The cell that has the column behind one of a cell.
 fn cell_behind(cells: &[CellLeft], cell: usize, at: usize) -> usize
-    requires column { HasColumn (keys_of cells.now) cell at }
+    requires column { HasColumn (keys_in cells.now) cell at }
     requires small { at + 1 < 2 ^ 64 }
-    ensures { (count : ℕ) → Cover 0 count (keys_of cells.now)
+    ensures { (count : ℕ) → Cover 0 count (keys_in cells.now)
         → at + 1 < count → HasColumn (keys_of cells.now) result (at + 1) }
 {
     if at + 1 == begin_of(cells, cell + 1) {
@@ -343,7 +344,7 @@ fn cell_behind(cells: &[CellLeft], cell: usize, at: usize) -> usize
 
 /// Whether a column is a further one of a cell that goes through the line.
 fn is_within(cells: &[CellLeft], cell: usize, at: usize) -> bool
-    requires column { HasColumn (keys_of cells.now) cell at }
+    requires column { HasColumn (keys_in cells.now) cell at }
     ensures { (c : CellLeft) → result
         ≡ (nat_lt 0 (get_or cells.now cell c).rows
         && nat_lt (begin_from 0 cell (keys_of cells.now)) at) }

@@ -17,7 +17,8 @@ use Rattle.tbl_layout.specs.declared.columns.Column.{Column}
 use Rattle.tbl_options.specs.declared.options.Boxing.{Boxing}
 use Rattle.tbl_lines.specs.CellsLeft.{Left, all_keys, bars_at_end, begun, cell_by, cells_from as left_from, keys_behind, lines_over}
 use Rattle.tbl_lines.specs.PictureLeft.{row_lines}
-use Rattle.tbl_lines.specs.PictureLines.{Cell, Sheet, all_between, bars_among, bars_at, bars_between, bars_by, bars_of, cell_of, cells_from, fronts, joined_sign, lines_from, right_bars, row_cells, with_fronts}
+use Rattle.tbl_lines.specs.PictureLines.{Cell, Sheet, all_between, bars_at, bars_between, bars_by, bars_of, cell_of, cells_from, fronts, joined_sign, lines_from, right_bars, row_cells, with_fronts}
+use Rattle.tbl_format.specs.FormatLaws.{bars_among}
 use Rattle.tbl_lines.specs.RowsAlone.{HaveWidth, alone_at, alone_from}
 use Rattle.tbl_lines.proofs.CellsLent.{length-cells_of}
 use Rattle.tbl_lines.proofs.PlainLines.{lines-alone}

@@ -16,7 +16,8 @@ use Rattle.tbl_options.specs.declared.options.Boxing.{Boxing}
 use Rattle.tbl_lines.specs.CellsLeft.{Left, behind_line, own_field}
 use Rattle.tbl_lines.specs.LinesLeft.{Shown, bars_there, between, crossed_or_not, end_by, in_order, joined_here, line_by, row_fronts, row_line, row_shown, rule_of, same_sign, shown, shown_cell}
 use Rattle.tbl_lines.specs.PictureLeft.{row_lines}
-use Rattle.tbl_lines.specs.PictureLines.{Cell, Sheet, all_between, bars_among, bars_at, bars_at_edge, bars_between, bars_by, cell_of, cells_from, fronts, joined_sign, joint, line_of, lines_from, right_bars, row_cells, rule_end, with_fronts}
+use Rattle.tbl_lines.specs.PictureLines.{Cell, Sheet, all_between, bars_at, bars_at_edge, bars_between, bars_by, cell_of, cells_from, fronts, joined_sign, joint, line_of, lines_from, right_bars, row_cells, rule_end, with_fronts}
+use Rattle.tbl_format.specs.FormatLaws.{bars_among}
 use Rattle.tbl_lines.specs.RowsAlone.{HaveWidth, alone_at, alone_from}
 use Rattle.tbl_lines.proofs.CutLines.{NoneRunOn, all_cut-none, shown-none}
 use Rattle.tbl_lines.proofs.PlainRows.{AllSame, AreNew, SameOn, behind-alone, cell-on, fronts-on, new-shown, same-order, same-text, written-on}

@@ -14,7 +14,8 @@ use Rattle.tbl_layout.specs.declared.data_lines.RuleSign.{RuleSign}
 use Rattle.tbl_options.specs.declared.options.Boxing.{Boxing}
 use Rattle.tbl_lines.specs.CellsLeft.{Left, all_keys, bars_at_end, keys_behind}
 use Rattle.tbl_lines.specs.LinesLeft.{OfRow as OfCells, bars_at_cell, bars_in_front, first_bars, joined_here, shown_bars}
-use Rattle.tbl_lines.specs.PictureLines.{OfRow as OfFields, Sheet, bars_among, bars_of, edge_of_cell, joined_sign, shown_at_edge, shown_behind, shown_in_front}
+use Rattle.tbl_lines.specs.PictureLines.{OfRow as OfFields, Sheet, bars_of, edge_of_cell, joined_sign, shown_at_edge, shown_behind, shown_in_front}
+use Rattle.tbl_format.specs.FormatLaws.{bars_among}
 use Rattle.tbl_lines.specs.RowsAlone.{alone_at, alone_from}
 use Rattle.tbl_lines.specs.RulesAlone.{ShownAlike}
 use Rattle.tbl_lines.proofs.PlainKeys.{full-bars, length-behind}

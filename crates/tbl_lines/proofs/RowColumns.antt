@@ -9,7 +9,8 @@ use Rattle.tbl_layout.specs.declared.columns.Column.{Column}
 use Rattle.tbl_layout.specs.declared.data_lines.RuleSign.{RuleSign}
 use Rattle.tbl_layout.specs.declared.entry.Entry.{Entry}
 use Rattle.tbl_layout.specs.KeptEntries.{Lies, no_entry}
-use Rattle.tbl_lines.specs.PictureLines.{bars_among, bars_between, joint}
+use Rattle.tbl_lines.specs.PictureLines.{bars_between, joint}
+use Rattle.tbl_format.specs.FormatLaws.{bars_among}
 use Rattle.tbl_lines.specs.RowsLeft.{block_text, end_by, is_ruled_by, key_of, row_columns, rule_end_by}
 use Rattle.tbl_lines.specs.RowsWalked.{IsNarrow, PlacesLie}
 use Rattle.tbl_lines.specs.declared.row_columns.RowColumn.{RowColumn}

@@ -14,7 +14,8 @@ use Rattle.tbl_layout.specs.declared.data_lines.RuleSign.{RuleSign}
 use Rattle.tbl_options.specs.declared.options.Boxing.{Boxing}
 use Rattle.tbl_lines.specs.CellsLeft.{Left, goes_on}
 use Rattle.tbl_lines.specs.LinesLeft.{Beside, Free, Nothing, OfRules, Over, bars_met, has_column, is_free, is_within, over_at, overs, overs_from, overs_of, own_bars, rules_boundary, rules_column, rules_edge, shown_bars}
-use Rattle.tbl_lines.specs.PictureLines.{Neighbour, NoRow, OfKeys, OfRules as OfRulesSeen, RuleLine, Whole, bars_among, bars_at_edge, bars_between, met_at_edge, met_behind, own_at_edge, own_behind, rules_behind, shown_at_edge, shown_behind}
+use Rattle.tbl_lines.specs.PictureLines.{Neighbour, NoRow, OfKeys, OfRules as OfRulesSeen, RuleLine, Whole, bars_at_edge, bars_between, met_at_edge, met_behind, own_at_edge, own_behind, rules_behind, shown_at_edge, shown_behind}
+use Rattle.tbl_format.specs.FormatLaws.{bars_among}
 use Rattle.tbl_lines.specs.RulesAlone.{NoneGoOn, ShownAlike}
 
 -- cells that don't go on leave all columns free

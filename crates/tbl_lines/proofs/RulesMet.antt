@@ -11,7 +11,8 @@ use Rattle.tbl_layout.specs.LayoutLaws.{AreBehind, last_behind, last_end}
 use Rattle.tbl_layout.specs.Widths.{edge_bars, inner_bars}
 use Rattle.tbl_layout.specs.declared.bars.Bars.{Bars}
 use Rattle.tbl_layout.specs.declared.columns.Column.{Column}
-use Rattle.tbl_lines.specs.PictureLines.{Neighbour, NoRow, OfKeys, OfRow, OfRules, RuleLine, Whole, bars_among, bars_between, bars_of, edge_of_cell, joined_sign, met_at_edge, met_behind, own_at_edge, own_behind, rules_behind, shown_at_edge, shown_behind, shown_in_front}
+use Rattle.tbl_lines.specs.PictureLines.{Neighbour, NoRow, OfKeys, OfRow, OfRules, RuleLine, Whole, bars_between, bars_of, edge_of_cell, joined_sign, met_at_edge, met_behind, own_at_edge, own_behind, rules_behind, shown_at_edge, shown_behind, shown_in_front}
+use Rattle.tbl_format.specs.FormatLaws.{bars_among}
 use Rattle.tbl_lines.specs.RulePlaces.{AreMet, HasPlaces, IsLinePlaced, IsPlaced, bars_behind}
 
 -- a row of the formats has no bar behind the end of its last key

@@ -14,7 +14,8 @@ use Rattle.tbl_layout.specs.declared.data_lines.RuleSign.TheVariants.{Single}
 use Rattle.tbl_options.specs.declared.options.Boxing.{Boxing}
 use Rattle.tbl_lines.specs.CellsLeft.{Left, goes_on}
 use Rattle.tbl_lines.specs.RowsLeft.{first_of}
-use Rattle.tbl_lines.specs.PictureLines.{Cell, OfKeys, RuleLine, Sheet, Whole, bar, bars_among, crossed_at, crossing, joint, line_of, nothing_there, one_run, repeated, sign_over, with_fronts}
+use Rattle.tbl_lines.specs.PictureLines.{Cell, OfKeys, RuleLine, Sheet, Whole, bar, crossed_at, crossing, joint, line_of, nothing_there, one_run, repeated, sign_over, with_fronts}
+use Rattle.tbl_format.specs.FormatLaws.{bars_among}
 
 -- the rule that a cell shows on the line that comes, if it does; and the one that two cells beside each other both show
 abbrev pub rule_of : Content → Option RuleSign

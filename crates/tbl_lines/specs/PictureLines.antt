@@ -17,6 +17,7 @@ use Rattle.tbl_layout.specs.declared.bars.Bars.{Bars}
 use Rattle.tbl_layout.specs.declared.columns.Column.{Column}
 use Rattle.tbl_layout.specs.declared.data_lines.RuleSign.{RuleSign}
 use Rattle.tbl_layout.specs.declared.data_lines.RuleSign.TheVariants.{Double, Single}
+use Rattle.tbl_format.specs.FormatLaws.{bars_among}
 
 -- a bar, and where a rule crosses one
 abbrev pub bar : ℕ
@@ -33,13 +34,6 @@ repeated b count = record { bytes = replicate count b; to_glyph = if b == blank 
 abbrev pub is_ruled : RuleSign → Content → Bool
 is_ruled sign (Ruled other) = is_same_sign sign other
 is_ruled sign field = false
-
--- how many bars a row of the formats has in front of the key of a cell, or behind its last key
-abbrev pub bars_among : List FormatKey → ℕ → ℕ → ℕ
-bars_among [] last zero = last
-bars_among [] last (suc cell) = 0
-bars_among (k ∷ keys) last zero = k.bars
-bars_among (k ∷ keys) last (suc cell) = bars_among keys last cell
 
 abbrev pub bars_of : FormatRow → ℕ → ℕ
 bars_of format cell = bars_among format.keys format.bars cell

@@ -11,7 +11,7 @@ use Rattle.tbl_layout.specs.DataLines.{line_kind}
 use Rattle.tbl_layout.specs.Entries.{Block, Command, Element, Row, Rule, content_read}
 use Rattle.tbl_layout.specs.declared.data_lines.LineKind.{LineKind}
 use Rattle.tbl_layout.specs.declared.data_lines.LineKind.TheVariants.{Command as CommandKind, Rule as RuleKind}
-use Rattle.tbl_layout.specs.RulesWorked.{row_of}
+use Rattle.tbl_layout.specs.RulesWorked.{row_of, column_at}
 use Rattle.tbl_layout.specs.Spans.{filled, laid}
 use Rattle.tbl_layout.specs.declared.bars.Bars.{Bars}
 use Rattle.tbl_layout.specs.Heights.{heights}
@@ -45,9 +45,6 @@ not_boxed = record { bars = 0; is_inside = false }
 
 abbrev pub around : Boxing
 around = record { bars = 1; is_inside = false }
-
-abbrev pub each_field : Boxing
-each_field = record { bars = 1; is_inside = true }
 
 abbrev pub double : Boxing
 double = record { bars = 2; is_inside = false }
@@ -156,10 +153,6 @@ cut_in boxing bars elements =
 abbrev pub free_key : ℕ → Key → ℕ → FormatKey
 free_key bars key column = record (plain_key bars key column) { has_no_width = true }
 
--- a column that begins at a place, is so wide and has so many bars behind it
-abbrev pub column_from : ℕ → ℕ → ℕ → Column
-column_from start width bars = record { needs = needs_of []; bars = bars; width = width; start = start }
-
 -- what is drawn behind a column with so many bars behind it, of which so many meet, in front of a column four places further
 abbrev pub places_drawn : ℕ → Option RuleSign → Option RuleSign → ℕ → List ℕ
-places_drawn bars sign next count = drawn 0 (places_mark sign next count (column_from 0 3 bars) (column_from 7 2 0) ∷ [])
+places_drawn bars sign next count = drawn 0 (places_mark sign next count (column_at 0 3 bars) (column_at 7 2 0) ∷ [])

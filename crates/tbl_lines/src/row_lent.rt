@@ -3,7 +3,8 @@
 ghost use Rattle.std.specs.Prelude.{◌≡◌, suc, ◌+◌, ◌-◌, ◌<◌, ◌∷◌, drop, get_or, length};
 ghost use Rattle.tbl_format.specs.Cells.{end_of, start_of};
 ghost use Rattle.tbl_kept.specs.Rows.{no_column};
-ghost use Rattle.tbl_lines.specs.PictureLines.{bars_among, bars_at_edge, bars_between};
+ghost use Rattle.tbl_lines.specs.PictureLines.{bars_at_edge, bars_between};
+ghost use Rattle.tbl_format.specs.FormatLaws.{bars_among};
 ghost use Rattle.tbl_lines.specs.RowsWalked.{IsNarrow};
 ghost use Rattle.tbl_lines.specs.RowsLent.{LiesInColumns, lent_columns, lent_format};
 

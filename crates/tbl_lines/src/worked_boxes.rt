@@ -2,7 +2,8 @@
 
 ghost use Rattle.std.specs.Prelude.{◌≡◌, [], ◌∷◌, None, codes};
 ghost use Rattle.tbl_format.specs.declared.format.Key.TheVariants.{Left};
-ghost use Rattle.tbl_lines.specs.WorkedPictures.{around, each_field, lines_boxed};
+ghost use Rattle.tbl_lines.specs.WorkedPictures.{around, lines_boxed};
+ghost use Rattle.tbl_layout.specs.BarsWorked.{each_field};
 
 /// A box around a table.
 pub fn around()

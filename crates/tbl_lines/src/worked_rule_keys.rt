@@ -4,7 +4,8 @@ ghost use Rattle.std.specs.Prelude.{◌≡◌, [], ◌∷◌, ◌++◌, None, So
 ghost use Rattle.tbl_format.specs.Format.{plain_key};
 ghost use Rattle.tbl_format.specs.declared.format.Key.TheVariants.{DoubleRule, Left, Rule};
 ghost use Rattle.tbl_layout.specs.declared.data_lines.RuleSign.TheVariants.{Double, Single};
-ghost use Rattle.tbl_lines.specs.WorkedPictures.{around, each_field, keys_alone, lines_ruled};
+ghost use Rattle.tbl_lines.specs.WorkedPictures.{around, keys_alone, lines_ruled};
+ghost use Rattle.tbl_layout.specs.BarsWorked.{each_field};
 ghost use Rattle.tbl_lines.specs.WorkedPictures.{lines_ruled_alone, not_boxed, places_drawn};
 
 /// Rows of rule keys (`_ _ _` and `_ _`) in front of a row, without bars, and where their signs

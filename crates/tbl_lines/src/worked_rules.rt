@@ -3,7 +3,8 @@
 ghost use Rattle.std.specs.Prelude.{◌≡◌, [], ◌∷◌, ◌++◌, Some, None, codes};
 ghost use Rattle.tbl_format.specs.declared.format.Key.TheVariants.{Alphabetic, Center, Left};
 ghost use Rattle.tbl_format.specs.declared.format.Key.TheVariants.{Numeric, Right};
-ghost use Rattle.tbl_lines.specs.WorkedPictures.{around, each_field, lines_boxed};
+ghost use Rattle.tbl_lines.specs.WorkedPictures.{around, lines_boxed};
+ghost use Rattle.tbl_layout.specs.BarsWorked.{each_field};
 ghost use Rattle.tbl_lines.specs.WorkedPictures.{lines_of_data};
 
 /// Rules over columns, and over the whole table.

@@ -3,7 +3,8 @@
 ghost use Rattle.std.specs.Prelude.{◌≡◌, [], ◌∷◌, ◌++◌, codes};
 ghost use Rattle.tbl_format.specs.Format.{plain_key};
 ghost use Rattle.tbl_format.specs.declared.format.Key.TheVariants.{Above, Center, Left, Right};
-ghost use Rattle.tbl_lines.specs.WorkedPictures.{cut_in, each_field, free_key, not_boxed};
+ghost use Rattle.tbl_lines.specs.WorkedPictures.{cut_in, free_key, not_boxed};
+ghost use Rattle.tbl_layout.specs.BarsWorked.{each_field};
 ghost use Rattle.tbl_lines.specs.WorkedPictures.{row_with_block, rows_under, tall_lines};
 
 /// Entries without width end in front of a column in which something stands, of a bar, and of the

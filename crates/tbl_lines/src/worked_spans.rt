@@ -4,7 +4,8 @@ ghost use Rattle.std.specs.Prelude.{◌≡◌, [], ◌∷◌, ◌++◌, None, So
 ghost use Rattle.tbl_format.specs.Format.{plain_key};
 ghost use Rattle.tbl_format.specs.declared.format.Key.TheVariants.{Center, Left};
 ghost use Rattle.tbl_format.specs.declared.format.Key.TheVariants.{WideNumeric};
-ghost use Rattle.tbl_lines.specs.WorkedPictures.{each_field, lines_of_rows, lines_of_widths};
+ghost use Rattle.tbl_lines.specs.WorkedPictures.{lines_of_rows, lines_of_widths};
+ghost use Rattle.tbl_layout.specs.BarsWorked.{each_field};
 ghost use Rattle.tbl_lines.specs.WorkedPictures.{not_boxed, row_with_block, rows_under};
 
 /// A title over three columns (`c s s` above `l l l`), also one for which they get wider.

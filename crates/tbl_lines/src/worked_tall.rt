@@ -3,7 +3,8 @@
 ghost use Rattle.std.specs.Prelude.{◌≡◌, [], ◌∷◌, ◌++◌, None, Some, codes};
 ghost use Rattle.tbl_format.specs.Format.{plain_key};
 ghost use Rattle.tbl_format.specs.declared.format.Key.TheVariants.{Above, Center, Left};
-ghost use Rattle.tbl_lines.specs.WorkedPictures.{each_field, lines_of_rows, not_boxed};
+ghost use Rattle.tbl_lines.specs.WorkedPictures.{lines_of_rows, not_boxed};
+ghost use Rattle.tbl_layout.specs.BarsWorked.{each_field};
 ghost use Rattle.tbl_lines.specs.WorkedPictures.{around, row_with_block, rows_under, tall_lines};
 
 /// Rows without such cells are as they are.

@@ -15,7 +15,8 @@ use Rattle.tbl_layout.specs.declared.data_lines.RuleSign.{RuleSign}
 use Rattle.tbl_layout.specs.declared.entry.Entry.{Entry}
 use Rattle.tbl_layout.specs.declared.entry.EntryKind.{EntryKind}
 use Rattle.tbl_layout.specs.declared.entry.EntryKind.TheVariants.{Above as AboveKind, Block as BlockKind, Repeated as RepeatedKind, Ruled as RuledKind, Short as ShortKind, Split as SplitKind, Text as TextKind}
-use Rattle.tbl_lines.specs.PictureLines.{bars_among, bars_between, is_ruled, joined_sign, shown_behind, shown_in_front}
+use Rattle.tbl_lines.specs.PictureLines.{bars_between, is_ruled, joined_sign, shown_behind, shown_in_front}
+use Rattle.tbl_format.specs.FormatLaws.{bars_among}
 use Rattle.tbl_lines.specs.RowsLeft.{is_ruled_by, joined_first, joined_kinds}
 use Rattle.tbl_picture.specs.RulesWalked.{line_beside, line_of_first}
 use Rattle.tbl_picture.specs.declared.walk.beside.Beside.TheVariants.{Row as RowBeside}

@@ -9,7 +9,8 @@ use Rattle.tbl_layout.specs.LayoutLaws.{StandInOrder, first_start, last_behind, 
 use Rattle.tbl_layout.specs.Widths.{edge_bars, inner_bars}
 use Rattle.tbl_layout.specs.declared.columns.Column.{Column}
 use Rattle.tbl_layout.specs.declared.data_lines.RuleSign.{RuleSign}
-use Rattle.tbl_lines.specs.PictureLines.{Mark, Neighbour, OfKeys, RuleLine, Sheet, Whole, bars_among, behind_rules, drawn, edge_mark, met_at_edge, met_behind, parts_from, rule_from, rule_line, rule_to, shown_at_edge, shown_behind}
+use Rattle.tbl_lines.specs.PictureLines.{Mark, Neighbour, OfKeys, RuleLine, Sheet, Whole, behind_rules, drawn, edge_mark, met_at_edge, met_behind, parts_from, rule_from, rule_line, rule_to, shown_at_edge, shown_behind}
+use Rattle.tbl_format.specs.FormatLaws.{bars_among}
 use Rattle.tbl_lines.proofs.RulesMet.{are-met, few-behind, few-left, few-right}
 use Rattle.tbl_picture.specs.RuleMarks.{marks_from, rule_line_walked}
 use Rattle.tbl_lines.specs.RulePlaces.{AreMet, HasPlaces, HavePlaces, IsLinePlaced, IsPlaced, bars_behind}

@@ -7,13 +7,14 @@ use Rattle.std.proofs.lemmas.Bool.Decides.{nat_tests}
 use Rattle.std.proofs.lemmas.List.{length-map}
 use Rattle.tbl_format.specs.Cells.{cell_behind, cell_from, start_of}
 use Rattle.tbl_format.specs.Format.{FormatRow, columns_of}
-use Rattle.tbl_format.specs.FormatLaws.{RowHeld, bars_beside, most_beside}
+use Rattle.tbl_format.specs.FormatLaws.{RowHeld, most_beside}
+use Rattle.tbl_format.specs.FormatLaws.{bars_among}
 use Rattle.tbl_format.specs.declared.format.Asked.{Asked}
 use Rattle.tbl_format.specs.declared.format.FormatKey.{FormatKey}
 use Rattle.tbl_format.proofs.CellColumns.{cells-few, start_behind, start_behind-next, start_behind-none, start_of-behind, start_of-ones}
 use Rattle.tbl_layout.specs.declared.columns.Column.{Column}
 use Rattle.tbl_layout.proofs.PlacesBetween.{bars_of_asked, bars_of_columns}
-use Rattle.tbl_lines.specs.PictureLines.{bars_among}
+use Rattle.tbl_format.specs.FormatLaws.{bars_among}
 use Rattle.tbl_lines.specs.RulePlaces.{HasPlaces, bars_behind}
 use Rattle.tbl_lines.proofs.RulesMet.{few-bars}
 
@@ -59,7 +60,7 @@ start-found keys column cell found =
     start_of-behind keys cell ∙ ap (start_behind 0 keys) (sym same) ∙ there.start
 
 -- the bars of a row's keys
-among-beside : (keys : List FormatKey) (last cell : ℕ) → bars_among keys last cell ≡ bars_beside keys last cell
+among-beside : (keys : List FormatKey) (last cell : ℕ) → bars_among keys last cell ≡ bars_among keys last cell
 among-beside [] last zero = refl
 among-beside [] last (suc cell) = refl
 among-beside (k ∷ keys) last zero = refl
@@ -70,8 +71,8 @@ module _ (front : ℕ) (asked : List Asked) (columns : List Column) (same : bars
   module _ (format : FormatRow) (held : RowHeld front asked format) where
     few-behind : (column cell : ℕ) → start_of format.keys cell ≡ suc column → bars_among format.keys format.bars cell ≤ bars_behind columns column
     few-behind column cell start =
-        let most : bars_beside format.keys format.bars cell ≤ most_beside front asked (suc column) =
-        subst (λ (n : ℕ). bars_beside format.keys format.bars cell ≤ most_beside front asked n) start (held.most cell) in
+        let most : bars_among format.keys format.bars cell ≤ most_beside front asked (suc column) =
+        subst (λ (n : ℕ). bars_among format.keys format.bars cell ≤ most_beside front asked n) start (held.most cell) in
         let there : bars_behind columns column ≡ most_beside front asked (suc column) = ap (λ (ns : List ℕ). get_or ns column 0) same in
         omega (arith, most, there, among-beside format.keys format.bars cell)
 
@@ -90,7 +91,7 @@ module _ (front : ℕ) (asked : List Asked) (columns : List Column) (same : bars
 
     row-has : HasPlaces front columns format
     row-has = record {
-      left = let first : bars_beside format.keys format.bars 0 ≤ front = held.most 0 in omega (arith, first, among-beside format.keys format.bars 0);
+      left = let first : bars_among format.keys format.bars 0 ≤ front = held.most 0 in omega (arith, first, among-beside format.keys format.bars 0);
       behind = λ column cell found. few-behind column cell (start-found format.keys (suc column) cell found);
       right = few-right;
     }

@@ -14,7 +14,8 @@ use Rattle.tbl_layout.specs.Widths.{edge_bars, inner_bars}
 use Rattle.tbl_options.specs.declared.options.Boxing.{Boxing}
 use Rattle.tbl_lines.specs.CellsLeft.{Left, all_keys, bars_at_end, keys_behind}
 use Rattle.tbl_lines.specs.LinesLeft.{Beside, Nothing, OfRow, OfRules, Over, bars_at_cell, bars_in_front, first_bars, is_within, joined_here, over_at, own_bars, rules_boundary, shown_bars}
-use Rattle.tbl_lines.specs.PictureLines.{OfKeys, RuleLine, Sheet, Whole, bars_among, bars_of}
+use Rattle.tbl_lines.specs.PictureLines.{OfKeys, RuleLine, Sheet, Whole, bars_of}
+use Rattle.tbl_format.specs.FormatLaws.{bars_among}
 use Rattle.tbl_lines.specs.RulePlaces.{HasPlaces, bars_behind}
 use Rattle.tbl_tall.specs.BandLaws.{HasLinePlaces}
 use Rattle.tbl_tall.specs.TallRows.{BarsFit, HaveKeys, places_at}

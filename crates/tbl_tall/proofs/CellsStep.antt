@@ -6,7 +6,7 @@ use Rattle.tbl_format.specs.declared.format.Key.TheVariants.{Left as LeftKey}
 use Rattle.tbl_format.specs.declared.format.Standing.TheVariants.{Middle}
 use Rattle.tbl_format.proofs.CellColumns.{columns_behind}
 use Rattle.tbl_layout.specs.KeptEntries.{no_entry}
-use Rattle.tbl_tall.specs.Bands.{keys_in}
+use Rattle.tbl_line_cells.specs.LinesDrawn.{keys_in}
 use Rattle.tbl_tall.specs.ShownBars.{owner_of, owners}
 use Rattle.tbl_line_cells.specs.declared.cells.CellLeft.{CellLeft}
 use Rattle.tbl_tall.proofs.CellsSpread.{first-end, spread}

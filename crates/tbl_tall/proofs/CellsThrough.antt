@@ -11,7 +11,8 @@ use Rattle.tbl_format.proofs.CellColumns.{columns_behind, columns_of-behind}
 use Rattle.tbl_layout.specs.declared.columns.Column.{Column}
 use Rattle.tbl_lines.specs.CellsLeft.{Left, goes_on}
 use Rattle.tbl_lines.specs.LinesLeft.{is_free, is_within, overs, overs_of}
-use Rattle.tbl_tall.specs.Bands.{GoThrough, is_cut, is_open, keys_in, same_number}
+use Rattle.tbl_tall.specs.Bands.{GoThrough, is_cut, is_open, same_number}
+use Rattle.tbl_line_cells.specs.LinesDrawn.{keys_in}
 use Rattle.tbl_line_cells.specs.KeptCells.{AllLeft, IsLeft}
 use Rattle.tbl_tall.specs.ShownBars.{owner_of, owners}
 use Rattle.tbl_line_cells.specs.declared.cells.CellLeft.{CellLeft}

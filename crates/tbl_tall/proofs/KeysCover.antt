@@ -6,7 +6,8 @@ use Rattle.tbl_format.specs.Format.{FormatRow, columns_of}
 use Rattle.tbl_format.specs.FormatRows.{AreWithin}
 use Rattle.tbl_format.specs.declared.format.FormatKey.{FormatKey}
 use Rattle.tbl_lines.specs.CellsLeft.{Left, all_keys, keys_behind}
-use Rattle.tbl_tall.specs.Bands.{HasRoom, keys_in}
+use Rattle.tbl_tall.specs.Bands.{HasRoom}
+use Rattle.tbl_line_cells.specs.LinesDrawn.{keys_in}
 use Rattle.tbl_line_cells.specs.KeptCells.{AllLeft}
 use Rattle.tbl_line_cells.specs.LinesDrawn.{HasRoom as LineHasRoom}
 use Rattle.tbl_tall.specs.RowsNext.{HasKeys}

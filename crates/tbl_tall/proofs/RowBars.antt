@@ -11,7 +11,8 @@ use Rattle.tbl_options.specs.declared.options.Boxing.{Boxing}
 use Rattle.tbl_lines.specs.CellsLeft.{Left}
 use Rattle.tbl_lines.specs.LinesLeft.{OfRow, bars_at_cell, bars_in_front, joined_here}
 use Rattle.tbl_lines.specs.PictureLeft.{through_rule}
-use Rattle.tbl_tall.specs.Bands.{ShowBars, keys_in}
+use Rattle.tbl_tall.specs.Bands.{ShowBars}
+use Rattle.tbl_line_cells.specs.LinesDrawn.{keys_in}
 use Rattle.tbl_layout.specs.declared.data_lines.RuleSign.{RuleSign}
 use Rattle.tbl_line_cells.specs.KeptCells.{AllLeft, IsLeft, ShowsRule, behind_rules}
 use Rattle.tbl_line_cells.specs.declared.cells.CellLeft.{CellLeft}

@@ -22,7 +22,8 @@ use Rattle.tbl_tall.specs.Bands.{BandFits, BandStands, GoThrough, KeptBand, Show
 use Rattle.tbl_line_cells.specs.KeptCells.{AllLeft, behind_rules}
 use Rattle.tbl_tall.specs.LinesOver.{HasInFront, heights_kept}
 use Rattle.tbl_tall.specs.RowsNext.{RulesThen, cell_kept, cells_by}
-use Rattle.tbl_tall.specs.TallRows.{BarsFit, Comes, HaveKeys, KeptTall, no_row, row_below}
+use Rattle.tbl_tall.specs.TallRows.{BarsFit, Comes, HaveKeys, KeptTall, row_below}
+use Rattle.tbl_format.specs.RowsServed.{no_keys}
 
 -- lines of rules of which none was given stand below the line whose bars are kept
 pub band-begins : (formats : List FormatRow) (bars : Bars) (columns : ℕ) (b : KeptBand) (all : List Over) (above below : Beside) → BandFits formats b
@@ -172,7 +173,7 @@ nothing-comes bytes formats s t wholes keys lefts heights above all keeps then_n
     let f = foreseen then_none in
     let cells = map nothing_left (keys_behind n 0 0) in
     let same : n - 0 ≡ n = omega arith in
-    let own : HaveKeys cells (all_keys n no_row) = record {
+    let own : HaveKeys cells (all_keys n no_keys) = record {
       bars = nothing-bars n 0 0 ∙ ap (λ (m : ℕ). map (λ (k : FormatKey). k.bars) (keys_behind m 0 0)) (sym same);
       ends = nothing-ends n 0 0 ∙ ap (λ (m : ℕ). map (λ (k : FormatKey). k.end) (keys_behind m 0 0)) (sym same);
     } in

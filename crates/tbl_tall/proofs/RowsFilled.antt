@@ -19,7 +19,8 @@ use Rattle.tbl_tall.proofs.KeysCover.{Cover, cover-all}
 use Rattle.tbl_tall.proofs.RowsBegun.{RowKeeps, cells-come, keeps-comes}
 use Rattle.tbl_tall.proofs.RowsComing.{keys-kept, step-row}
 use Rattle.tbl_tall.proofs.StopsSet.{stops-have}
-use Rattle.tbl_tall.specs.Bands.{BandFits, GoThrough, ShowBars, keys_in}
+use Rattle.tbl_tall.specs.Bands.{BandFits, GoThrough, ShowBars}
+use Rattle.tbl_line_cells.specs.LinesDrawn.{keys_in}
 use Rattle.tbl_line_cells.specs.KeptCells.{AllLeft, behind_rules}
 use Rattle.tbl_tall.specs.LinesOver.{heights_kept}
 use Rattle.tbl_tall.specs.RowsNext.{HasKeys, LeftAbove, RowIsAt, RulesThen, StandsBelow, boxed_behind, cell_kept, cells_by, drawn_on, rules_in_front}

@@ -93,10 +93,6 @@ pub record ShowBars (boxing : Boxing) (columns : ℕ) (bars : List ℕ) (line : 
   pub boundaries : length bars ≡ columns + 1
   pub shown : (boundary : ℕ) → boundary ≤ columns → get_or bars boundary 0 ≡ shown_bars boxing columns line boundary
 
--- the keys of cells that are kept
-abbrev pub keys_in : List CellLeft → List FormatKey
-keys_in cells = map (λ (c : CellLeft). c.key) cells
-
 -- what is kept of the lines fits together
 pub record BandFits (formats : List FormatRow) (b : KeptBand) : Type 0 where
   pub some : 0 < length b.through

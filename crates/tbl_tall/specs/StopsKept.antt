@@ -7,7 +7,7 @@ use Rattle.tbl_kept.specs.Rows.{Command as CommandKept, KeptElement, Row as RowK
 use Rattle.tbl_layout.specs.Entries.{Content, Element}
 use Rattle.tbl_lines.specs.CellsLeft.{Left, all_keys, all_stopped, first_entry}
 use Rattle.tbl_line_cells.specs.declared.cells.CellLeft.{CellLeft}
-use Rattle.tbl_tall.specs.TallRows.{no_row}
+use Rattle.tbl_format.specs.RowsServed.{no_keys}
 
 -- an element that is kept is a row
 abbrev pub IsRow : KeptElement → Type 0
@@ -18,8 +18,8 @@ IsRow (CommandKept from to) = ⊥
 -- the row of the formats that serves it, and its fields: none, where it is no row
 abbrev pub format_kept : List FormatRow → KeptElement → FormatRow
 format_kept formats (RowKept keys rules height entries) = row_at formats keys
-format_kept formats (RuleKept sign) = no_row
-format_kept formats (CommandKept from to) = no_row
+format_kept formats (RuleKept sign) = no_keys
+format_kept formats (CommandKept from to) = no_keys
 
 abbrev pub fields_kept : List ℕ → List FormatRow → KeptElement → List Content
 fields_kept bytes formats (RowKept keys rules height entries) = fields_of bytes (row_at formats keys) entries

@@ -3,7 +3,7 @@ use Rattle.std.specs.Prelude.{◌≡◌, ℕ, zero, suc, ◌≤◌, ◌<◌, ◌
 use Rattle.std.specs.List.{AllByRecursion}
 use Rattle.tbl_format.specs.Format.{FormatRow}
 use Rattle.tbl_format.specs.FormatRows.{AreWithin}
-use Rattle.tbl_format.specs.RowsServed.{row_at}
+use Rattle.tbl_format.specs.RowsServed.{row_at, no_keys}
 use Rattle.tbl_format.specs.declared.format.FormatKey.{FormatKey}
 use Rattle.tbl_kept.specs.Rows.{Command as CommandKept, KeptElement, KeptRows, Row as RowKept, Rule as RuleKept}
 use Rattle.tbl_layout.specs.Entries.{Command, Element, Row, Rule}
@@ -47,11 +47,8 @@ keys_in_front (Row rules format fields ∷ elements) = rules
 keys_in_front (Rule sign ∷ elements) = keys_in_front elements
 keys_in_front (Command bytes ∷ elements) = keys_in_front elements
 
-abbrev pub no_row : FormatRow
-no_row = record { keys = []; bars = 0 }
-
 abbrev pub next_format : List Element → FormatRow
-next_format [] = no_row
+next_format [] = no_keys
 next_format (Row rules format fields ∷ elements) = format
 next_format (Rule sign ∷ elements) = next_format elements
 next_format (Command bytes ∷ elements) = next_format elements

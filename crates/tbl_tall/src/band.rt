@@ -53,7 +53,8 @@ pub struct Band {
 impl Band {
     ghost use Rattle.tbl_tall.specs.Bands.{AlikeLines, AlikeOvers, BandFits, BandStands};
     ghost use Rattle.tbl_tall.specs.Bands.{GoThrough, HasRoom, ShowBars, band_line, is_cut};
-    ghost use Rattle.tbl_tall.specs.Bands.{kept_band, keys_in, line_given, lines_behind};
+    ghost use Rattle.tbl_tall.specs.Bands.{kept_band, line_given, lines_behind};
+    ghost use Rattle.tbl_line_cells.specs.LinesDrawn.{keys_in};
     ghost use Rattle.tbl_tall.specs.Bands.{rest_shown, wholes_left};
 
     /// Room for a table of so many columns.

@@ -8,7 +8,8 @@ ghost use Rattle.tbl_layout.specs.Widths.{edge_bars};
 ghost use Rattle.tbl_lines.specs.CellsLeft.{Left};
 ghost use Rattle.tbl_lines.specs.LinesLeft.{OfRow, bars_in_front};
 ghost use Rattle.tbl_options.specs.declared.options.Boxing.{Boxing};
-ghost use Rattle.tbl_tall.specs.Bands.{ShowBars, keys_in};
+ghost use Rattle.tbl_tall.specs.Bands.{ShowBars};
+ghost use Rattle.tbl_line_cells.specs.LinesDrawn.{keys_in};
 ghost use Rattle.tbl_line_cells.specs.KeptCells.{AllLeft, behind_rules};
 ghost use Rattle.tbl_tall.specs.ShownBars.{owner_of, owners};
 

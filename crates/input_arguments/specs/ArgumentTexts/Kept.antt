@@ -4,7 +4,8 @@ use Rattle.std.specs.List.{AllByRecursion}
 use Rattle.input_model.specs.Arguments.{Arguments, HeldFewer, bytes_held, kept, only_kept, AreFewer}
 use Rattle.input_source.specs.Bytes.{is_argument_byte}
 use Rattle.roff_num.specs.Lists.{last_end}
-use Rattle.input_arguments.specs.ArgumentTexts.Ends.{texts_ending, EndWithin}
+use Rattle.roff_num.specs.Lists.{EndInOrder}
+use Rattle.roff_num.specs.Lists.{parts_ending}
 use Rattle.input_arguments.specs.declared.arguments.ArgumentTexts.TheInside.{Inside}
 
 -- the arguments, and how many bytes there is room for
@@ -20,7 +21,7 @@ keeping k a = record k { arguments = only_kept a }
 abbrev pub kept_by : Inside → KeptArguments
 kept_by a = record {
   arguments = record {
-    whole = reverse (texts_ending a.bytes.items 0 a.ends.items);
+    whole = reverse (parts_ending a.bytes.items 0 a.ends.items);
     begun = reverse (drop (last_end 0 a.ends.items) a.bytes.items);
     place = a.place;
   };
@@ -33,8 +34,8 @@ pub record IsSound (a : Inside) : Type 0 where
   pub bytes_reserved : a.room ≤ vec_capacity a.bytes
   pub ends_reserved : a.room + 32 ≤ vec_capacity a.ends
   pub within : length a.bytes.items ≤ a.room
-  pub ends : EndWithin (length a.bytes.items) 0 a.ends.items
-  pub kept : kept (texts_ending a.bytes.items 0 a.ends.items) ≡ texts_ending a.bytes.items 0 a.ends.items
+  pub ends : EndInOrder (length a.bytes.items) 0 a.ends.items
+  pub kept : kept (parts_ending a.bytes.items 0 a.ends.items) ≡ parts_ending a.bytes.items 0 a.ends.items
 
 -- the buffer keeps what is to be kept of a line's arguments
 pub record Keeps (a : Arguments) (k : KeptArguments) : Type 0 where

@@ -1,7 +1,8 @@
 -- What is kept of calls that aren't over.
 use Rattle.std.specs.Prelude.{◌≡◌, ℕ, ◌+◌, ◌*◌, ◌≤◌, List, [], ◌∷◌, drop, length, reverse, take, vec_capacity}
 use Rattle.roff_num.specs.Lists.{last_end}
-use Rattle.input_arguments.specs.ArgumentTexts.Ends.{texts_ending, EndWithin}
+use Rattle.roff_num.specs.Lists.{EndInOrder}
+use Rattle.roff_num.specs.Lists.{parts_ending}
 use Rattle.input_arguments.specs.declared.calls.CallStart.{CallStart}
 use Rattle.input_arguments.specs.declared.calls.Calls.TheInside.{Inside}
 
@@ -20,13 +21,13 @@ first_call (arguments ∷ calls) = arguments
 abbrev pub calls_in : List CallStart → List ℕ → List ℕ → List (List (List ℕ))
 calls_in [] bytes ends = []
 calls_in (start ∷ below) bytes ends =
-    texts_ending (drop start.byte bytes) 0 (drop start.end ends) ∷ calls_in below (take start.byte bytes) (take start.end ends)
+    parts_ending (drop start.byte bytes) 0 (drop start.end ends) ∷ calls_in below (take start.byte bytes) (take start.end ends)
 
 -- the arguments of the call that begins so lie on top of a block, the last one ends with it, and few of them have no byte
 pub record IsOnTop (start : CallStart) (bytes ends : List ℕ) : Type 0 where
   pub byte : start.byte ≤ length bytes
   pub end : start.end ≤ length ends
-  pub within : EndWithin (length (drop start.byte bytes)) 0 (drop start.end ends)
+  pub within : EndInOrder (length (drop start.byte bytes)) 0 (drop start.end ends)
   pub last : last_end 0 (drop start.end ends) ≡ length (drop start.byte bytes)
   pub few : length (drop start.end ends) ≤ length (drop start.byte bytes) + 32
 

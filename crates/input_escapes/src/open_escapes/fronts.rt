@@ -17,8 +17,8 @@ use crate::open_escape::{ConditionPart, CopyUnit, HeldEscape, NamePart};
 use input_source::is_argument_byte;
 
 impl OpenEscapes {
-    /// Reads bytes one after another, as long as they are of a comment, or in the front of an escape
-    /// that reads a name. Returns how many.
+    /// Reads bytes one after another, as long as they are of a comment, or in the front of an
+    /// escape that reads a name. Returns how many.
     pub fn read_front(&mut self, bytes: &[u8]) -> usize
         ensures { ReadsFront bytes.now result self.old self.new }
     {
@@ -63,7 +63,8 @@ impl OpenEscapes {
         self.name_escape(byte)
     }
 
-    /// Reads one byte of a comment, unless it may end it or is dropped. Returns whether it was read.
+    /// Reads one byte of a comment, unless it may end it or is dropped. Returns whether it was
+    /// read.
     #[inline(always)]
     fn read_on_in_comment(&self, byte: u8) -> bool
         requires { IsOnTop HeldEscape.Comment self.now.escapes }

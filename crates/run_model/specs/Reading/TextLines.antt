@@ -27,7 +27,8 @@ use Rattle.run_model.specs.declared.line_state.LineState.TheVariants.{LineStart,
 use Rattle.run_model.specs.declared.line_state.TextLine.{TextLine}
 use Rattle.run_model.specs.Reading.Escapes.{measuring, asking}
 use Rattle.run_model.specs.Reading.Items.{PageInput, Taking, going_on, meaning_events, telling}
-use Rattle.run_model.specs.Registers.{Known, in_units, greatest_number}
+use Rattle.run_model.specs.Registers.{Known, in_units}
+use Rattle.roff_num.specs.Ranges.{greatest_number}
 use Rattle.run_model.specs.Requests.{PageEvent, Text, Page, Interrupt, saying}
 
 -- a text line on which nothing stands

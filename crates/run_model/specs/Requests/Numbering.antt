@@ -1,6 +1,7 @@
 -- Setting, formatting and removing number registers (manual, section 8).
 use Rattle.std.specs.Prelude.{ℕ, ℤ, pos, List, [], ◌∷◌, length, map, take, filter, Option, Some, None, Result, Ok, Err, if◌then◌else◌, ◌==◌}
 use Rattle.roff_num.specs.Formats.{format_of}
+use Rattle.roff_num.specs.Ranges.{number}
 use Rattle.roff_num.specs.declared.format.Format.{Format}
 use Rattle.roff_num.specs.declared.num.Num.{Num}
 use Rattle.roff_num.specs.declared.num.NumFault.{NumFault}
@@ -13,10 +14,6 @@ use Rattle.run_model.specs.Requests.Effects.{Response, Ignored, Obeyed, changing
 -- a name that an argument gives: its first two bytes
 abbrev pub name_given : List ℕ → List ℕ
 name_given text = take 2 text
-
--- a number
-abbrev pub number : ℤ → Num
-number v = record { 0 = v }
 
 -- the increment: 0 where none is given
 abbrev pub increment_given : List (List ℕ) → Result ℤ NumFault

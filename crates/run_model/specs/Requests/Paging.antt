@@ -13,7 +13,7 @@ use Rattle.run_model.specs.declared.event.PageEvent.TheVariants.{Page}
 use Rattle.run_model.specs.declared.message.Message.TheVariants.{PageTooShort}
 use Rattle.run_model.specs.Requests.Effects.{Response, Around, Ignored, happens, nothing, bad_number}
 use Rattle.run_model.specs.Requests.Lengths.{length_wanted}
-use Rattle.run_model.specs.Requests.Numbering.{number}
+use Rattle.roff_num.specs.Ranges.{number}
 
 -- the page has so many lines from now on; one that would have none is refused
 abbrev pub lines_on_page : ℕ → Response

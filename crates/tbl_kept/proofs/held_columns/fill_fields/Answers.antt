@@ -8,7 +8,8 @@ use Rattle.tbl_layout.specs.declared.bars.Bars.{Bars}
 use Rattle.tbl_layout.specs.declared.columns.Column.{Column}
 use Rattle.tbl_layout.specs.declared.entry.Entry.{Entry}
 use Rattle.tbl_kept.specs.Rows.{height_of, held_by}
-use Rattle.tbl_kept.specs.RowsLaying.{FieldLies, block_stands, laid_entries}
+use Rattle.tbl_kept.specs.RowsLaying.{block_stands, laid_entries}
+use Rattle.tbl_layout.specs.KeptEntries.{Lies}
 use Rattle.tbl_kept.proofs.CellSteps.{CellsLeft, cell-within, cells-behind, cells-left, is-first, left-order}
 use Rattle.tbl_kept.proofs.RowsFilled.{height_of-more}
 use Rattle.tbl_kept.proofs.RowsNext.{laid-set, laid_from, next-held, next-laid, no_entry}
@@ -89,7 +90,7 @@ loop-at-preserved c =
           ∙ ap (λ (es : List Entry). take from columns ++ held_by (row_stands block_stands from (drop at keys) es) (drop from columns)) (sym this)
           ∙ i.columns;
       height = omega (arith, c.max-height.ensures, c.lines.ensures, i.height, height_of-more entries at new some);
-      lie = next-all-set (FieldLies bytes) entries at no_entry new some i.lie;
+      lie = next-all-set (Lies bytes) entries at no_entry new some i.lie;
       left = cells-behind (length asked) from keys at count i.left more cell is;
       many = length-set entries at new ∙ i.many;
       same = c.fill_field-entry.auto.columns ∙ i.same;

@@ -1,5 +1,5 @@
 use Rattle.std.proofs.Common.{◌≡◌, drop}
-use Rattle.tbl_layout.specs.DataLines.{behind_blanks}
+use Rattle.input_source.specs.Bytes.{behind_blanks}
 use Rattle.tbl_layout.proofs.data_lines.behind_blanks.Given as goal
 
 abbrev pub invariant-loop-at : goal.invariant-loop-at

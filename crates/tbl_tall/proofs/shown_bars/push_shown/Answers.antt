@@ -3,7 +3,8 @@ use Rattle.std.specs.Prelude.{vec_capacity, vec_len}
 use Rattle.tbl_format.proofs.CellColumns.{columns_of-behind}
 use Rattle.tbl_format.specs.Format.{columns_of}
 use Rattle.tbl_lines.specs.LinesLeft.{OfRow}
-use Rattle.tbl_tall.specs.Bands.{ShowBars, keys_in}
+use Rattle.tbl_tall.specs.Bands.{ShowBars}
+use Rattle.tbl_line_cells.specs.LinesDrawn.{keys_in}
 use Rattle.tbl_line_cells.specs.KeptCells.{behind_rules}
 use Rattle.tbl_line_cells.specs.declared.cells.CellLeft.{CellLeft}
 use Rattle.tbl_tall.proofs.CellsNext.{drop-past}

@@ -4,7 +4,7 @@ use Rattle.tbl_format.specs.Cells.{AreCells}
 use Rattle.tbl_format.specs.Format.{columns_of}
 use Rattle.tbl_format.proofs.CellColumns.{columns_behind}
 use Rattle.tbl_lines.specs.CellsLeft.{Left}
-use Rattle.tbl_tall.specs.Bands.{keys_in}
+use Rattle.tbl_line_cells.specs.LinesDrawn.{keys_in}
 use Rattle.tbl_line_cells.specs.KeptCells.{AllLeft}
 use Rattle.tbl_tall.proofs.CellsSpread.{spread}
 use Rattle.tbl_tall.proofs.RowBars.{fronts_of}

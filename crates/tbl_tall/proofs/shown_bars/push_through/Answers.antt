@@ -1,7 +1,7 @@
 use Rattle.std.proofs.Common.{◌≡◌, ℕ, ◌+◌, ◌-◌, ◌++◌, List, drop, get_or, length, replicate, Option, refl, sym, ap, ◌∙◌}
 use Rattle.std.specs.Prelude.{vec_capacity}
 use Rattle.tbl_format.proofs.CellColumns.{columns_of-behind}
-use Rattle.tbl_tall.specs.Bands.{keys_in}
+use Rattle.tbl_line_cells.specs.LinesDrawn.{keys_in}
 use Rattle.tbl_tall.specs.ShownBars.{owner_of, owners}
 use Rattle.tbl_line_cells.specs.declared.cells.CellLeft.{CellLeft}
 use Rattle.tbl_format.specs.Format.{columns_of}

@@ -3,7 +3,7 @@ use Rattle.std.specs.Prelude.{vec_capacity}
 use Rattle.tbl_format.specs.Cells.{AreCells}
 use Rattle.tbl_format.specs.Format.{columns_of}
 use Rattle.tbl_format.proofs.CellColumns.{columns_behind}
-use Rattle.tbl_tall.specs.Bands.{keys_in}
+use Rattle.tbl_line_cells.specs.LinesDrawn.{keys_in}
 use Rattle.tbl_tall.specs.ShownBars.{owners}
 use Rattle.tbl_tall.proofs.shown_bars.push_through.Given as goal
 

@@ -2,7 +2,7 @@ use Rattle.std.proofs.Common.{◌<◌, length, vec_len, vec_capacity, ◌∙◌,
 use Rattle.input_model.specs.Arguments.{Arguments}
 use Rattle.input_arguments.specs.ArgumentTexts.Kept.{KeptArguments}
 use Rattle.input_arguments.proofs.ArgumentBlock.{AllKept-end, ends_fit, kept_in-end, kept_in-no_end}
-use Rattle.input_arguments.proofs.Ends.{EndWithin-append}
+use Rattle.input_arguments.proofs.Ends.{EndInOrder-append}
 use Rattle.input_arguments.proofs.arguments.ArgumentTexts.end_argument.Goals as goal
 use Rattle.input_arguments.proofs.arguments.ArgumentTexts.end_argument.Goals.{then-is_kept, else-is_kept}
 
@@ -26,7 +26,7 @@ invariant_of-self c =
             bytes_reserved = c.self.invariant.bytes_reserved;
             ends_reserved = omega (arith, w.push.ensures.capacity);
             within = c.self.invariant.within;
-            ends = rw items (EndWithin-append (length old.bytes.items) 0 old.ends.items c.self.invariant.ends);
+            ends = rw items (EndInOrder-append (length old.bytes.items) 0 old.ends.items c.self.invariant.ends);
             kept = rw items (AllKept-end old.bytes.items old.ends.items c.self.invariant.kept kept);
           })
       | else-is_kept w ↦ rw w.self-inside-is (record {

@@ -2,7 +2,7 @@ use Rattle.std.proofs.Common.{ℕ, List, ◌∙◌, ap, sym}
 use Rattle.std.specs.Prelude.{reverse}
 use Rattle.std.proofs.lemmas.List.{reverse-reverse}
 use Rattle.input_model.specs.Arguments.{Arguments, kept}
-use Rattle.input_arguments.specs.ArgumentTexts.Ends.{texts_ending}
+use Rattle.roff_num.specs.Lists.{parts_ending}
 use Rattle.input_arguments.specs.ArgumentTexts.Kept.{KeptArguments}
 use Rattle.input_arguments.proofs.ArgumentBlock.{few_texts}
 use Rattle.input_arguments.proofs.arguments.ArgumentTexts.list.Goals as goal
@@ -11,7 +11,7 @@ pub returns-clause-keeps : goal.returns-clause-keeps
 returns-clause-keeps c = λ a keeps.
     let whole = ap (λ (k : KeptArguments). k.arguments.whole) c.self.view_is ∙ ap (λ (b : Arguments). b.whole) keeps.same in
     rw (c.as_slice.ensures.value, c.as_slice-2.ensures.value)
-    (sym (reverse-reverse (texts_ending c.self.inside.bytes.items 0 c.self.inside.ends.items))
+    (sym (reverse-reverse (parts_ending c.self.inside.bytes.items 0 c.self.inside.ends.items))
     ∙ ap (λ (texts : List (List ℕ)). reverse texts) whole
     ∙ reverse-reverse (kept (reverse a.whole)))
 

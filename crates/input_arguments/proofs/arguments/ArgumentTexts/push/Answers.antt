@@ -1,7 +1,7 @@
 use Rattle.std.proofs.Common.{◌<◌, ◌∷◌, [], length, vec_len, vec_capacity, ◌∙◌, ap, arith, length-append}
 use Rattle.input_arguments.specs.ArgumentTexts.Kept.{KeptArguments}
 use Rattle.input_arguments.proofs.ArgumentBlock.{held-kept_in, kept_in-byte, AllKept-append_block}
-use Rattle.input_arguments.proofs.Ends.{EndWithin-more}
+use Rattle.input_arguments.proofs.Ends.{EndInOrder-more}
 use Rattle.input_arguments.proofs.arguments.ArgumentTexts.push.Goals as goal
 
 pub unwrap-requires : goal.unwrap-requires
@@ -23,7 +23,7 @@ invariant_of-self c =
       bytes_reserved = omega (arith, c.push.ensures.capacity);
       ends_reserved = c.self.invariant.ends_reserved;
       within = omega (arith, requires, held-kept_in old.bytes.items old.ends.items old.place c.self.invariant.ends);
-      ends = EndWithin-more (length old.bytes.items) _ 0 old.ends.items (omega arith) c.self.invariant.ends;
+      ends = EndInOrder-more (length old.bytes.items) _ 0 old.ends.items (omega arith) c.self.invariant.ends;
       kept = (AllKept-append_block old.bytes.items (c.args.byte ∷ []) _ old.ends.items items c.self.invariant.ends c.self.invariant.kept);
     }
 

@@ -5,7 +5,7 @@ use Rattle.input_model.specs.Arguments.{total_length}
 use Rattle.input_arguments.specs.ArgumentList.{listed}
 use Rattle.input_arguments.specs.declared.calls.CallStart.{CallStart}
 use Rattle.input_arguments.proofs.CallStack.{length-calls_in, live_bytes-calls_in, few_ends, AreStacked-none, AreStacked-push}
-use Rattle.input_arguments.proofs.Ends.{length-texts_ending}
+use Rattle.input_arguments.proofs.Ends.{length-parts_ending}
 use Rattle.input_arguments.proofs.calls.Calls.push.Goals as goal
 
 pub push_reserved-requires : goal.push_reserved-requires
@@ -32,7 +32,7 @@ unwrap-requires-2 c =
     let held = live_bytes-calls_in (reverse old.starts.items) old.bytes.items old.ends.items c.self.invariant.stacked in
     let few = few_ends (reverse old.starts.items) old.bytes.items old.ends.items c.self.invariant.stacked in
     let more : length c.ends.result.now ≡ length (listed new) =
-    ap length c.ends.ensures ∙ sym (length-texts_ending new.bytes.now 0 new.ends.now) in
+    ap length c.ends.ensures ∙ sym (length-parts_ending new.bytes.now 0 new.ends.now) in
     c.extend_from_slice-2.ensures.succeeds (omega (
       arith,
       free,
@@ -84,7 +84,7 @@ invariant_of-self-2 c =
     let fits = rw (← c.self.view_is) at c.requires.bytes in
     let calls = length-calls_in (reverse old.starts.items) old.bytes.items old.ends.items in
     let held = live_bytes-calls_in (reverse old.starts.items) old.bytes.items old.ends.items c.self.invariant.stacked in
-    let texts = length-texts_ending new.bytes.now 0 new.ends.now in
+    let texts = length-parts_ending new.bytes.now 0 new.ends.now in
     let front : reverse c.push_reserved.new.self.items ≡ start ∷ reverse old.starts.items =
     rw (c.push_reserved.ensures.items, reverse-append) refl in
     let bytes : c.extend_from_slice.new.self.items ≡ old.bytes.items ++ c.block.result.now =

@@ -1,6 +1,6 @@
 use Rattle.std.proofs.Common.{ap, sym, ◌∙◌, rules, w32, FitsSigned}
 use Rattle.std.proofs.lemmas.Int.{to_z-of_z}
-use Rattle.run_model.specs.Requests.Numbering.{number}
+use Rattle.roff_num.specs.Ranges.{number}
 use Rattle.run_model.specs.Requests.Paging.{ejected_by, ejected_to}
 use Rattle.read_requests.proofs.requests.paging.ejected_by.Goals as goal
 

@@ -12,7 +12,7 @@ use Rattle.tbl_format.proofs.Elements.{each-at}
 use Rattle.tbl_format.proofs.Parts.{length-slice_range}
 use Rattle.tbl_kept.specs.Rows.{Command as CommandKept, ElementLaid, Rule as RuleKept}
 use Rattle.tbl_pieces.proofs.Adding.{adds-fewer, adds-more}
-use Rattle.tbl_giving.specs.LinesWalked.{IsRow}
+use Rattle.tbl_picture.specs.RulesWalked.{IsRowFirst}
 use Rattle.tbl_giving.proofs.LineStepsMade.{command-step}
 use Rattle.tbl_giving.proofs.StepsOffLines.{element-at, rule-step}
 use Rattle.tbl_giving.proofs.line_by_line.LineByLine.step_at_element.Goals as goal
@@ -50,8 +50,8 @@ begin_rule-requires-clause-sign c =
 pub step_at_row-requires-clause-row : goal.step_at_row-requires-clause-row
 step_at_row-requires-clause-row c =
     let rows = c.args.rows.now in
-    subst (λ (k : KeptLineByLine). IsRow (drop k.element rows.elements)) c.self.view_is
-    (subst (λ (es : List KeptElement). IsRow es) (sym c.in-Row.ensures) tt)
+    subst (λ (k : KeptLineByLine). IsRowFirst (drop k.element rows.elements)) c.self.view_is
+    (subst (λ (es : List KeptElement). IsRowFirst es) (sym c.in-Row.ensures) tt)
 
 pub returns-in-Rule : goal.returns-in-Rule
 returns-in-Rule c = record {

@@ -8,7 +8,8 @@ use Rattle.tbl_layout.specs.Spans.{cells_of}
 use Rattle.tbl_lines.specs.LinesLeft.{bars_there, between, row_shown, shown}
 use Rattle.tbl_lines.specs.PictureLines.{Cell}
 use Rattle.tbl_line_cells.specs.LaidCells.{on_line}
-use Rattle.tbl_line_cells.specs.LinesDrawn.{RunInOrder, kept_line, keys_of}
+use Rattle.tbl_line_cells.specs.LinesDrawn.{RunInOrder, kept_line}
+use Rattle.tbl_line_cells.specs.LinesDrawn.{keys_in}
 use Rattle.tbl_line_cells.specs.declared.line_cells.LineCells.{LineCells}
 use Rattle.tbl_line_cells.proofs.CellsInColumns.{few-cells, no_cell}
 use Rattle.tbl_line_cells.proofs.RowDrawn.{row-fronts-are, row-shown-is}
@@ -53,7 +54,7 @@ returns-clause-so_far c = λ bytes bars lefts boxing_is all_left so_far.
     let columns = c.args.columns.now in
     let boxing = c.args.boxing in
     let width = c.args.width in
-    let all = cells_of (keys_of cells) columns in
+    let all = cells_of (keys_in cells) columns in
     let n = length cells - 1 in
     let left = c.edge_bars-left.result in
     let right = c.edge_bars-right.result in

@@ -2,7 +2,8 @@ use Rattle.std.proofs.Common.{rules, ◌≡◌, ℕ, suc, ◌+◌, ◌-◌, ◌<
 use Rattle.tbl_layout.specs.Spans.{cells_of}
 use Rattle.tbl_layout.specs.declared.columns.Column.{Column}
 use Rattle.tbl_lines.specs.LinesLeft.{between, row_shown}
-use Rattle.tbl_line_cells.specs.LinesDrawn.{SoFar, kept_line, keys_of}
+use Rattle.tbl_line_cells.specs.LinesDrawn.{SoFar, kept_line}
+use Rattle.tbl_line_cells.specs.LinesDrawn.{keys_in}
 use Rattle.tbl_line_cells.proofs.CellsInColumns.{few-cells, first-column, next-column, no_cell}
 use Rattle.tbl_line_cells.proofs.RowLaid.{many-left, row-all, row-next, two-at}
 use Rattle.tbl_line_cells.proofs.line_cells.LineCells.lay_cells.Goals as goal
@@ -50,7 +51,7 @@ loop-at-preserved c =
     let at = c.loop-at.at in
     let cells = c.args.cells.now in
     let columns = c.args.columns.now in
-    let all = cells_of (keys_of cells) columns in
+    let all = cells_of (keys_in cells) columns in
     let going = c.loop-at.invariant in
     let few : at + 1 < length cells = omega (arith, c.loop-at-test.true) in
     let one : at + 1 ≡ suc at = omega arith in
@@ -83,7 +84,7 @@ pub returns-clause-so_far : goal.returns-clause-so_far
 returns-clause-so_far c = λ bytes lefts fronts left so_far.
     let cells = c.args.cells.now in
     let n = length cells - 1 in
-    let all = cells_of (keys_of cells) c.args.columns.now in
+    let all = cells_of (keys_in cells) c.args.columns.now in
     let at : c.loop-at.at ≡ n = omega (arith, c.loop-at-test.false, c.loop-at.invariant.count, c.loop-at.auto.at-end) in
     row-all c.args.boxing bytes (kept_line c.loop-at.self) fronts lefts all n (omega (arith, many-left bytes cells lefts left))
     (subst (λ (i : ℕ). SoFar bytes (kept_line c.loop-at.self) (take i (row_shown c.args.boxing lefts all))

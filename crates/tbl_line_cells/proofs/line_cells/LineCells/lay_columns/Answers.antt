@@ -5,7 +5,8 @@ use Rattle.tbl_lines.specs.LinesLeft.{over_at, over_shown, overs}
 use Rattle.tbl_lines.specs.PictureLines.{Sheet}
 use Rattle.tbl_lines.specs.declared.fronts.Front.{Front}
 use Rattle.tbl_line_cells.specs.declared.laid_cells.LaidCell.{LaidCell}
-use Rattle.tbl_line_cells.specs.LinesDrawn.{SoFar, keys_of, kept_line}
+use Rattle.tbl_line_cells.specs.LinesDrawn.{SoFar, kept_line}
+use Rattle.tbl_line_cells.specs.LinesDrawn.{keys_in}
 use Rattle.tbl_line_cells.specs.RulesDrawn.{LaidTo, RuleGiven, end_at}
 use Rattle.tbl_line_cells.specs.declared.line_cells.LineCells.{LineCells}
 use Rattle.tbl_line_cells.proofs.CellsOver.{first-column}
@@ -75,7 +76,7 @@ loop-at-init c =
       few = omega (arith, ap (λ (cells : List LaidCell). length cells) r.none);
       few_fronts = omega (arith, r.one);
       most_fronts = omega (arith, r.one, r.some);
-      column = λ more. first-column (length columns) (keys_of a.cells.now) r.cover r.some;
+      column = λ more. first-column (length columns) (keys_in a.cells.now) r.cover r.some;
       laid = λ bytes lefts bars width line above below edge given so_far.
           laid-none bytes (record { bars = bars; width = width; columns = columns }) lefts line above below edge a.from a.to (kept_line a.self.now)
           so_far;

@@ -4,7 +4,8 @@ use Rattle.tbl_layout.specs.declared.bars.Bars.{Bars}
 use Rattle.tbl_lines.specs.CellsLeft.{Left}
 use Rattle.tbl_lines.specs.LinesLeft.{Beside}
 use Rattle.tbl_lines.specs.PictureLines.{Cell, RuleLine}
-use Rattle.tbl_line_cells.specs.LinesDrawn.{SoFar, kept_line, keys_of}
+use Rattle.tbl_line_cells.specs.LinesDrawn.{SoFar, kept_line}
+use Rattle.tbl_line_cells.specs.LinesDrawn.{keys_in}
 use Rattle.tbl_line_cells.specs.RulesDrawn.{HasColumn, LaidTo, RuleGiven}
 use Rattle.tbl_line_cells.proofs.line_cells.LineCells.lay_columns.Given as goal
 
@@ -15,7 +16,7 @@ invariant-loop-at l = record {
   few : length l.self.cells.items ≤ l.at;
   few_fronts : length l.self.fronts.items ≤ suc l.at;
   most_fronts : length l.self.fronts.items ≤ length l.columns;
-  column : l.at < length l.columns → HasColumn (keys_of l.cells) l.cell l.at;
+  column : l.at < length l.columns → HasColumn (keys_in l.cells) l.cell l.at;
   laid : (bytes : List ℕ) (lefts : List Left) (bars : Bars) (width : ℕ) (line : RuleLine) (above below : Beside) (edge : Cell)
       → RuleGiven bytes l.cells l.fn.self.signs.items l.counts l.columns lefts bars line above below
       → SoFar bytes (kept_line l.fn.self) [] (edge ∷ [])

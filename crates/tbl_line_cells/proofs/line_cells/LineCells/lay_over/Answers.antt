@@ -4,7 +4,8 @@ use Rattle.tbl_layout.specs.Spans.{as_one}
 use Rattle.tbl_layout.specs.declared.columns.Column.{Column}
 use Rattle.tbl_layout.specs.declared.data_lines.RuleSign.{RuleSign}
 use Rattle.tbl_lines.specs.LinesLeft.{Shown, if_drawn, shown}
-use Rattle.tbl_line_cells.specs.LinesDrawn.{SoFar, keys_of, kept_line}
+use Rattle.tbl_line_cells.specs.LinesDrawn.{SoFar, kept_line}
+use Rattle.tbl_line_cells.specs.LinesDrawn.{keys_in}
 use Rattle.tbl_line_cells.specs.RulesDrawn.{begin_from}
 use Rattle.tbl_line_cells.proofs.CellsOver.{begins-most, less-by, over-cell}
 use Rattle.tbl_line_cells.proofs.FrontsOf.{no_cell}
@@ -13,7 +14,7 @@ use Rattle.tbl_line_cells.proofs.line_cells.LineCells.lay_over.Goals as goal
 
 pub as_one-column-requires-clause-within : goal.as_one-column-requires-clause-within
 as_one-column-requires-clause-within c =
-    let keys = keys_of c.args.cells.now in
+    let keys = keys_in c.args.cells.now in
     omega (
       arith,
       c.begin_of-then-at-begin_of.ensures,
@@ -38,7 +39,7 @@ returns-then-at-begin_of-clause-so_far c = λ bytes counts lefts bars line above
     let a = c.args in
     let cells = a.cells.now in
     let columns = a.columns.now in
-    let keys = keys_of cells in
+    let keys = keys_in cells in
     let on : nat_lt 0 (get_or cells a.cell no_cell).rows ≡ true = search rules in
     let met = over-cell bytes cells lefts columns a.cell a.at no_cell given.left c.requires.cover c.requires.column in
     let begins : a.at ≡ begin_from 0 a.cell keys = c.if-at-begin_of.true ∙ c.begin_of.ensures in
@@ -62,7 +63,7 @@ returns-else-at-begin_of-clause-so_far c = λ bytes counts lefts bars line above
     let a = c.args in
     let cells = a.cells.now in
     let columns = a.columns.now in
-    let keys = keys_of cells in
+    let keys = keys_in cells in
     let on : nat_lt 0 (get_or cells a.cell no_cell).rows ≡ true = search rules in
     let met = over-cell bytes cells lefts columns a.cell a.at no_cell given.left c.requires.cover c.requires.column in
     let more = less-by (begin_from 0 a.cell keys) a.at c.requires.column.from (λ is. c.if-at-begin_of.false (sym is ∙ sym c.begin_of.ensures)) in

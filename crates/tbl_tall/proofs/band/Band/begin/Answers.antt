@@ -2,7 +2,8 @@ use Rattle.std.proofs.Common.{List, sym, subst}
 use Rattle.tbl_format.specs.Format.{columns_of}
 use Rattle.tbl_lines.specs.CellsLeft.{Left}
 use Rattle.tbl_lines.specs.LinesLeft.{OfRow}
-use Rattle.tbl_tall.specs.Bands.{ShowBars, keys_in}
+use Rattle.tbl_tall.specs.Bands.{ShowBars}
+use Rattle.tbl_line_cells.specs.LinesDrawn.{keys_in}
 use Rattle.tbl_line_cells.proofs.FirstLines.{each-behind}
 use Rattle.tbl_tall.proofs.band.Band.begin.Goals as goal
 

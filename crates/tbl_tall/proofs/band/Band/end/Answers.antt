@@ -1,7 +1,8 @@
 use Rattle.std.proofs.Common.{List, ℕ, length, sym, ap, subst, arith, Option}
 use Rattle.tbl_format.proofs.CellColumns.{columns_of-behind}
 use Rattle.tbl_lines.specs.LinesLeft.{overs}
-use Rattle.tbl_tall.specs.Bands.{GoThrough, keys_in}
+use Rattle.tbl_tall.specs.Bands.{GoThrough}
+use Rattle.tbl_line_cells.specs.LinesDrawn.{keys_in}
 use Rattle.tbl_tall.proofs.CellsThrough.{length-owners, through-kept}
 use Rattle.tbl_tall.proofs.band.Band.end.Goals as goal
 

@@ -7,7 +7,8 @@ use Rattle.tbl_tall.proofs.CellsCover.{covers}
 use Rattle.tbl_tall.proofs.KeysCover.{cover-all, left-has}
 use Rattle.tbl_tall.proofs.RuleGivens.{given-keys, given-whole, next-line, rule-given}
 use Rattle.tbl_tall.proofs.tall_row.TallRow.lay_rule.Goals as goal
-use Rattle.tbl_tall.specs.Bands.{BandStands, GoThrough, KeptBand, band_line, kept_band, keys_in, line_given, lines_behind}
+use Rattle.tbl_tall.specs.Bands.{BandStands, GoThrough, KeptBand, band_line, kept_band, line_given, lines_behind}
+use Rattle.tbl_line_cells.specs.LinesDrawn.{keys_in}
 use Rattle.tbl_line_cells.specs.RulesDrawn.{RuleGiven}
 use Rattle.tbl_tall.specs.TallRows.{below_rule, kept_by, next_format, row_below}
 use Rattle.tbl_line_cells.specs.declared.cells.CellLeft.{CellLeft}

@@ -8,7 +8,8 @@ use Rattle.tbl_options.specs.declared.options.Boxing.{Boxing}
 use Rattle.tbl_tall.proofs.KeysCover.{cover-all, cover-some, fewer-room, left-has}
 use Rattle.tbl_tall.proofs.RowsGoOn.{line-passed, row-ended}
 use Rattle.tbl_tall.proofs.tall_row.TallRow.pass_line.Goals as goal
-use Rattle.tbl_tall.specs.Bands.{ShowBars, kept_band, keys_in}
+use Rattle.tbl_tall.specs.Bands.{ShowBars, kept_band}
+use Rattle.tbl_line_cells.specs.LinesDrawn.{keys_in}
 use Rattle.tbl_line_cells.specs.KeptCells.{AllLeft}
 use Rattle.tbl_line_cells.specs.LinesDrawn.{kept_line}
 use Rattle.tbl_tall.specs.TallRows.{KeptTall, kept_by}
