@@ -4,7 +4,7 @@ use Rattle.std.specs.List.{AllByRecursion}
 use Rattle.std.proofs.Math.Seq.{take-suc}
 use Rattle.input_model.specs.Arguments.{AreFewer, Arguments, HeldFewer, bytes_held, held, only_kept, with_argument_byte}
 use Rattle.input_source.specs.Bytes.{is_argument_byte}
-use Rattle.input_arguments.specs.ArgumentTexts.Kept.{KeptArguments, TakesFront, keeping}
+use Rattle.input_arguments.specs.ArgumentTexts.Kept.{KeptArguments, HoldsFront, keeping}
 use Rattle.input_model.specs.Arguments.{is_held}
 use Rattle.input_model.proofs.KeptArguments.{held-only_kept, held-with_argument_byte}
 
@@ -35,7 +35,7 @@ fewer-last most [] b a fewer last = (last, tt)
 fewer-last most (c ∷ bytes) b a fewer last = (fewer.0, fewer-last most bytes b (only_kept (with_argument_byte a c)) fewer.1 last)
 
 -- there is room for one more, where there was for all
-pub room-more : (most : Option ℕ) (bytes : List ℕ) (count : ℕ) (old now : KeptArguments) (b : ℕ) → TakesFront most bytes count old now → count < length bytes
+pub room-more : (most : Option ℕ) (bytes : List ℕ) (count : ℕ) (old now : KeptArguments) (b : ℕ) → HoldsFront most bytes count old now → count < length bytes
     → held old.arguments + length bytes ≤ old.room → length (take count bytes) ≡ count → held (with_argument_byte now.arguments b) ≤ now.room
 room-more most bytes count old now b takes inside room counted =
     let few : held now.arguments ≤ held old.arguments + length (take count bytes) =
@@ -44,9 +44,9 @@ room-more most bytes count old now b takes inside room counted =
     omega (arith, few, same, room, inside, counted, held-with_argument_byte now.arguments b, one_at_most (is_held now.arguments.place b))
 
 -- one more was taken
-pub TakesFront-more : (most : Option ℕ) (bytes : List ℕ) (count : ℕ) (old now new : KeptArguments) → TakesFront most bytes count old now → count < length bytes
+pub TakesFront-more : (most : Option ℕ) (bytes : List ℕ) (count : ℕ) (old now new : KeptArguments) → HoldsFront most bytes count old now → count < length bytes
     → is_argument_byte (get_or bytes count 0) ≡ true → AreFewer most now.arguments → new ≡ keeping now (with_argument_byte now.arguments (get_or bytes count 0))
-    → TakesFront most bytes (count + 1) old new
+    → HoldsFront most bytes (count + 1) old new
 TakesFront-more most bytes count old now new takes inside is are_fewer taken =
     let b : ℕ = get_or bytes count 0 in
     let front : List ℕ = take count bytes in

@@ -56,7 +56,7 @@ impl Model for ArgumentTexts {
 
 impl ArgumentTexts {
     ghost use Rattle.input_arguments.specs.ArgumentTexts.Kept.{KeptArguments, keeping, Keeps};
-    ghost use Rattle.input_arguments.specs.ArgumentTexts.Kept.{StopsAt, TakesFront};
+    ghost use Rattle.input_arguments.specs.ArgumentTexts.Kept.{StopsAt, HoldsFront};
     ghost use Rattle.input_arguments.specs.ArgumentList.{listed};
 
     /// No argument, with room for so many bytes.
@@ -121,7 +121,7 @@ impl ArgumentTexts {
     #[inline(always)]
     pub fn take_front(&mut self, bytes: &[u8], most: Option<usize>) -> usize
         requires { held self.old.arguments + length bytes.now ≤ self.old.room }
-        ensures takes { TakesFront most bytes.now result self.old self.new }
+        ensures takes { HoldsFront most bytes.now result self.old self.new }
         ensures stops { StopsAt most bytes.now result self.new.arguments }
     {
         let mut count = 0;

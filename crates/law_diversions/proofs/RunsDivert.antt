@@ -21,7 +21,7 @@ use Rattle.run_model.specs.Events.Lines.{closing_events}
 use Rattle.run_model.specs.Following.{following, text_changed}
 use Rattle.run_model.specs.Layouts.{layout_of}
 use Rattle.run_model.specs.PageEvents.{PageEvent, PastEvent}
-use Rattle.run_model.specs.Reading.{escape_ended, taking}
+use Rattle.run_model.specs.Reading.{escape_ended, byte_taking}
 use Rattle.run_model.specs.Reading.Calls.{called_last, last_called}
 use Rattle.run_model.specs.Reading.Ends.{end_taking, is_unfinished}
 use Rattle.run_model.specs.Reading.Items.{PageInput, Taking}
@@ -282,12 +282,12 @@ Diverts-ahead_taken : (item : Ahead PageEvent) (behind : List (Ahead PageEvent))
     → Diverts (ahead_taken item (record s { input = item_taken item behind s.input }))
 Diverts-ahead_taken (ByteAhead b) behind s ahead idle none above =
     let taken : State = record s { input = item_taken (ByteAhead b) behind s.input } in
-    Diverts-taken (taking (known taken) s.reading taken.input b) taken idle none
+    Diverts-taken (byte_taking (known taken) s.reading taken.input b) taken idle none
     (Moves-taking _ (known taken) s.reading taken.input b above)
     (Means-taking (known taken) s.reading taken.input b).1 ahead
 Diverts-ahead_taken (FreeAhead b) behind s ahead idle none above =
     let taken : State = record s { input = item_taken (FreeAhead b) behind s.input } in
-    Diverts-taken (taking (known taken) s.reading taken.input b) taken idle none
+    Diverts-taken (byte_taking (known taken) s.reading taken.input b) taken idle none
     (Moves-taking _ (known taken) s.reading taken.input b above)
     (Means-taking (known taken) s.reading taken.input b).1 ahead
 Diverts-ahead_taken EndAhead behind s ahead idle none above =
@@ -364,7 +364,7 @@ Diverts-read l s t (AheadTaken item behind is charge is_made) idle none above ah
     inr (Diverts-ahead_taken item behind s (subst AreMildAhead is ahead) idle none above)
 Diverts-read l s t (ByteTaken b empty is_open gives charge is_made) idle none above ahead =
     let taken : State = moved (record s { input = counting b s.input }) in
-    inr (Diverts-taken (taking (known taken) s.reading taken.input b) taken idle none
+    inr (Diverts-taken (byte_taking (known taken) s.reading taken.input b) taken idle none
     (Moves-taking _ (known taken) s.reading taken.input b above)
     (Means-taking (known taken) s.reading taken.input b).1 ahead)
 Diverts-read l s t (NoteTaken message is_open gives) idle none above ahead =

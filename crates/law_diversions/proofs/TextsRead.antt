@@ -16,7 +16,7 @@ use Rattle.input_model.specs.Input.{beginning_line}
 use Rattle.input_model.specs.Input.Calls.{arguments_given, last_result, without_last}
 use Rattle.input_escapes.specs.OpenEscape.{unit_bytes}
 use Rattle.run_model.specs.Definitions.{end_mark, front_of, line_from}
-use Rattle.run_model.specs.Reading.{undropped_taking, taking, escape_ended, title_read}
+use Rattle.run_model.specs.Reading.{undropped_taking, byte_taking, escape_ended, title_read}
 use Rattle.run_model.specs.Reading.Branches.{reads_else}
 use Rattle.run_model.specs.Reading.ControlLines.{called_taking, ends_name, line_taking, name_ended_taking, behind_called, behind_name}
 use Rattle.run_model.specs.Reading.DefinedLines.{behind_definition, definition_found, definition_line, definition_unit}
@@ -216,7 +216,7 @@ Moves-undropped_taking below k (Deciding keeps) i b above = Moves-read below k (
 -- a byte
 pub Moves-taking : (below : List (List ℕ)) (k : Known) (reading : LineState) (i : PageInput) (b : ℕ)
     → IsAbove below (is_making reading) i.open_texts
-    → Moves below (taking k reading i b)
+    → Moves below (byte_taking k reading i b)
 Moves-taking below k reading i b above =
     Moves-if below (is_dropped b) _ _ (above, inl tt) (Moves-undropped_taking below k reading i b above)
 

@@ -25,7 +25,7 @@ use Rattle.run_model.proofs.ItemsTaken.{Origin, ahead_at, tape_at}
 use Rattle.run_model.proofs.PlainRuns.{Here, Most, Path, behind_byte, behind_bytes, counted, counted-last, run_at}
 use Rattle.run_model.specs.Definitions.{end_mark, ends_mark, front_of, line_from, line_with}
 use Rattle.run_model.specs.Output.{PageHistory}
-use Rattle.run_model.specs.Reading.{taking}
+use Rattle.run_model.specs.Reading.{byte_taking}
 use Rattle.run_model.specs.Reading.DefinedLines.{behind_definition, definition_unit}
 use Rattle.run_model.specs.Reading.Items.{PageInput, Taking}
 use Rattle.run_model.specs.Registers.{AllRegisters, Known}
@@ -124,7 +124,7 @@ line_from-end mark b ends =
 
 ends-line : (names : Named Entry) (d : Definition) (a : Arguments) (text : List ℕ) (b : ℕ) (k : Known) (i : PageInput) → MayFollow b
     → let n : ℕ = length (end_mark d.end) in
-    taking k (Collecting (Defining d.name d.appends d.end (Some n))) (input_at names (defining d a text (Some n)) i) b
+    byte_taking k (Collecting (Defining d.name d.appends d.end (Some n))) (input_at names (defining d a text (Some n)) i) b
     ≡ behind_definition k (entered_by d.name d.appends text d.before (record i { escapes = []; arguments = a; names = names; open_texts = d.others })) d.end b
 ends-line names d a text b k i follows =
     let n : ℕ = length (end_mark d.end) in

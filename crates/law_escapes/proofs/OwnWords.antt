@@ -5,10 +5,10 @@ use Rattle.std.proofs.lemmas.Bool.{cond_both}
 use Rattle.std.proofs.lemmas.List.{reverse-reverse}
 use Rattle.page_model.specs.Behind.{finished_by_tab}
 use Rattle.page_model.specs.Events.{History, settings_after, stops_after}
-use Rattle.page_model.specs.Fields.{Field, Told, field_told, gap_ended, motion, plain, so_far, tab_reached, tab_told, told, told_behind, with_gap, with_glyph, without_gap}
+use Rattle.page_model.specs.Fields.{Field, Told, field_told, gap_ended, motion, plain, so_far, tab_reached, tab_told, told_plainly, told_behind, with_gap, with_glyph, without_gap}
 use Rattle.page_model.specs.Fitting.{Word}
 use Rattle.page_model.specs.Happenings.{Happening, Places}
-use Rattle.page_model.specs.Lines.{finished}
+use Rattle.page_model.specs.Lines.{finished_in}
 use Rattle.page_model.specs.Settings.{fills}
 use Rattle.page_model.specs.Places.{input_place, tab_width}
 use Rattle.page_model.specs.TabStops.{Way, way_to_next}
@@ -171,10 +171,10 @@ own-same h none = same-words (plain h) none
 
 -- an event more is
 pub own-event : (before h : History) (e : Event) → Adds before h → Adds before (e ∷ h)
-own-event before h e own = own-told before e (told h).events (told h).field own
+own-event before h e own = own-told before e (told_plainly h).events (told_plainly h).field own
 
 -- behind a tab that finishes a line: the word in front of a field's gap has ended
-reached-own : (none : Bool) (n : ℕ) (moved : History) (x : Happening) → option_map Places (if none then None else finished moved WordEnd) ≡ Some x
+reached-own : (none : Bool) (n : ℕ) (moved : History) (x : Happening) → option_map Places (if none then None else finished_in moved WordEnd) ≡ Some x
     → let reached : History = if none then moved else Gap n ∷ WordEnd ∷ moved in
     AddsWords reached (so_far (tab_told (way_to_next (stops_after reached) (input_place reached)) reached))
 reached-own true n moved x places = absurd (cc)
@@ -188,8 +188,8 @@ tab-told : (h : History) (field : Option Field) (x : Happening)
 tab-told h None x places = absurd (cc)
 tab-told h (Some f) x places = reached-own (f.gap == 0) f.gap (field_told (motion f) (without_gap f) h) x places
 
-pub tab-own : (h : History) (x : Happening) → option_map Places (finished_by_tab (told h)) ≡ Some x → Adds (tab_reached (told h)) (Tab ∷ h)
-tab-own h x places = tab-told (told h).events (told h).field x places
+pub tab-own : (h : History) (x : Happening) → option_map Places (finished_by_tab (told_plainly h)) ≡ Some x → Adds (tab_reached (told_plainly h)) (Tab ∷ h)
+tab-own h x places = tab-told (told_plainly h).events (told_plainly h).field x places
 
 -- the words since the last break are the newest that have ended: by whether a word ends, or a line's end is a break
 newest-word : (is_open : Bool) (w : Word) (ws all : List Word) → AreNewest ws all

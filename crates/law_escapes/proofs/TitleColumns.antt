@@ -14,7 +14,7 @@ use Rattle.page_model.specs.Words.{is_empty}
 use Rattle.roff_num.specs.Widths.{byte_width}
 use Rattle.page_model.specs.Titles.{page_mark, part_at, part_text, parts_placed}
 use Rattle.input_source.specs.Bytes.{blank}
-use Rattle.law_escapes.specs.TitleLaws.{HasBytesAt, IsBlank, PartsStand, TitleOnLine, is_printable, middle_column, right_column, with_number}
+use Rattle.law_escapes.specs.TitleLaws.{HasBytesAt, IsBlank, PartsStand, TitleOnLine, is_printable, middle_column, right_title_column, with_number}
 use Rattle.run_model.specs.Reading.Titles.{is_page_character}
 
 -- a printable byte is neither below the blank nor above the tilde
@@ -103,7 +103,7 @@ at_columns middle_at right_at left middle right =
 
 -- so a title's text is, where each byte is a column
 placed-columns : (columns : ℕ) (t : TitleOnLine) → ArePrintable t.left → ArePrintable t.middle → ArePrintable t.right
-    → parts_placed columns t.left t.middle t.right ≡ at_columns (middle_column columns t) (right_column columns t) t.left t.middle t.right
+    → parts_placed columns t.left t.middle t.right ≡ at_columns (middle_column columns t) (right_title_column columns t) t.left t.middle t.right
 placed-columns columns t left_is middle_is right_is =
     let of : ℕ → ℕ → ℕ → (List ℕ → ℕ) → List ℕ = λ wl wm wr width.
     let middle_at : ℕ = centre_column columns wm wl in
@@ -113,7 +113,7 @@ placed-columns columns t left_is middle_is right_is =
     ap (λ (w : ℕ). of w (text_width t.middle) (text_width t.right) text_width) (width-printed t.left left_is)
     ∙ ap (λ (w : ℕ). of (length t.left) w (text_width t.right) text_width) (width-printed t.middle middle_is)
     ∙ ap (λ (w : ℕ). of (length t.left) (length t.middle) w text_width) (width-printed t.right right_is)
-    ∙ ap (λ (w : ℕ). shown ++ part_at (right_column columns t) w t.right)
+    ∙ ap (λ (w : ℕ). shown ++ part_at (right_title_column columns t) w t.right)
     (width-printed shown
     (All-append (λ b. is_printable b ≡ true) t.left (part_at (middle_column columns t) (length t.left) t.middle) left_is
     (printable-part (middle_column columns t) (length t.left) t.middle middle_is)))
@@ -258,7 +258,7 @@ pub stands-placed : (columns : ℕ) (t : TitleOnLine) → ArePrintable t.left �
     → PartsStand columns t (parts_placed columns t.left t.middle t.right)
 stands-placed columns t left_is middle_is right_is =
     let middle_at : ℕ = middle_column columns t in
-    let right_at : ℕ = right_column columns t in
+    let right_at : ℕ = right_title_column columns t in
     let text : List ℕ = at_columns middle_at right_at t.left t.middle t.right in
     let s : Stand middle_at right_at t.left t.middle t.right text =
     stand middle_at right_at t.left t.middle t.right (le-max_right ((columns - length t.middle) / 2) (length t.left))

@@ -13,7 +13,7 @@ use Rattle.page_model.specs.Titles.{page_mark}
 use Rattle.input_source.specs.Bytes.{backslash, blank, is_dropped, is_silent, newline, tab}
 use Rattle.law_escapes.proofs.TitleColumns.{byte_kept, not-byte, printable-bounds}
 use Rattle.law_escapes.specs.TitleLaws.{IsDelimiter, IsPartByte, IsTitle, TitleOnLine, closing, is_printable, title_bytes}
-use Rattle.run_model.specs.Reading.{taking, title_read, undropped_taking}
+use Rattle.run_model.specs.Reading.{byte_taking, title_read, undropped_taking}
 use Rattle.run_model.specs.Reading.Ends.{due}
 use Rattle.run_model.specs.Reading.Found.{read_in}
 use Rattle.run_model.specs.Reading.Items.{PageInput, Taking, going_on}
@@ -54,7 +54,7 @@ pub record TitleTurns (page : Option ℕ) (p q : TitleStage) (b : ℕ) : Type 0 
   pub changed : (rs : AllRegisters) → changed_by_all changes (titled p.title rs) ≡ titled q.title rs
   pub takes :
       (k : Known) (i : PageInput) → k.registers.page_character ≡ page → k.registers.title ≡ p.title
-      → taking k p.reading (whole i) b ≡ changing_taking (whole i) q.reading changes
+      → byte_taking k p.reading (whole i) b ≡ changing_taking (whole i) q.reading changes
 
 -- bytes lead from one stage to another, and on the way the title has so many bytes at the most
 pub data TitlePath (page : Option ℕ) (most : ℕ) : TitleStage → List ℕ → TitleStage → Type 0 where
@@ -140,7 +140,7 @@ turns-part page t d b is = record {
 
 -- the delimiter behind a part
 taking-delimiter : (k : Known) (i : PageInput) (t : TitleText) (d : ℕ) → IsDelimiter d → k.registers.title ≡ t
-    → taking k (InTitle d) (whole i) d ≡ behind_part (whole i) d t.part
+    → byte_taking k (InTitle d) (whole i) d ≡ behind_part (whole i) d t.part
 taking-delimiter k i t d is same_title =
     ap (λ (c : Bool). if c then going_on (whole i) (InTitle d) else undropped_taking k (InTitle d) (whole i) d) (printable-undropped d is.prints)
     ∙ ap (title_read k (whole i) d d) (eq-eqb d d refl)

@@ -7,8 +7,8 @@ use Rattle.roff_num.specs.declared.limits.Limits.{Limits}
 use Rattle.page_model.specs.DueTexts.{TextDue}
 use Rattle.page_model.specs.Behind.{has_open_word as has_word_to_end}
 use Rattle.page_model.specs.Events.{History, settings_after}
-use Rattle.page_model.specs.Fields.{Field, Told, field_ended, field_told, is_in_field, motion, plain, so_far, tab_reached, told as told_of, told_behind, unfielded, with_glyph}
-use Rattle.page_model.specs.Lines.{Finished, finished}
+use Rattle.page_model.specs.Fields.{Field, Told, field_ended, field_told, is_in_field, motion, plain, so_far, tab_reached, told_plainly, told_behind, unfielded, with_glyph}
+use Rattle.page_model.specs.Lines.{Finished, finished_in}
 use Rattle.page_model.specs.Words.{begun_gap, blanks, ends_sentence, has_open_word, line_end_gap, last_word_glyphs, open_glyphs, open_word}
 use Rattle.page_model.specs.declared.event.Event.{Event}
 use Rattle.page_model.specs.declared.event.Event.TheVariants.{Print, Tab, FieldEnd, WordEnd, Gap, LineEnd, Count, Break, Interrupt as Interrupted, Resume, Set}
@@ -196,7 +196,7 @@ open-told g h (Some f) is =
     )
 
 pub open_words_go_on : OpenWordsGoOn
-open_words_go_on h g is = open-told g (told_of h).events (told_of h).field is
+open_words_go_on h g is = open-told g (told_plainly h).events (told_plainly h).field is
 
 -- where nothing comes before a gap, a line's end or a break no word is open
 none_before : (h : PageHistory) (e : PageEvent) (own : Option PageEvent)
@@ -237,7 +237,7 @@ none_at_all h no_field none = sym (ap (λ (c : Bool). not c && has_open_word (pl
 
 -- behind what ends a line no word is open, and no field
 closed-line : (h : PageHistory) (e : Event) → (let T : History = text_of h in
-    told_of T ≡ unfielded (plain T) → has_open_word (plain T) ≡ false → has_open_word (plain (e ∷ T)) ≡ false)
+    told_plainly T ≡ unfielded (plain T) → has_open_word (plain T) ≡ false → has_open_word (plain (e ∷ T)) ≡ false)
     → is_in_field (text_of h) ≡ false → has_word_to_end (text_of h) ≡ false → has_open_word (plain (e ∷ text_of h)) ≡ false
 closed-line h e closes no_field none = closes (told-unfielded (text_of h) no_field) (none_at_all (text_of h) no_field none)
 
@@ -269,7 +269,7 @@ closed-word_end h None = refl
 closed-word_end h (Some f) = refl
 
 pub ends_leave_no_word_open : EndsLeaveNoWordOpen
-ends_leave_no_word_open h WordEnd ends none = closed-word_end (told_of (text_of h)).events (told_of (text_of h)).field
+ends_leave_no_word_open h WordEnd ends none = closed-word_end (told_plainly (text_of h)).events (told_plainly (text_of h)).field
 ends_leave_no_word_open h LineEnd ends none =
     let T : History = LineEnd ∷ text_of h in
     none-to_end (is_in_field T) (has_open_word (plain T)) (line_ends_leave_no_word_open h LineEnd tt none)
@@ -286,7 +286,7 @@ ends_leave_no_word_open h Resume ends none = absurd ends
 ends_leave_no_word_open h (Set p) ends none = absurd ends
 
 -- until a glyph is told
-told-closed : (h : History) → has_open_word (plain h) ≡ false → told_of h ≡ unfielded (plain h)
+told-closed : (h : History) → has_open_word (plain h) ≡ false → told_plainly h ≡ unfielded (plain h)
 told-closed h none = told-unfielded h (is_in_field-closed h none)
 
 opens-none : (h : History) (e : Event) → has_open_word (plain h) ≡ false → has_open_word (plain (e ∷ h)) ≡ true
@@ -316,12 +316,12 @@ left-open h None is = absurd (cc)
 left-open h (Some f) is = has_open_word-field (motion f) f h
 
 pub fields_leave_a_word_open : FieldsLeaveAWordOpen
-fields_leave_a_word_open h is = left-open (told_of h).events (told_of h).field is
+fields_leave_a_word_open h is = left-open (told_plainly h).events (told_plainly h).field is
 
 -- an event that finishes a line leaves none open: a word's end, or a line's end or a break with no word in front
 finishing-word : (h : History) (field : Option Field) (x : Happening)
     → let t : Told = record { events = h; field = field } in
-    option_map Places (if is_some field then None else finished (so_far t) WordEnd) ≡ Some x → has_open_word (so_far (told_behind WordEnd t)) ≡ false
+    option_map Places (if is_some field then None else finished_in (so_far t) WordEnd) ≡ Some x → has_open_word (so_far (told_behind WordEnd t)) ≡ false
 finishing-word h None x places = refl
 finishing-word h (Some f) x places = absurd (cc)
 
@@ -331,7 +331,7 @@ closed_in_force h x = has_open_word (plain (text_in (environments h).number (x �
 finishing-word_end : (h : PageHistory) (line : Finished) → happens h (Text WordEnd) ≡ Some (Places line) → closed_in_force h (Text WordEnd)
 finishing-word_end h line places =
     ap (λ (T : History). has_open_word (plain T)) (text_in-force (Text WordEnd ∷ h))
-    ∙ finishing-word (told_of (text_of h)).events (told_of (text_of h)).field (Places line) places
+    ∙ finishing-word (told_plainly (text_of h)).events (told_plainly (text_of h)).field (Places line) places
 
 finishing : (rs : AllRegisters) (h : PageHistory) (e : PageEvent) (line : Finished) → next h e ≡ None → told rs e ≢ Text Tab
     → happens h (told rs e) ≡ Some (Places line) → closed_in_force h (told rs e)
@@ -376,7 +376,7 @@ pub footers_behind_tabs : FootersBehindTabs
 footers_behind_tabs l s e rest name line n springs is places =
     let number : EnvironmentNumber = (environments s.history).number in
     let T : History = text_of s.history in
-    let before : History = tab_reached (told_of T) in
+    let before : History = tab_reached (told_plainly T) in
     let first : Adds before (Tab ∷ T) = tab-own T (Places line) (sym (ap (happens s.history) is) ∙ places) in
     let behind : Adds before (text_in number (Text Tab ∷ s.history)) = subst (Adds before) (sym (text_in-force (Text Tab ∷ s.history))) first in
     own-after number before l n (step l s)

@@ -104,15 +104,15 @@ abbrev pub middle_column : ℕ → TitleOnLine → ℕ
 middle_column columns t = max ((columns - length t.middle) / 2) (length t.left)
 
 -- the column of the right part: it ends where the title length does, or stands behind the middle part, which may go further
-abbrev pub right_column : ℕ → TitleOnLine → ℕ
-right_column columns t = max (columns - length t.right) (middle_column columns t + length t.middle)
+abbrev pub right_title_column : ℕ → TitleOnLine → ℕ
+right_title_column columns t = max (columns - length t.right) (middle_column columns t + length t.middle)
 
 -- where its text ends: behind the last part that isn't empty
 abbrev pub end_column : ℕ → TitleOnLine → ℕ
 end_column columns t =
     if is_empty t.right
     then (if is_empty t.middle then length t.left else middle_column columns t + length t.middle)
-    else right_column columns t + length t.right
+    else right_title_column columns t + length t.right
 
 -- bytes stand in a text at a column, each byte of which is one
 abbrev pub HasBytesAt : ℕ → List ℕ → List ℕ → Type 0
@@ -127,9 +127,9 @@ IsBlank from to text = All (λ b. b ≡ blank) (take (to - from) (drop from text
 pub record PartsStand (columns : ℕ) (t : TitleOnLine) (text : List ℕ) : Type 0 where
   pub left : HasBytesAt 0 t.left text
   pub middle : HasBytesAt (middle_column columns t) t.middle text
-  pub right : HasBytesAt (right_column columns t) t.right text
+  pub right : HasBytesAt (right_title_column columns t) t.right text
   pub before_middle : IsBlank (length t.left) (middle_column columns t) text
-  pub before_right : IsBlank (middle_column columns t + length t.middle) (right_column columns t) text
+  pub before_right : IsBlank (middle_column columns t + length t.middle) (right_title_column columns t) text
   pub ends : length text ≡ end_column columns t
 
 -- an event behind a history puts this text on a line, with no blank lines behind it

@@ -8,7 +8,7 @@ use Rattle.roff_num.specs.declared.short_name.ShortName.{ShortName}
 use Rattle.input_model.specs.Input.{Ahead, DoAhead}
 use Rattle.page_model.specs.Behind.{has_open_word as has_word_to_end}
 use Rattle.page_model.specs.Events.{History}
-use Rattle.page_model.specs.Fields.{is_in_field, plain, tab_reached, told}
+use Rattle.page_model.specs.Fields.{is_in_field, plain, tab_reached, told_plainly}
 use Rattle.page_model.specs.declared.event.Event.{Event}
 use Rattle.page_model.specs.declared.event.Event.TheVariants.{Print, Tab, FieldEnd, WordEnd, Gap, LineEnd, Break}
 use Rattle.page_model.specs.Fitting.{Word}
@@ -71,7 +71,7 @@ WordsStandApart = (h : History) → has_open_word (plain h) ≡ true → 0 < (op
 
 -- the blanks of a gap at the end of an open field, if one is there: the next glyph is of the same word
 abbrev pub gap_in_field : History → List Glyph
-gap_in_field h = elim (told h).field [ None ↦ [] | Some f ↦ if f.gap == 0 then [] else Blanks f.gap ∷ [] ]
+gap_in_field h = elim (told_plainly h).field [ None ↦ [] | Some f ↦ if f.gap == 0 then [] else Blanks f.gap ∷ [] ]
 
 -- A glyph that is told where a word is open is one of that word, and no other word ends: so it is behind the text of a macro that `\c`
 -- interrupted, or whose last line a backslash joins to what follows, where what sprang it was a line's end.
@@ -143,7 +143,7 @@ abbrev pub FootersBehindTabs : Type 0
 FootersBehindTabs =
     (l : Limits) (s : State) (e : PageEvent) (rest : List PageEvent) (name : ShortName) (line : Finished) (n : ℕ) → Springs l s e rest name
     → happening e s ≡ Text Tab → happens s.history (happening e s) ≡ Some (Places line) →
-    AddsWords (tab_reached (told (text_of s.history))) (plain (text_in (environments s.history).number (after l (suc n) s).history))
+    AddsWords (tab_reached (told_plainly (text_of s.history))) (plain (text_in (environments s.history).number (after l (suc n) s).history))
 
 -- an event of a text line that ends a word that was left open in front of it
 abbrev pub EndsOpenWord : PageEvent → Type 0

@@ -11,7 +11,7 @@ use Rattle.page_model.specs.declared.event.Event.TheVariants.{Tab, FieldEnd, Set
 use Rattle.page_model.specs.Events.{History, stops_after}
 use Rattle.page_model.specs.TabStops.{TabStops, Way, with_stop_set, stops_with, way_beyond, shorter_way, way_to_nearest, way_to_next}
 use Rattle.page_model.specs.Places.{input_place}
-use Rattle.page_model.specs.Fields.{plain, so_far, told, unfielded}
+use Rattle.page_model.specs.Fields.{plain, so_far, told_plainly, unfielded}
 use Rattle.law_lines.specs.FieldLaws.{SetsNoField, without_field_ends}
 use Rattle.roff_lines.proofs.Unfielded.{told-event_as, told-tab_as, told-field_end_as}
 
@@ -82,7 +82,7 @@ IsLeft-some None left w is = cc
 IsLeft-some (Some v) left w is = cc
 
 -- so such a history is told as it is, without the ends of fields
-told-left : (h : History) → All SetsNoField h → told h ≡ unfielded (without_field_ends h)
+told-left : (h : History) → All SetsNoField h → told_plainly h ≡ unfielded (without_field_ends h)
 told-left [] none = refl
 told-left (FieldEnd ∷ h) none = told-field_end_as h (without_field_ends h) (told-left h (All-tail SetsNoField FieldEnd h none))
 told-left (Tab ∷ h) none =

@@ -14,10 +14,10 @@ use Rattle.page_model.specs.Glyphs.{glyph_width, text_width}
 use Rattle.page_model.specs.Events.{History, stops_after}
 use Rattle.page_model.specs.TabStops.{columns_of_way, way_to_next}
 use Rattle.page_model.specs.Places.{moved, input_place as place_in}
-use Rattle.page_model.specs.Lines.{finished as finished_in}
+use Rattle.page_model.specs.Lines.{finished_in}
 use Rattle.page_model.specs.LastLine.{EndsAtWidth}
 use Rattle.page_model.specs.Telling.{glyphs_told}
-use Rattle.page_model.specs.Fields.{Field, Told, field_text, field_told, motion, opened, plain, so_far, tab_told, told, told_behind, without_gap}
+use Rattle.page_model.specs.Fields.{Field, Told, field_text, field_told, motion, opened, plain, so_far, tab_told, told_plainly, told_behind, without_gap}
 use Rattle.page_model.specs.Behind.{finished, input_place}
 use Rattle.law_lines.specs.FieldLaws.{StandsAtStop, MovesField, TabLeads, glyphs_width}
 use Rattle.roff_lines.proofs.Fields.{text_width-glyphs, input_place-field, input_place-motion}
@@ -53,14 +53,14 @@ in_field_told : (f : Field) (t : Told) → t.field ≡ Some f → so_far t ≡ f
 in_field_told f t is = ap (λ field. so_far (told_as t.events field)) is
 
 -- the end of a field moves its text as a whole
-pub moves_field : (h : History) (f : Field) → (told h).field ≡ Some f → MovesField h f
+pub moves_field : (h : History) (f : Field) → (told_plainly h).field ≡ Some f → MovesField h f
 moves_field h f is =
-    let behind = field_end_told h f (told h) is in
+    let behind = field_end_told h f (told_plainly h) is in
     record {
       told = behind;
       place =
-          ap place_in behind ∙ input_place-motion (motion f) f (told h).events
-          ∙ ap (λ i. moved (motion f) (place_in i)) (sym (in_field_told f (told h) is));
+          ap place_in behind ∙ input_place-motion (motion f) f (told_plainly h).events
+          ∙ ap (λ i. moved (motion f) (place_in i)) (sym (in_field_told f (told_plainly h) is));
     }
 
 -- the widths of glyphs, in either order
@@ -76,13 +76,13 @@ abbrev field_of : ℕ → Bool → List Glyph → Field
 field_of way centred glyphs = record { way = way; is_centred = centred; glyphs = glyphs; gap = 0 }
 
 -- glyphs that are told in it are its
-told-in_field : (h i : History) (way : ℕ) (centred : Bool) → told h ≡ opened way centred i → (gs : List Glyph)
-    → told (map Print gs ++ h) ≡ told_as i (Some (field_of way centred gs))
+told-in_field : (h i : History) (way : ℕ) (centred : Bool) → told_plainly h ≡ opened way centred i → (gs : List Glyph)
+    → told_plainly (map Print gs ++ h) ≡ told_as i (Some (field_of way centred gs))
 told-in_field h i way centred is [] = is
 told-in_field h i way centred is (g ∷ gs) = ap (told_behind (Print g)) (told-in_field h i way centred is gs)
 
 -- the place behind it, once it has ended
-module _ (h i : History) (way : ℕ) (centred : Bool) (is : told h ≡ opened way centred i) (glyphs : List Glyph) where
+module _ (h i : History) (way : ℕ) (centred : Bool) (is : told_plainly h ≡ opened way centred i) (glyphs : List Glyph) where
   place_behind : input_place (FieldEnd ∷ glyphs_told glyphs h)
       ≡ moved (motion (field_of way centred (reverse glyphs)) + glyphs_width glyphs) (place_in i)
   place_behind =
@@ -97,7 +97,7 @@ module _ (h i : History) (way : ℕ) (centred : Bool) (is : told h ≡ opened wa
 
 -- a tab to such a stop opens a field
 opens : (h : History) (kind : StopKind) (n : ℕ) → TabLeads h kind n
-    → told (Tab ∷ h) ≡ tab_told (Some (record { columns = n; kind = kind })) (plain h)
+    → told_plainly (Tab ∷ h) ≡ tab_told (Some (record { columns = n; kind = kind })) (plain h)
 opens h kind n leads =
     ap (told_behind Tab) (told-unfielded h leads.none)
     ∙ ap (λ way. tab_told way (plain h)) (ap (λ s. way_to_next s (input_place h)) (sym (stops_after-plain h)) ∙ leads.way)
@@ -138,9 +138,9 @@ tab_behind h f none =
     let Behind : History → Told = λ i. tab_told (way_to_next (stops_after i) (place_in i)) i in
     ap Behind (ended_by f.gap (map Print f.glyphs ++ Print (Blanks (motion f)) ∷ h) none)
 
-pub tab_ends_field : (h : History) (f : Field) → (told h).field ≡ Some f → f.gap ≡ 0 → told (Tab ∷ h) ≡ told (Tab ∷ FieldEnd ∷ h)
+pub tab_ends_field : (h : History) (f : Field) → (told_plainly h).field ≡ Some f → f.gap ≡ 0 → told_plainly (Tab ∷ h) ≡ told_plainly (Tab ∷ FieldEnd ∷ h)
 tab_ends_field h f is none =
-    let events = (told h).events in
+    let events = (told_plainly h).events in
     ap (λ field. told_behind Tab (told_as events field)) is ∙ tab_behind events f none
     ∙ ap (λ field. told_behind Tab (told_behind FieldEnd (told_as events field))) (sym is)
 
@@ -162,4 +162,4 @@ EndsAtWidth-told Break t = EndsAtWidth-finished (so_far t) Break
 EndsAtWidth-told (_) t = tt
 
 pub EndsAtWidth-behind : (h : History) (e : Event) → IfSome (finished h e) EndsAtWidth
-EndsAtWidth-behind h e = subst (λ o. IfSome o EndsAtWidth) (sym (finished_told-is e h)) (EndsAtWidth-told e (told h))
+EndsAtWidth-behind h e = subst (λ o. IfSome o EndsAtWidth) (sym (finished_told-is e h)) (EndsAtWidth-told e (told_plainly h))

@@ -12,7 +12,7 @@ use Rattle.page_model.specs.TabStops.{stops_with}
 use Rattle.page_model.specs.Places.{has_line_glyph, moved, input_place}
 use Rattle.page_model.specs.Fitting.{Word, fits, last_line}
 use Rattle.page_model.specs.Words.{is_empty, has_open_word, open_glyphs, last_word_glyphs, blanks, paragraph, words, temporary_indent, open_word}
-use Rattle.page_model.specs.Lines.{Finished, empty_line, line_laid_out, finished}
+use Rattle.page_model.specs.Lines.{Finished, empty_line, line_laid_out, finished_in}
 use Rattle.page_model.specs.Paragraphs.{finished_lines}
 use Rattle.law_lines.specs.Interruptions.{uninterrupted}
 
@@ -170,7 +170,7 @@ module _ (h i : History) (s : Alike h i) where
   word-same = rw (s.word, s.blanks, s.settings, indent-same) refl
 
   -- an event finishes the same line
-  finished-with : (e : Event) → finished h e ≡ finished i e
+  finished-with : (e : Event) → finished_in h e ≡ finished_in i e
   finished-with (Print g) = refl
   finished-with Tab = refl
   finished-with FieldEnd = refl
@@ -191,7 +191,7 @@ module _ (h i : History) (s : Alike h i) where
 
   -- so it finishes the same lines
   lines-with : (e : Event) → finished_lines (e ∷ h) ≡ finished_lines (e ∷ i)
-  lines-with e = ap (λ o. cons_option o (finished_lines h)) (finished-with e) ∙ ap (cons_option (finished i e)) s.lines
+  lines-with e = ap (λ o. cons_option o (finished_lines h)) (finished-with e) ∙ ap (cons_option (finished_in i e)) s.lines
 
   -- so they say the same of all
   Alike-with : (e : Event) → Alike (e ∷ h) (e ∷ i)

@@ -10,7 +10,7 @@ use Rattle.page_model.specs.Events.{History, settings_after}
 use Rattle.page_model.specs.Settings.{fills}
 use Rattle.page_model.specs.Fitting.{Word, fits, last_line}
 use Rattle.page_model.specs.Words.{is_empty, has_open_word, open_word, words, temporary_indent}
-use Rattle.page_model.specs.Lines.{Finished, empty_line, line_laid_out, finished, pending_line}
+use Rattle.page_model.specs.Lines.{Finished, empty_line, line_laid_out, finished_in, pending_line}
 use Rattle.law_lines.specs.Filling.{with_word, lines_of, last_of, AreLongestFronts}
 use Rattle.page_model.specs.Telling.{words_told, IsWordUnder, IsClear}
 use Rattle.page_model.specs.Paragraphs.{finished_lines, until_break, begun_under, full_lines, broken_lines, paragraph_lines}
@@ -121,7 +121,7 @@ finished_lines-broken h =
     let behind = finished_lines (until_break h) in
     let finished_as : Bool → List Word → List Finished =
     λ none line. cons_option (if none then None else Some (line_laid_out s false line)) (full_lines lines ++ behind) in
-    ap (cons_option (finished h Break)) (finished_lines-pending h)
+    ap (cons_option (finished_in h Break)) (finished_lines-pending h)
     ∙ ap (λ none. finished_as none (pending_line h)) (sym (is_empty-lines_of (words h)))
     ∙ ap (finished_as (is_empty lines)) (fills_lines (words h)).pending
     ∙ sym (broken_lines-last s lines behind)
@@ -141,7 +141,7 @@ finished_lines-unfilled h off some =
     let s = settings_after h in
     let line = line_laid_out s false (pending_line h) in
     let empty : Option Finished = if s.filling then None else Some (empty_line s) in
-    let same : finished h LineEnd ≡ finished h Break = unfilled-line (fills s) (is_empty (words h)) empty line off some in
+    let same : finished_in h LineEnd ≡ finished_in h Break = unfilled-line (fills s) (is_empty (words h)) empty line off some in
     ap (λ o. cons_option o (finished_lines h)) same ∙ finished_lines-broken h
 
 -- each line begins under the same settings

@@ -8,7 +8,7 @@ use Rattle.page_model.specs.Glyphs.{glyph_text}
 use Rattle.page_model.specs.declared.event.Event.TheVariants.{WordEnd, Break}
 use Rattle.page_model.specs.Words.{is_empty}
 use Rattle.page_model.specs.Columns.{line_bytes, spread, trimmed}
-use Rattle.page_model.specs.Lines.{finished as finished_in}
+use Rattle.page_model.specs.Lines.{finished_in}
 use Rattle.page_model.specs.Telling.{glyphs_told}
 use Rattle.law_lines.specs.Written.{written_by_break}
 use Rattle.roff_lines.proofs.GlyphsInFront.{eqb-above, spread-glyph, text_byte-above}

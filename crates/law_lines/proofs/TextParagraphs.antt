@@ -17,7 +17,7 @@ use Rattle.page_model.specs.Fitting.{Word}
 use Rattle.page_model.specs.Words.{is_empty, words, temporary_indent}
 use Rattle.page_model.specs.Telling.{words_told, IsOfText, IsWordUnder, IsClear}
 use Rattle.page_model.specs.Paragraphs.{until_break, full_lines, broken_lines, paragraph_lines, finished_lines as lines_in}
-use Rattle.page_model.specs.Fields.{Field, field_told, gap_ended, motion, plain, so_far, tab_told, told, told_behind, unfielded, without_gap}
+use Rattle.page_model.specs.Fields.{Field, field_told, gap_ended, motion, plain, so_far, tab_told, told_plainly, told_behind, unfielded, without_gap}
 use Rattle.page_model.specs.Behind.{finished_lines}
 use Rattle.law_lines.specs.Filling.{lines_of}
 use Rattle.roff_lines.proofs.Fields.{settings_after-field, until_break-field, words-field}
@@ -77,18 +77,18 @@ until_break-so_far h None = refl
 until_break-so_far h (Some f) = until_break-field 0 f h
 
 -- so a history up to its last break is told up to its last break
-until_break-told : (h : History) → until_break (told h).events ≡ plain (until_break h)
+until_break-told : (h : History) → until_break (told_plainly h).events ≡ plain (until_break h)
 until_break-told [] = refl
-until_break-told (Print g ∷ h) = until_break-print g (told h).events (told h).field ∙ until_break-told h
-until_break-told (Tab ∷ h) = until_break-behind_tab (told h).events (told h).field ∙ until_break-told h
-until_break-told (FieldEnd ∷ h) = until_break-field_end (told h).events (told h).field ∙ until_break-told h
-until_break-told (WordEnd ∷ h) = until_break-word_end (told h).events (told h).field ∙ until_break-told h
-until_break-told (Gap n ∷ h) = until_break-gap n (told h).events (told h).field ∙ until_break-told h
+until_break-told (Print g ∷ h) = until_break-print g (told_plainly h).events (told_plainly h).field ∙ until_break-told h
+until_break-told (Tab ∷ h) = until_break-behind_tab (told_plainly h).events (told_plainly h).field ∙ until_break-told h
+until_break-told (FieldEnd ∷ h) = until_break-field_end (told_plainly h).events (told_plainly h).field ∙ until_break-told h
+until_break-told (WordEnd ∷ h) = until_break-word_end (told_plainly h).events (told_plainly h).field ∙ until_break-told h
+until_break-told (Gap n ∷ h) = until_break-gap n (told_plainly h).events (told_plainly h).field ∙ until_break-told h
 until_break-told (LineEnd ∷ h) =
     elim (cases_Bool (fills (settings_after h))) [
       | inl measured ↦
           let here : fills (settings_after (plain h)) ≡ true = ap fills (sym (settings_after-plain h)) ∙ measured in
-          rw (measured, here) (until_break-so_far (told h).events (told h).field ∙ until_break-told h)
+          rw (measured, here) (until_break-so_far (told_plainly h).events (told_plainly h).field ∙ until_break-told h)
       | inr off ↦
           let here : fills (settings_after (plain h)) ≡ false = ap fills (sym (settings_after-plain h)) ∙ off in
           rw (off, here) refl
@@ -100,7 +100,7 @@ until_break-told (Resume ∷ h) = until_break-told h
 until_break-told (Set p ∷ h) = until_break-told h
 
 until_break-plain : (h : History) → until_break (plain h) ≡ plain (until_break h)
-until_break-plain h = until_break-so_far (told h).events (told h).field ∙ until_break-told h
+until_break-plain h = until_break-so_far (told_plainly h).events (told_plainly h).field ∙ until_break-told h
 
 -- the lines up to there
 lines-until : (h : History) → lines_in (until_break (plain h)) ≡ finished_lines (until_break h)
@@ -195,19 +195,19 @@ module _ (s : Settings) (measured : fills s ≡ true) where
   under-so_far h (Some f) each = under-field 0 f h each
 
   -- and as a whole
-  under-told : (h : History) → settings_after h ≡ s → EndUnder s (told h).events → (text : List Event) → All IsOfText text
-      → EndUnder s (told (text ++ h)).events
+  under-told : (h : History) → settings_after h ≡ s → EndUnder s (told_plainly h).events → (text : List Event) → All IsOfText text
+      → EndUnder s (told_plainly (text ++ h)).events
   under-told h same each [] of_text = each
   under-told h same each (e ∷ text) of_text =
       let others = All-tail IsOfText e text of_text in
       let filling = ap fills same ∙ measured in
-      let here : settings_after (told (text ++ h)).events ≡ s =
+      let here : settings_after (told_plainly (text ++ h)).events ≡ s =
       sym (settings_after-told (text ++ h)) ∙ settings_after-text h filling text others ∙ same in
-      under-behind e (told (text ++ h)).events (told (text ++ h)).field (All-head IsOfText e text of_text) here
+      under-behind e (told_plainly (text ++ h)).events (told_plainly (text ++ h)).field (All-head IsOfText e text of_text) here
       (under-told h same each text others)
 
 -- a history is clear: no word is open, so no field is
-clear-told : (h : History) → IsClear (plain h) → told h ≡ unfielded (plain h)
+clear-told : (h : History) → IsClear (plain h) → told_plainly h ≡ unfielded (plain h)
 clear-told h clear = told-unfielded h (is_in_field-closed h clear.no_open_word)
 
 -- a text and then a break finish the lines of its words
@@ -222,9 +222,9 @@ finished_lines-behind_text text h clear measured each =
     sym (settings_after-plain (text ++ h)) ∙ settings_after-text h measured text each ∙ settings_after-plain h in
     let from : until_break (plain (text ++ h)) ≡ until_break (plain h) =
     until_break-plain (text ++ h) ∙ ap plain (until_break-text h measured text each) ∙ sym (until_break-plain h) in
-    let none : words (told h).events ≡ [] = subst (λ t. words t.events ≡ []) (sym (clear-told h clear)) clear.no_words in
-    let before : EndUnder s (told h).events = subst (All (λ w. w.under ≡ s)) (sym none) (All-nil (λ w. w.under ≡ s)) in
-    let t = told (text ++ h) in
+    let none : words (told_plainly h).events ≡ [] = subst (λ t. words t.events ≡ []) (sym (clear-told h clear)) clear.no_words in
+    let before : EndUnder s (told_plainly h).events = subst (All (λ w. w.under ≡ s)) (sym none) (All-nil (λ w. w.under ≡ s)) in
+    let t = told_plainly (text ++ h) in
     let under : EndUnder s (plain (text ++ h)) =
     under-so_far s measured t.events t.field (under-told s measured h refl before text each) in
     let even = finished_lines-even (plain h) (plain (text ++ h)) clear same from

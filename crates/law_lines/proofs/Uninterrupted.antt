@@ -11,7 +11,7 @@ use Rattle.page_model.specs.Events.{History, stops_after}
 use Rattle.page_model.specs.TabStops.{Way, way_to_next}
 use Rattle.page_model.specs.Places.{input_place}
 use Rattle.page_model.specs.Telling.{glyphs_told}
-use Rattle.page_model.specs.Fields.{Field, Told, field_told, gap_ended, motion, plain, so_far, tab_told, told, told_behind, without_gap}
+use Rattle.page_model.specs.Fields.{Field, Told, field_told, gap_ended, motion, plain, so_far, tab_told, told_plainly, told_behind, without_gap}
 use Rattle.law_lines.specs.Interruptions.{uninterrupted, LeaveTheSame}
 use Rattle.law_lines.proofs.Interruptions.{Alike, Alike-uninterrupted, word-same}
 use Rattle.roff_lines.proofs.Told.{told_as, finished_lines-plain, stops_after-plain}
@@ -112,23 +112,23 @@ behind-break : (h : History) (field : Option Field)
 behind-break h field = ap (λ i. ended (Break ∷ i)) (so_far-uninterrupted h field)
 
 -- a history without its interruptions is told as it is with them, without theirs
-told-uninterrupted : (h : History) → told (uninterrupted h) ≡ told_uninterrupted (told h)
+told-uninterrupted : (h : History) → told_plainly (uninterrupted h) ≡ told_uninterrupted (told_plainly h)
 told-uninterrupted [] = refl
-told-uninterrupted (Print g ∷ h) = ap (told_behind (Print g)) (told-uninterrupted h) ∙ sym (behind-print g (told h).events (told h).field)
-told-uninterrupted (Tab ∷ h) = ap (told_behind Tab) (told-uninterrupted h) ∙ sym (behind-tab (told h).events (told h).field)
-told-uninterrupted (FieldEnd ∷ h) = ap (told_behind FieldEnd) (told-uninterrupted h) ∙ sym (behind-field_end (told h).events (told h).field)
-told-uninterrupted (WordEnd ∷ h) = ap (told_behind WordEnd) (told-uninterrupted h) ∙ sym (behind-word_end (told h).events (told h).field)
-told-uninterrupted (Gap n ∷ h) = ap (told_behind (Gap n)) (told-uninterrupted h) ∙ sym (behind-gap n (told h).events (told h).field)
-told-uninterrupted (LineEnd ∷ h) = ap (told_behind LineEnd) (told-uninterrupted h) ∙ sym (behind-line_end (told h).events (told h).field)
+told-uninterrupted (Print g ∷ h) = ap (told_behind (Print g)) (told-uninterrupted h) ∙ sym (behind-print g (told_plainly h).events (told_plainly h).field)
+told-uninterrupted (Tab ∷ h) = ap (told_behind Tab) (told-uninterrupted h) ∙ sym (behind-tab (told_plainly h).events (told_plainly h).field)
+told-uninterrupted (FieldEnd ∷ h) = ap (told_behind FieldEnd) (told-uninterrupted h) ∙ sym (behind-field_end (told_plainly h).events (told_plainly h).field)
+told-uninterrupted (WordEnd ∷ h) = ap (told_behind WordEnd) (told-uninterrupted h) ∙ sym (behind-word_end (told_plainly h).events (told_plainly h).field)
+told-uninterrupted (Gap n ∷ h) = ap (told_behind (Gap n)) (told-uninterrupted h) ∙ sym (behind-gap n (told_plainly h).events (told_plainly h).field)
+told-uninterrupted (LineEnd ∷ h) = ap (told_behind LineEnd) (told-uninterrupted h) ∙ sym (behind-line_end (told_plainly h).events (told_plainly h).field)
 told-uninterrupted (Count ∷ h) = ap (told_behind Count) (told-uninterrupted h)
-told-uninterrupted (Break ∷ h) = ap (told_behind Break) (told-uninterrupted h) ∙ sym (behind-break (told h).events (told h).field)
+told-uninterrupted (Break ∷ h) = ap (told_behind Break) (told-uninterrupted h) ∙ sym (behind-break (told_plainly h).events (told_plainly h).field)
 told-uninterrupted (Interrupt ∷ h) = told-uninterrupted h
 told-uninterrupted (Resume ∷ h) = told-uninterrupted h
 told-uninterrupted (Set p ∷ h) = ap (told_behind (Set p)) (told-uninterrupted h)
 
 -- so all that happened so far
 plain-uninterrupted : (h : History) → plain (uninterrupted h) ≡ uninterrupted (plain h)
-plain-uninterrupted h = ap so_far (told-uninterrupted h) ∙ sym (so_far-uninterrupted (told h).events (told h).field)
+plain-uninterrupted h = ap so_far (told-uninterrupted h) ∙ sym (so_far-uninterrupted (told_plainly h).events (told_plainly h).field)
 
 -- so a history leaves the same without its interruptions
 pub LeaveTheSame-uninterrupted : (h : History) → LeaveTheSame h (uninterrupted h)

@@ -9,7 +9,7 @@ use Rattle.page_model.specs.Glyphs.{glyph_width, text_width}
 use Rattle.page_model.specs.Events.{History, stops_after}
 use Rattle.page_model.specs.TabStops.{way_to_next}
 use Rattle.page_model.specs.Places.{moved}
-use Rattle.page_model.specs.Fields.{Field, field_text, field_told, is_in_field, motion, plain, told}
+use Rattle.page_model.specs.Fields.{Field, field_text, field_told, is_in_field, motion, plain, told_plainly}
 use Rattle.page_model.specs.Behind.{input_place}
 
 -- The text of a field ends at a right stop, and has its middle at a centred one: half of its columns, rounded down, stand in front
@@ -21,7 +21,7 @@ pub record StandsAtStop (f : Field) : Type 0 where
 
 -- the end of an open field moves its text as a whole: what is told behind its tab is the motion, and then its glyphs
 pub record MovesField (h : History) (f : Field) : Type 0 where
-  pub told : plain (FieldEnd ∷ h) ≡ field_told (motion f) f (told h).events
+  pub told : plain (FieldEnd ∷ h) ≡ field_told (motion f) f (told_plainly h).events
   pub place : input_place (FieldEnd ∷ h) ≡ moved (motion f) (input_place h)
 
 -- no field is open, and a tab leads so many columns, to a stop of this kind

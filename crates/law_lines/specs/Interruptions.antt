@@ -3,7 +3,7 @@ use Rattle.std.specs.Prelude.{◌≡◌, [], ◌∷◌}
 use Rattle.page_model.specs.declared.event.Event.TheVariants.{Interrupt, Resume}
 use Rattle.page_model.specs.Events.{History, stops_after}
 use Rattle.page_model.specs.Words.{last_word_glyphs, paragraph, open_word}
-use Rattle.page_model.specs.Fields.{plain, told}
+use Rattle.page_model.specs.Fields.{plain, told_plainly}
 use Rattle.page_model.specs.Behind.{finished_lines, input_place}
 
 -- a history without its interruptions
@@ -17,7 +17,7 @@ uninterrupted (e ∷ h) = e ∷ uninterrupted h
 -- glyphs of the last word on the line of the input, by which a sentence ends or doesn't, and the same place on it; the same words
 -- before the open one, and the same pending indent; the same tab stops. And they finish the same lines.
 pub record LeaveTheSame (h other : History) : Type 0 where
-  pub field : (told h).field ≡ (told other).field
+  pub field : (told_plainly h).field ≡ (told_plainly other).field
   pub word : open_word (plain h) ≡ open_word (plain other)
   pub on_line : last_word_glyphs (plain h) ≡ last_word_glyphs (plain other)
   pub place : input_place h ≡ input_place other

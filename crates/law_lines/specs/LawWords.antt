@@ -22,7 +22,7 @@ pub use Rattle.page_model.specs.LastLine.{EndsAtWidth}
 pub use Rattle.page_model.specs.Telling.{glyphs_told, words_told, bytes_told, text_line, IsOfText, IsWordUnder, IsClear}
 pub use Rattle.page_model.specs.Diverted.{diverted}
 pub use Rattle.page_model.specs.TitleColumns.{title_columns}
-pub use Rattle.page_model.specs.Fields.{Field, plain, told}
+pub use Rattle.page_model.specs.Fields.{Field, plain, told_plainly}
 pub use Rattle.page_model.specs.Behind.{input_place, pending_length, length_reached, finished, finished_lines, last_width}
 pub use Rattle.law_lines.specs.Written.{written_by_break, lines_written}
 pub use Rattle.law_lines.specs.FieldLaws.{StandsAtStop, MovesField, TabLeads, glyphs_width, SetsNoField, without_field_ends}

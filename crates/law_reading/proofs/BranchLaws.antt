@@ -31,7 +31,7 @@ use Rattle.roff_store.specs.Texts.{Entry}
 use Rattle.law_reading.proofs.LineNames.{Allows, onward, turns-control}
 use Rattle.run_model.proofs.NameBytes.{turns-first}
 use Rattle.run_model.proofs.PlainRuns.{HasRoom-behind, Here, Path, after-Path, behind_byte, behind_bytes, counted, counted-ahead, counted-last, counted-source, is-run_at, run_at, step-taken}
-use Rattle.run_model.specs.Reading.{taking, undropped_taking}
+use Rattle.run_model.specs.Reading.{byte_taking, undropped_taking}
 use Rattle.run_model.specs.Reading.ControlLines.{BelongsToName, behind_called, behind_name, called_taking, ends_name, line_taking, name_ended_taking, name_whole_taking}
 use Rattle.run_model.specs.Reading.Ends.{due}
 use Rattle.run_model.specs.Registers.{Known}
@@ -49,7 +49,7 @@ branch-blank true k i none_half =
     ∙ ap (λ (half : List OpenEscape). going_on (record i { escapes = half }) (branch_of true)) (sym none_half)
 branch-blank false k i none_half = refl
 
-taking-blank : (so : Bool) (k : Known) (i : PageInput) → i.escapes ≡ [] → taking k (branch_of so) i blank ≡ going_on i (branch_of so)
+taking-blank : (so : Bool) (k : Known) (i : PageInput) → i.escapes ≡ [] → byte_taking k (branch_of so) i blank ≡ going_on i (branch_of so)
 taking-blank true k i none_half = branch-blank true k i none_half
 taking-blank false k i none_half = refl
 

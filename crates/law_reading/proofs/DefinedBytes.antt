@@ -23,7 +23,7 @@ use Rattle.run_model.proofs.PlainRuns.{Most, Onward, Path}
 use Rattle.law_reading.specs.DefinitionLaws.{is_end}
 use Rattle.run_model.specs.Definitions.{end_mark, front_of, line_from, line_with, matched_behind}
 use Rattle.law_reading.specs.InterpolationLaws.{StandsForItself}
-use Rattle.run_model.specs.Reading.{undropped_taking, taking}
+use Rattle.run_model.specs.Reading.{undropped_taking, byte_taking}
 use Rattle.run_model.specs.Reading.DefinedLines.{definition_line, definition_unit}
 use Rattle.run_model.specs.Reading.Definitions.{definition_grown}
 use Rattle.run_model.specs.Reading.Found.{read_in}
@@ -101,7 +101,7 @@ copies-mark names d a unit text matched m may k i =
 -- a byte that gives a unit, where this is half read
 pub reads-unit : (names : Named Entry) (d : Definition) (a : Arguments) (text : List ℕ) (matched : Option ℕ) (half : List OpenEscape) (unit : CopyUnit) (b : ℕ) (k : Known) (i : PageInput)
     → is_dropped b ≡ false → byte_read AboveCopy half b ≡ (GivesUnit unit, [])
-    → taking k (Collecting (Defining d.name d.appends d.end matched)) (record (input_at names (defining d a text matched) i) { escapes = half }) b
+    → byte_taking k (Collecting (Defining d.name d.appends d.end matched)) (record (input_at names (defining d a text matched) i) { escapes = half }) b
     ≡ definition_line k (input_at names (defining d a text matched) i) d.name d.appends d.end matched unit
 reads-unit names d a text matched half unit b k i is_kept reads =
     let reading : LineState = Collecting (Defining d.name d.appends d.end matched) in

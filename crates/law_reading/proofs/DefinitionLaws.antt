@@ -21,7 +21,7 @@ use Rattle.law_reading.specs.DefinitionLaws.{AreItsLines, BeginsDefinition, Defi
 use Rattle.run_model.specs.Definitions.{end_mark, front_of, line_from, line_with, matched_behind}
 use Rattle.run_model.specs.Within.{IsWithin}
 use Rattle.run_model.specs.Output.{PageHistory}
-use Rattle.run_model.specs.Reading.{taking}
+use Rattle.run_model.specs.Reading.{byte_taking}
 use Rattle.run_model.specs.Reading.DefinedLines.{behind_definition, definition_unit}
 use Rattle.run_model.specs.Reading.Items.{PageInput, Taking}
 use Rattle.run_model.specs.Reading.Strings.{string_entered}
@@ -188,7 +188,7 @@ line_from-newline mark = ap (λ (rest : List ℕ). line_with rest (length mark) 
 
 ends-line : (names : Named Entry) (d : Definition) (a : Arguments) (text : List ℕ) (k : Known) (i : PageInput)
     → let n : ℕ = length (end_mark d.end) in
-    taking k (Collecting (Defining d.name d.appends d.end (Some n))) (input_at names (defining d a text (Some n)) i) newline
+    byte_taking k (Collecting (Defining d.name d.appends d.end (Some n))) (input_at names (defining d a text (Some n)) i) newline
     ≡ behind_definition k (entered_by d.name d.appends text d.before (record i { escapes = []; arguments = a; names = names; open_texts = d.others })) d.end newline
 ends-line names d a text k i =
     let n : ℕ = length (end_mark d.end) in

@@ -10,7 +10,7 @@ use Rattle.run_model.proofs.Leads.{after-add}
 use Rattle.run_model.proofs.PlainRuns.{behind_byte, behind_bytes, run_at}
 use Rattle.run_model.specs.Environments.{PageHistory}
 use Rattle.run_model.specs.ItemsTaken.{TakesItems}
-use Rattle.run_model.specs.Reading.{taking}
+use Rattle.run_model.specs.Reading.{byte_taking}
 use Rattle.run_model.specs.Reading.Ends.{due}
 use Rattle.run_model.specs.Reading.Items.{PageInput, Taking, meaning_events}
 use Rattle.run_model.specs.Registers.{AllRegisters, Known}
@@ -256,7 +256,7 @@ taken_as-meaning i reading events s idle =
 
 -- a byte means these where this is read and nothing is half read, if this is known, and that is read behind it
 abbrev pub Means : (Known → Type 0) → LineState → ℕ → List PageEvent → LineState → Type 0
-Means so p b events q = (k : Known) (i : PageInput) → so k → i.escapes ≡ [] → taking k p i b ≡ meaning_events i q events
+Means so p b events q = (k : Known) (i : PageInput) → so k → i.escapes ≡ [] → byte_taking k p i b ≡ meaning_events i q events
 
 abbrev pub Always : Known → Type 0
 Always k = ⊤
@@ -281,7 +281,7 @@ text_at s reading from bytes i h = run_at (record s { history = h }) s.input.nam
 -- a step at a byte, and those of its events
 step-meant : (l : Limits) (s : State) (from : Origin) (p q : LineState) (b : ℕ) (bytes : List ℕ) (events : List PageEvent) (i : PageInput) (h : PageHistory)
     → TakesItems s → due p ≡ None → i.charge + 1 ≤ l.bytes → Fits l s.registers (text_at s q from bytes (behind_byte from b i) h).input
-    → taking (known (text_at s p from bytes (behind_byte from b i) h)) p (text_at s p from bytes (behind_byte from b i) h).input b
+    → byte_taking (known (text_at s p from bytes (behind_byte from b i) h)) p (text_at s p from bytes (behind_byte from b i) h).input b
     ≡ meaning_events (text_at s p from bytes (behind_byte from b i) h).input q events
     → step l (text_at s p from (b ∷ bytes) i h) ≡ record (text_at s q from bytes (behind_byte from b i) h) { to_do = events }
 step-meant l s (FromAhead rest) p q b bytes events i h on none_due few fits means =
@@ -315,7 +315,7 @@ fits-room l s q from bytes i h room = Fits-IsWithin l (run_at s s.input.names (r
 -- a byte and its events
 pub after-meant : (l : Limits) (s : State) (from : Origin) (p q : LineState) (b : ℕ) (bytes : List ℕ) (events : List PageEvent) (i : PageInput) (h : PageHistory)
     → TakesItems s → due p ≡ None → Room l s from (b ∷ bytes) i → AreQuiet l s.registers h events
-    → taking (known (text_at s p from bytes (behind_byte from b i) h)) p (text_at s p from bytes (behind_byte from b i) h).input b
+    → byte_taking (known (text_at s p from bytes (behind_byte from b i) h)) p (text_at s p from bytes (behind_byte from b i) h).input b
     ≡ meaning_events (text_at s p from bytes (behind_byte from b i) h).input q events
     → after l (suc (steps_of s.registers events h)) (text_at s p from (b ∷ bytes) i h)
     ≡ text_at s q from bytes (behind_byte from b i) (behind_performed s.registers events h)

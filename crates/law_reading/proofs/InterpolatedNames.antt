@@ -23,7 +23,7 @@ use Rattle.run_model.proofs.ItemsTaken.{Fits-IsWithin, FromAhead, FromSource, Or
 use Rattle.law_reading.specs.InterpolationLaws.{IsEscapeOf, Short, Long, ShortString, LongString, OfArgument, reads_text, reads_escapes, reads_above, stepped, text_named, with_text_ahead, EscapesReadAsTexts, EscapesOfTheSourceReadAsTexts, EscapesOfTextReadAsTexts}
 use Rattle.run_model.specs.ItemsTaken.{TakesItems}
 use Rattle.run_model.specs.Within.{IsWithin}
-use Rattle.run_model.specs.Reading.{taking}
+use Rattle.run_model.specs.Reading.{byte_taking}
 use Rattle.run_model.specs.Reading.Units.{interrupted, settled_for}
 use Rattle.run_model.specs.Reading.Beginnings.{first_name}
 use Rattle.run_model.specs.Reading.Escapes.{asking}
@@ -74,7 +74,7 @@ read_in-asks k _ i half asks name of (OnMessage aborts is_front) = refl
 -- a byte that asks for it
 taking-asks : (k : Known) (reading : LineState) (i : PageInput) (b : ℕ) (half : List OpenEscape) (asks : NameUse) (name : Option (List ℕ))
     → Interpolates asks → ReadsEscapes reading → IsRead b → byte_read (place_in k reading) i.escapes b ≡ (Asks asks name, half)
-    → taking k reading i b ≡ asking k (settled_input reading half i) reading asks name
+    → byte_taking k reading i b ≡ asking k (settled_input reading half i) reading asks name
 taking-asks k reading i b half asks name of on read reads =
     taking-reads k reading i b on read ∙ ap (read_in k reading i) reads ∙ read_in-asks k reading i half asks name of on
 

@@ -23,7 +23,7 @@ use Rattle.run_model.specs.declared.request.Request.{Request}
 use Rattle.run_model.specs.declared.status.Status.{Status}
 use Rattle.law_reading.specs.InterpolationLaws.{StandsForItself, reads_escapes, with_source_behind, cost_of_all, TextsCostTheirBytesAndOne, StepsFollowTheTape, UnreadInputIsTheTape}
 use Rattle.run_model.specs.ItemsTaken.{TakesItems}
-use Rattle.run_model.specs.Reading.{taking, undropped_taking}
+use Rattle.run_model.specs.Reading.{byte_taking, undropped_taking}
 use Rattle.run_model.specs.Reading.Units.{interrupted, settled_for}
 use Rattle.run_model.specs.Reading.Ends.{due}
 use Rattle.run_model.specs.Reading.Items.{PageInput, Taking, going_on}
@@ -148,7 +148,7 @@ undropped_taking-reads k _ i b (OnMessage aborts is_front) = refl
 
 -- a byte that is read
 pub taking-reads : (k : Known) (reading : LineState) (i : PageInput) (b : ℕ) → ReadsEscapes reading → IsRead b
-    → taking k reading i b ≡ read_in k reading i (byte_read (place_in k reading) i.escapes b)
+    → byte_taking k reading i b ≡ read_in k reading i (byte_read (place_in k reading) i.escapes b)
 taking-reads k reading i b on read =
     ap (λ (d : Bool). if d then going_on (interrupted reading i) reading else undropped_taking k reading i b) (not-first (is_dropped b) (b == newline) read)
     ∙ undropped_taking-reads k reading i b on
@@ -174,7 +174,7 @@ read_in-nothing k _ i half (OnMessage aborts is_front) = refl
 
 -- a byte that finds nothing
 pub taking-nothing : (k : Known) (reading : LineState) (i : PageInput) (b : ℕ) (half : List OpenEscape) → ReadsEscapes reading
-    → IsRead b → byte_read (place_in k reading) i.escapes b ≡ (GoesOn, half) → taking k reading i b ≡ going_on (settled_input reading half i) reading
+    → IsRead b → byte_read (place_in k reading) i.escapes b ≡ (GoesOn, half) → byte_taking k reading i b ≡ going_on (settled_input reading half i) reading
 taking-nothing k reading i b half on read reads =
     taking-reads k reading i b on read ∙ ap (read_in k reading i) reads ∙ read_in-nothing k reading i half on
 

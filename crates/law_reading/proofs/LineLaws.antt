@@ -8,11 +8,11 @@ use Rattle.roff_lines.proofs.Unfielded.{is_in_field-closed, told-glyphs_told_as,
 use Rattle.roff_lines.proofs.Telling.{has_open_word-word, open_word-word, told_word, words-told, words-word}
 use Rattle.page_model.specs.Behind.{finished_by_tab}
 use Rattle.page_model.specs.Events.{History, settings_after}
-use Rattle.page_model.specs.Fields.{Field, Told, field_told, is_in_field, motion, plain, so_far, told, told_behind, unfielded, with_glyph, without_gap}
+use Rattle.page_model.specs.Fields.{Field, Told, field_told, is_in_field, motion, plain, so_far, told_plainly, told_behind, unfielded, with_glyph, without_gap}
 use Rattle.page_model.specs.declared.event.Event.{Event}
 use Rattle.page_model.specs.declared.event.Event.TheVariants.{FieldEnd, Gap, LineEnd, Count, Break, Interrupt, Print, Resume, Set, Tab, WordEnd}
 use Rattle.page_model.specs.Fitting.{Word, fits, last_line, line_indent}
-use Rattle.page_model.specs.Lines.{Finished, empty_line, finished as finished_in, line_laid_out, pending_line}
+use Rattle.page_model.specs.Lines.{Finished, empty_line, finished_in, line_laid_out, pending_line}
 use Rattle.page_model.specs.Places.{has_line_glyph}
 use Rattle.page_model.specs.Settings.{fills}
 use Rattle.page_model.specs.Telling.{bytes_told, glyphs_told, text_line}
@@ -49,12 +49,12 @@ plain-sentences h glyphs measured glyph closed some =
     ∙ gap-begun (ends_sentence (last_word_glyphs h)) rest
 
 -- where no word is open no field is, and the history is told as it is
-told-closed : (h : History) → has_open_word (plain h) ≡ false → told h ≡ unfielded (plain h)
+told-closed : (h : History) → has_open_word (plain h) ≡ false → told_plainly h ≡ unfielded (plain h)
 told-closed h closed = told-unfielded h (is_in_field-closed h closed)
 
 pub sentences_are_two_blanks_apart : SentencesAreTwoBlanksApart
 sentences_are_two_blanks_apart h glyphs measured glyph closed some =
-    let behind : told (Count ∷ LineEnd ∷ h) ≡ unfielded (Count ∷ LineEnd ∷ plain h) =
+    let behind : told_plainly (Count ∷ LineEnd ∷ h) ≡ unfielded (Count ∷ LineEnd ∷ plain h) =
     ap (λ (t : Told). told_behind Count (told_behind LineEnd t)) (told-closed h closed) in
     ap (λ (t : Told). (open_word (so_far t)).gap)
     (told-glyphs_told_as glyphs (Count ∷ LineEnd ∷ h) (Count ∷ LineEnd ∷ plain h) behind)
@@ -96,8 +96,8 @@ ends-told : (g : Glyph) (h : History) (field : Option Field)
 ends-told g h None = refl
 ends-told g h (Some f) = ends_sentence-field 0 (with_glyph g f) h ∙ ends-glyphs g f
 
-ends-behind : (g : Glyph) (h : History) → ends_at (told (Print g ∷ h)) ≡ (if is_closer g then ends_before (told h) else is_sentence_mark g)
-ends-behind g h = ends-told g (told h).events (told h).field
+ends-behind : (g : Glyph) (h : History) → ends_at (told_plainly (Print g ∷ h)) ≡ (if is_closer g then ends_before (told_plainly h) else is_sentence_mark g)
+ends-behind g h = ends-told g (told_plainly h).events (told_plainly h).field
 
 -- a glyph that stands behind that is of the same word
 before-told : (g : Glyph) (h : History) (field : Option Field)
@@ -105,19 +105,19 @@ before-told : (g : Glyph) (h : History) (field : Option Field)
 before-told g h None = refl
 before-told g h (Some f) = sym (ends_sentence-field 0 (with_glyph g f) h)
 
-before-behind : (g : Glyph) (h : History) → ends_before (told (Print g ∷ h)) ≡ ends_at (told (Print g ∷ h))
-before-behind g h = before-told g (told h).events (told h).field
+before-behind : (g : Glyph) (h : History) → ends_before (told_plainly (Print g ∷ h)) ≡ ends_at (told_plainly (Print g ∷ h))
+before-behind g h = before-told g (told_plainly h).events (told_plainly h).field
 
 -- so closers leave it as it was
-closer-behind : (b : ℕ) (h : History) → is_closer (Printed b) ≡ true → ends_at (told (Print (Printed b) ∷ h)) ≡ ends_before (told h)
-closer-behind b h is = ends-behind (Printed b) h ∙ ap (λ (c : Bool). if c then ends_before (told h) else is_sentence_mark (Printed b)) is
+closer-behind : (b : ℕ) (h : History) → is_closer (Printed b) ≡ true → ends_at (told_plainly (Print (Printed b) ∷ h)) ≡ ends_before (told_plainly h)
+closer-behind b h is = ends-behind (Printed b) h ∙ ap (λ (c : Bool). if c then ends_before (told_plainly h) else is_sentence_mark (Printed b)) is
 
 closers-behind : (closers : List ℕ) (g : Glyph) (h : History) → All (λ b. is_closer (Printed b) ≡ true) closers
-    → ends_at (told (bytes_told closers (Print g ∷ h))) ≡ ends_at (told (Print g ∷ h))
+    → ends_at (told_plainly (bytes_told closers (Print g ∷ h))) ≡ ends_at (told_plainly (Print g ∷ h))
 closers-behind [] g h are = refl
 closers-behind (b ∷ closers) g h are =
     let is : is_closer (Printed b) ≡ true = All-head (λ c. is_closer (Printed c) ≡ true) b closers are in
-    ap (λ (i : History). ends_at (told i)) (told-glyph is_closer b closers (Print g ∷ h) is refl)
+    ap (λ (i : History). ends_at (told_plainly i)) (told-glyph is_closer b closers (Print g ∷ h) is refl)
     ∙ closers-behind closers (Printed b) (Print g ∷ h) (All-tail (λ c. is_closer (Printed c) ≡ true) b closers are)
     ∙ closer-behind b (Print g ∷ h) is ∙ before-behind g h
 
@@ -133,14 +133,14 @@ no_closer b is =
 
 pub sentences_end_at_their_marks : SentencesEndAtTheirMarks
 sentences_end_at_their_marks h mark closers is are =
-    ap (λ (i : History). ends_at (told i)) (told-glyph is_sentence_mark mark closers h is refl)
+    ap (λ (i : History). ends_at (told_plainly i)) (told-glyph is_sentence_mark mark closers h is refl)
     ∙ closers-behind closers (Printed mark) h are
     ∙ ends-behind (Printed mark) h
-    ∙ ap (λ (c : Bool). if c then ends_before (told h) else is_sentence_mark (Printed mark)) (no_closer mark is) ∙ is
+    ∙ ap (λ (c : Bool). if c then ends_before (told_plainly h) else is_sentence_mark (Printed mark)) (no_closer mark is) ∙ is
 
 pub closers_apart_end_no_sentence : ClosersApartEndNoSentence
 closers_apart_end_no_sentence h closer closers closed is are =
-    ap (λ (i : History). ends_at (told i)) (told-glyph is_closer closer closers h is refl)
+    ap (λ (i : History). ends_at (told_plainly i)) (told-glyph is_closer closer closers h is refl)
     ∙ closers-behind closers (Printed closer) h are
     ∙ closer-behind closer h is
     ∙ ap ends_before (told-closed h closed)
@@ -148,7 +148,7 @@ closers_apart_end_no_sentence h closer closers closed is are =
 
 pub no_other_glyph_ends_a_sentence : NoOtherGlyphEndsASentence
 no_other_glyph_ends_a_sentence h glyph no_mark closer =
-    ends-behind glyph h ∙ ap (λ (c : Bool). if c then ends_before (told h) else is_sentence_mark glyph) closer ∙ no_mark
+    ends-behind glyph h ∙ ap (λ (c : Bool). if c then ends_before (told_plainly h) else is_sentence_mark glyph) closer ∙ no_mark
 
 -- while lines are centred no words are measured
 unmeasured : (filling centring : Bool) → centring ≡ false → (filling && centring) ≡ false
@@ -197,7 +197,7 @@ plain-indents h n glyphs none closed some =
 pub temporary_indents_are_for_one_line : TemporaryIndentsAreForOneLine
 temporary_indents_are_for_one_line h n glyphs none closed some =
     let set : History = Set (TemporaryIndent n) ∷ h in
-    let behind : told (glyphs_told glyphs set) ≡ unfielded (glyphs_told glyphs (Set (TemporaryIndent n) ∷ plain h)) =
+    let behind : told_plainly (glyphs_told glyphs set) ≡ unfielded (glyphs_told glyphs (Set (TemporaryIndent n) ∷ plain h)) =
     told-glyphs_told_as glyphs set (Set (TemporaryIndent n) ∷ plain h) (ap (told_behind (Set (TemporaryIndent n))) (told-closed h closed)) in
     let Goal : Told → Type 0 = λ t.
     (line_indent (pending_line (so_far (told_behind WordEnd t))) ≡ n) × (temporary_indent (so_far (told_behind WordEnd t)) ≡ None) in
@@ -261,7 +261,7 @@ spaced-tab h (Some f) =
 
 pub lines_are_spaced : LinesAreSpaced
 lines_are_spaced h Tab =
-    subst (λ (s : Settings). SpacedBy s (finished_by_tab (told h))) (sym (settings_after-told h)) (spaced-tab (told h).events (told h).field)
+    subst (λ (s : Settings). SpacedBy s (finished_by_tab (told_plainly h))) (sym (settings_after-told h)) (spaced-tab (told_plainly h).events (told_plainly h).field)
 lines_are_spaced h WordEnd = spaced-if_not (is_in_field h) (settings_after h) (finished_in (plain h) WordEnd) (spaced-plain h WordEnd)
 lines_are_spaced h LineEnd = spaced-plain h LineEnd
 lines_are_spaced h Break = spaced-plain h Break

@@ -10,7 +10,7 @@ use Rattle.run_model.proofs.ItemsTaken.{not-first, not-second}
 use Rattle.run_model.proofs.PlainRuns.{Here, Most, Onward, Path}
 use Rattle.law_reading.specs.CallLaws.{IsApostrophe, IsControl, IsDot}
 use Rattle.run_model.specs.Reading.ControlLines.{BelongsToName}
-use Rattle.run_model.specs.Reading.{undropped_taking, taking}
+use Rattle.run_model.specs.Reading.{undropped_taking, byte_taking}
 use Rattle.run_model.specs.Reading.ControlLines.{behind_called, called_taking, ends_name, name_ended_taking, name_whole_taking}
 use Rattle.run_model.specs.Reading.Ends.{due}
 use Rattle.run_model.specs.Reading.Items.{PageInput, going_on}
@@ -52,8 +52,8 @@ turns-second names a texts breaks first b there belongs reads k i =
 -- at a blank or a newline one thing that is read does as another does
 pub record DoesAs (names : Named Entry) (reading there : LineState) : Type 0 where
   pub none_due : due reading ≡ None
-  pub at_blank : (k : Known) (p : Stage) (i : PageInput) → taking k reading (input_at names p i) blank ≡ taking k there (input_at names p i) blank
-  pub at_newline : (k : Known) (p : Stage) (i : PageInput) → taking k reading (input_at names p i) newline ≡ taking k there (input_at names p i) newline
+  pub at_blank : (k : Known) (p : Stage) (i : PageInput) → byte_taking k reading (input_at names p i) blank ≡ byte_taking k there (input_at names p i) blank
+  pub at_newline : (k : Known) (p : Stage) (i : PageInput) → byte_taking k reading (input_at names p i) newline ≡ byte_taking k there (input_at names p i) newline
 
 -- what is read behind a name, in front of which a line begins
 pub record ReadsName (most : Most) (names : Named Entry) (a : Arguments) (texts : List (List ℕ)) (bytes : List ℕ) (there : LineState) : Type 0 where

@@ -34,7 +34,7 @@ use Rattle.input_escapes.specs.declared.open_escape.Surroundings.TheVariants.{Co
 use Rattle.law_reading.proofs.Interpolation.{IsRead, IsRead-itself}
 use Rattle.run_model.proofs.ItemsTaken.{not-first, not-second}
 use Rattle.law_reading.specs.Quoting.{taking_all}
-use Rattle.run_model.specs.Reading.{undropped_taking, taking}
+use Rattle.run_model.specs.Reading.{undropped_taking, byte_taking}
 use Rattle.run_model.specs.Reading.Found.{read_in}
 use Rattle.run_model.specs.Registers.{Known}
 use Rattle.run_model.specs.declared.line_state.LineState.{LineState}
@@ -45,7 +45,7 @@ with_text i a = record i { escapes = []; arguments = a }
 
 -- a byte of the text, by whether it is a blank in front
 pub taking-message : (k : Known) (aborts is_front : Bool) (i : PageInput) (a : Arguments) (b : ℕ) → StandsForItself b
-    → taking k (Collecting (Telling aborts is_front)) (with_text i a) b
+    → byte_taking k (Collecting (Telling aborts is_front)) (with_text i a) b
     ≡ (if is_front && b == blank then going_on (with_text i a) (Collecting (Telling aborts true)) else going_on (with_text i (with_byte a InPlain b)) (Collecting (Telling aborts false)))
 taking-message k aborts is_front i a b itself =
     let reading : LineState = Collecting (Telling aborts is_front) in
@@ -59,10 +59,10 @@ taking-message k aborts is_front i a b itself =
     ∙ ap (λ (c : Bool). if c then going_on held (Told aborts) else others) (not-second (is_dropped b) (b == newline) read)
 
 -- behind a byte the others tell what is left
-tells-cons : (k : Known) (aborts is_front : Bool) (i : PageInput) (b : ℕ) (bytes text : List ℕ) (t : Taking) → taking k (Collecting (Telling aborts is_front)) i b ≡ t
+tells-cons : (k : Known) (aborts is_front : Bool) (i : PageInput) (b : ℕ) (bytes text : List ℕ) (t : Taking) → byte_taking k (Collecting (Telling aborts is_front)) i b ≡ t
     → TellsText aborts text (taking_all k t.reading t.input bytes) → TellsText aborts text (taking_all k (Collecting (Telling aborts is_front)) i (b ∷ bytes))
 tells-cons k aborts is_front i b bytes text t is tells =
-    let others : TellsText aborts text (taking_all k (taking k (Collecting (Telling aborts is_front)) i b).reading (taking k (Collecting (Telling aborts is_front)) i b).input bytes) =
+    let others : TellsText aborts text (taking_all k (byte_taking k (Collecting (Telling aborts is_front)) i b).reading (byte_taking k (Collecting (Telling aborts is_front)) i b).input bytes) =
     subst (λ (u : Taking). TellsText aborts text (taking_all k u.reading u.input bytes)) (sym is) tells in
     record { reading = others.reading; told = others.told }
 

@@ -8,7 +8,7 @@ use Rattle.roff_num.specs.declared.limit.Limit.TheVariants.{Line}
 use Rattle.roff_num.specs.declared.limits.Limits.{Limits}
 use Rattle.page_model.specs.Behind.{finished, finished_by_tab, length_reached, pending_length}
 use Rattle.page_model.specs.Events.{History, stops_after}
-use Rattle.page_model.specs.Fields.{Field, Told, field_ended, is_in_field, plain, so_far, tab_told, told, told_behind, with_glyph}
+use Rattle.page_model.specs.Fields.{Field, Told, field_ended, is_in_field, plain, so_far, tab_told, told_plainly, told_behind, with_glyph}
 use Rattle.page_model.specs.Glyphs.{glyph_text, glyph_blank}
 use Rattle.page_model.specs.Happenings.{Places}
 use Rattle.page_model.specs.Lines.{Finished, pending_length as length_in}
@@ -66,7 +66,7 @@ motion-told h (Some f) n =
     omega (arith, pending_length-field 0 g h, pending_length-field 0 f h, length-field_glyph (Blanks n) f, blank)
 
 pub motions_are_as_long_as_their_columns : MotionsAreAsLongAsTheirColumns
-motions_are_as_long_as_their_columns h n = motion-told (told h).events (told h).field n
+motions_are_as_long_as_their_columns h n = motion-told (told_plainly h).events (told_plainly h).field n
 
 pub motions_count_in_the_line : MotionsCountInTheLine
 motions_count_in_the_line l h n =
@@ -101,7 +101,7 @@ module _ (h : History) (none : is_in_field h ≡ false) where
   abbrev way_here : Option Way
   way_here = way_to_next (stops_after (plain h)) (input_place (plain h))
 
-  told-tab_here : told (Tab ∷ h) ≡ tab_told way_here (plain h)
+  told-tab_here : told_plainly (Tab ∷ h) ≡ tab_told way_here (plain h)
   told-tab_here = ap (told_behind Tab) (told-unfielded h none)
 
   field-tab_here : is_in_field (Tab ∷ h) ≡ is_some (tab_told way_here (plain h)).field

@@ -20,7 +20,7 @@ use Rattle.run_model.proofs.ItemsTaken.{not-first, not-second}
 use Rattle.run_model.specs.declared.line_state.LineState.{LineState}
 use Rattle.law_reading.specs.InterpolationLaws.{StandsForItself}
 use Rattle.law_reading.specs.Quoting.{both, given_taking, taking_all, RequestsGetQuotedArguments}
-use Rattle.run_model.specs.Reading.{taking, undropped_taking}
+use Rattle.run_model.specs.Reading.{byte_taking, undropped_taking}
 use Rattle.run_model.specs.Reading.Arguments.{arguments_ended}
 use Rattle.run_model.specs.Reading.Definitions.{definition_named, lines_begun}
 use Rattle.run_model.specs.Reading.Found.{read_in}
@@ -44,7 +44,7 @@ with_kept i a = record i { escapes = []; arguments = only_kept a }
 
 -- a byte of the arguments goes to them
 taking-argument : (k : Known) (breaks : Bool) (request : Request) (i : PageInput) (a : Arguments) (b : ℕ) → StandsForItself b
-    → taking k (Collecting (InArguments breaks request)) (with_kept i a) b ≡ going_on (with_kept i (with_argument_byte a b)) (Collecting (InArguments breaks request))
+    → byte_taking k (Collecting (InArguments breaks request)) (with_kept i a) b ≡ going_on (with_kept i (with_argument_byte a b)) (Collecting (InArguments breaks request))
 taking-argument k breaks request i a b itself =
     let reading : LineState = Collecting (InArguments breaks request) in
     let held : PageInput = with_kept i a in

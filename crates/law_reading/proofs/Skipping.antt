@@ -13,7 +13,7 @@ use Rattle.run_model.proofs.ItemsTaken.{Fits-IsWithin, made-Fits, taken_as-going
 use Rattle.law_reading.specs.ConditionLaws.{is_whole, escapes_among, MayEnd, AreKept, RunsPassOverSkippedBranches, SkippedBranchesDoNothing, BranchesAreSkippedToTheirEnd}
 use Rattle.run_model.specs.ItemsTaken.{TakesItems}
 use Rattle.run_model.specs.Within.{IsWithin}
-use Rattle.run_model.specs.Reading.{taking, undropped_taking}
+use Rattle.run_model.specs.Reading.{byte_taking, undropped_taking}
 use Rattle.run_model.specs.Reading.Branches.{most_braces, counted_if, skipping_taking}
 use Rattle.run_model.specs.Reading.Ends.{due}
 use Rattle.run_model.specs.Reading.Items.{PageInput, Taking, going_on}
@@ -143,17 +143,17 @@ skipped-by i bytes b false whole not_so few = skipped-escape i bytes b whole few
 
 -- a byte that is kept
 taking-skipped : (k : Known) (i : PageInput) (bytes : List ℕ) (b : ℕ) → is_dropped b ≡ false
-    → taking k (skipped_behind bytes) i b ≡ skipping_taking i (escapes_among 123 bytes) (escapes_among 125 bytes) (not (is_whole bytes)) b
+    → byte_taking k (skipped_behind bytes) i b ≡ skipping_taking i (escapes_among 123 bytes) (escapes_among 125 bytes) (not (is_whole bytes)) b
 taking-skipped k i bytes b is_kept =
     ap (λ (d : Bool). if d then going_on i (skipped_behind bytes) else undropped_taking k (skipped_behind bytes) i b) is_kept
 
 pub taking-goes_on : (k : Known) (i : PageInput) (bytes : List ℕ) (b : ℕ) → is_dropped b ≡ false → (MayEnd (bytes ++ b ∷ []) → ⊥) → length bytes + 1 ≤ most_braces
-    → taking k (skipped_behind bytes) i b ≡ going_on i (skipped_behind (bytes ++ b ∷ []))
+    → byte_taking k (skipped_behind bytes) i b ≡ going_on i (skipped_behind (bytes ++ b ∷ []))
 taking-goes_on k i bytes b is_kept not_so few = taking-skipped k i bytes b is_kept ∙ skipped-by i bytes b (is_whole bytes) refl not_so few
 
 -- the newline that ends the branch
 pub taking-ends : (k : Known) (i : PageInput) (bytes : List ℕ) → is_whole bytes ≡ true → escapes_among 123 bytes ≤ escapes_among 125 bytes
-    → taking k (skipped_behind bytes) i newline ≡ going_on i LineStart
+    → byte_taking k (skipped_behind bytes) i newline ≡ going_on i LineStart
 taking-ends k i bytes whole braces =
     ap (λ (w : Bool). skipping_taking i (escapes_among 123 bytes) (escapes_among 125 bytes) (not w) newline) whole
     ∙ ap (λ (ends : Bool). if ends then going_on i LineStart else going_on i (Skipping (escapes_among 123 bytes) (escapes_among 125 bytes) false))
@@ -228,7 +228,7 @@ IsPlain-counting l s input b plain few =
 -- a step at a byte that means nothing
 pub step-counting : (l : Limits) (s : State) (tape : Tape) (b : ℕ) (bytes : List ℕ) (input : PageInput) (reading there : LineState)
     → TakesItems s → due reading ≡ None → IsPlain l s input → input.charge + 1 ≤ l.bytes
-    → taking (known_at s.history s.registers (counting b input)) reading (counting b input) b ≡ going_on (counting b input) there
+    → byte_taking (known_at s.history s.registers (counting b input)) reading (counting b input) b ≡ going_on (counting b input) there
     → step l (run_at s tape (b ∷ bytes) input reading) ≡ run_at s tape bytes (counting b input) there
 step-counting l s tape b bytes input reading there on none_due plain within is =
     let before : State = run_at s tape (b ∷ bytes) input reading in

@@ -33,7 +33,7 @@ use Rattle.law_reading.specs.StringLaws.{HasRoomForOne, IsOfWord, SetsString, St
 use Rattle.run_model.proofs.ItemsTaken.{FromAhead, FromSource, Origin, ahead_at, not-first, tape_at, taken_as-going_on}
 use Rattle.run_model.proofs.NameBytes.{stage}
 use Rattle.run_model.proofs.PlainRuns.{HasRoom, HasRoom-start, Here, Most, Onward, Path, Path-append, after-last, behind_byte, behind_bytes, counted, counted-ahead, counted-last, counted-source, is-run_at, run_at}
-use Rattle.run_model.specs.Reading.{taking, undropped_taking}
+use Rattle.run_model.specs.Reading.{byte_taking, undropped_taking}
 use Rattle.run_model.specs.Reading.Found.{read_in}
 use Rattle.run_model.specs.Reading.Items.{PageInput, Taking, going_on}
 use Rattle.run_model.specs.Reading.Strings.{string_entered, string_grown, string_line_ended, string_name_behind, string_name_or_text, string_unit}
@@ -192,7 +192,7 @@ escaping name appends before is_front text = record (setting name appends before
 
 gives-unit : (names : Named Entry) (name : ShortName) (appends : Bool) (before : List (List ℕ)) (is_front : Bool) (text : List ℕ) (half : List OpenEscape) (unit : CopyUnit) (b : ℕ) (k : Known) (i : PageInput)
     → is_dropped b ≡ false → byte_read AboveCopy half b ≡ (GivesUnit unit, [])
-    → taking k (Collecting (StringText (Some name) appends is_front)) (record (input_at names (setting name appends before is_front text) i) { escapes = half }) b
+    → byte_taking k (Collecting (StringText (Some name) appends is_front)) (record (input_at names (setting name appends before is_front text) i) { escapes = half }) b
     ≡ string_unit (input_at names (setting name appends before is_front text) i) (Some name) appends is_front unit
 gives-unit names name appends before is_front text half unit b k i is_kept reads =
     let reading : LineState = Collecting (StringText (Some name) appends is_front) in

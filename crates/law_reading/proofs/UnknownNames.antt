@@ -13,7 +13,7 @@ use Rattle.run_model.proofs.ItemsTaken.{FromAhead, FromSource, Origin, ahead_at,
 use Rattle.run_model.proofs.PlainRuns.{bytes_ahead-behind, ends_ahead-behind_all, HasRoom, HasRoom-start, Here, Most, Path, Path-append, after-last, behind_byte, behind_bytes, behind_bytes-charge, counted, counted-ahead, counted-last, counted-source, is-run_at, run_at}
 use Rattle.law_reading.specs.CallLaws.{BeginsLine, BlankBehind, IsBehindName, IsUnknown, NothingBehind, UnknownNamesDoNothing, UnknownNamesOfTheSourceDoNothing, named_line}
 use Rattle.run_model.specs.Within.{IsWithin}
-use Rattle.run_model.specs.Reading.{taking}
+use Rattle.run_model.specs.Reading.{byte_taking}
 use Rattle.run_model.specs.Reading.Items.{PageInput, Taking, going_on}
 use Rattle.run_model.specs.Requests.{called_as}
 use Rattle.run_model.specs.Run.{State, after, byte_taken, known, taken_as}
@@ -41,7 +41,7 @@ reads-unknown names name stands_for = record {
 turns-dropped : (names : Named Entry) (p : Stage) (b : ℕ) → p.reading ≡ Dropped → (b == newline) ≡ false → Turns names p b p
 turns-dropped names p b reading is k i =
     let here : PageInput = input_at names p i in
-    ap (λ (r : LineState). taking k r here b) reading
+    ap (λ (r : LineState). byte_taking k r here b) reading
     ∙ ap (λ (c : Bool). if is_dropped b then going_on here Dropped else going_on here (if c then LineStart else Dropped)) is
     ∙ going_on-if (is_dropped b) here Dropped p.arguments p.arguments
     ∙ ap (λ (a : Arguments). going_on (record here { arguments = a }) Dropped) (same-if (is_dropped b) p.arguments)

@@ -23,7 +23,7 @@ use Rattle.run_model.proofs.ItemsTaken.{Fits-IsWithin, FromAhead, FromSource, Or
 use Rattle.law_reading.specs.InterpolationLaws.{StandsForItself, reads_escapes}
 use Rattle.run_model.specs.ItemsTaken.{TakesItems}
 use Rattle.run_model.specs.Within.{IsWithin}
-use Rattle.run_model.specs.Reading.{taking, escape_ended}
+use Rattle.run_model.specs.Reading.{byte_taking, escape_ended}
 use Rattle.run_model.specs.Reading.Escapes.{measuring}
 use Rattle.run_model.specs.Reading.Found.{place_in, read_in}
 use Rattle.run_model.specs.Reading.Items.{PageInput, Taking}
@@ -53,7 +53,7 @@ read_in-measures k _ i half width (OnMessage aborts is_front) = refl
 
 -- a byte that ends a text that is measured
 taking-measures : (k : Known) (reading : LineState) (i : PageInput) (b width : ℕ) (half : List OpenEscape) → ReadsEscapes reading
-    → IsRead b → byte_read (place_in k reading) i.escapes b ≡ (Measures width, half) → taking k reading i b ≡ measuring (settled_input reading half i) reading width
+    → IsRead b → byte_read (place_in k reading) i.escapes b ≡ (Measures width, half) → byte_taking k reading i b ≡ measuring (settled_input reading half i) reading width
 taking-measures k reading i b width half on read reads =
     taking-reads k reading i b on read ∙ ap (read_in k reading i) reads ∙ read_in-measures k reading i half width on
 

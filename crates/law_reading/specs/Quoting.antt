@@ -4,7 +4,7 @@ use Rattle.input_model.specs.Arguments.{no_arguments, kept}
 use Rattle.input_source.specs.Bytes.{newline}
 use Rattle.input_arguments.specs.Quoting.{quoted_line}
 use Rattle.law_reading.specs.InterpolationLaws.{StandsForItself}
-use Rattle.run_model.specs.Reading.{taking}
+use Rattle.run_model.specs.Reading.{byte_taking}
 use Rattle.run_model.specs.Reading.Arguments.{ended_by}
 use Rattle.run_model.specs.Reading.Definitions.{lines_begun}
 use Rattle.run_model.specs.Reading.Items.{PageInput, Taking, going_on}
@@ -30,7 +30,7 @@ both first second = record {
 abbrev pub taking_all : Known → LineState → PageInput → List ℕ → Taking
 taking_all k reading i [] = going_on i reading
 taking_all k reading i (b ∷ bytes) =
-    let t : Taking = taking k reading i b in
+    let t : Taking = byte_taking k reading i b in
     let others : Taking = taking_all k t.reading t.input bytes in record {
       input = others.input;
       reading = others.reading;

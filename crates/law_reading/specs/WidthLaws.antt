@@ -3,7 +3,7 @@
 use Rattle.std.specs.Prelude.{◌≡◌, ℕ, ◌+◌, ◌*◌, Bool, true, false, not, ◌||◌, List, [], ◌∷◌, ◌++◌, decimal, length, map, min, nat_lt, sum_by, All, IsTrue, Option, Some, None, ◌==◌, if◌then◌else◌}
 use Rattle.page_model.specs.Behind.{pending_length}
 use Rattle.page_model.specs.Events.{History}
-use Rattle.page_model.specs.Fields.{is_in_field, plain, told}
+use Rattle.page_model.specs.Fields.{is_in_field, plain, told_plainly}
 use Rattle.page_model.specs.Places.{tab_width}
 use Rattle.page_model.specs.Words.{begun_gap, blanks, has_open_word, is_empty, last_word_glyphs, words}
 use Rattle.page_model.specs.declared.event.Event.TheVariants.{Print, Tab}
@@ -118,7 +118,7 @@ word_gap h = if has_open_word h || is_empty (words h) then 0 else begun_gap (bla
 
 -- the gap before a glyph that is told here: in a field the gap at its end
 abbrev pub gap_begun : History → ℕ
-gap_begun h = elim (told h).field [ None ↦ word_gap (plain h) | Some f ↦ f.gap ]
+gap_begun h = elim (told_plainly h).field [ None ↦ word_gap (plain h) | Some f ↦ f.gap ]
 
 -- a motion is a glyph of so many blanks: the pending line is so much longer behind it, and longer by the gap before it
 -- where it begins a word, or stands behind a gap in a field

@@ -11,7 +11,7 @@ use Rattle.page_model.specs.declared.glyph.Glyph.TheVariants.{Printed, Blanks}
 use Rattle.run_model.proofs.TextBytes.{prints_text}
 use Rattle.run_model.specs.declared.event.PageEvent.TheVariants.{Text}
 use Rattle.run_model.specs.PageEvents.{PageEvent}
-use Rattle.run_model.specs.Reading.{taking}
+use Rattle.run_model.specs.Reading.{byte_taking}
 use Rattle.run_model.specs.Reading.Beginnings.{going_on_told, line_begun_as}
 use Rattle.run_model.specs.Reading.Items.{PageInput, behind_events, meaning_events}
 use Rattle.run_model.specs.Reading.TextLines.{blank_line, escape_taking, text_taking}
@@ -29,7 +29,7 @@ glyph_line = InText (record { has_glyph = true; has_other = false; has_brace = f
 -- where this is read, and this half read, a byte means these events, and that is read behind it, and that half read, if no line goes on
 abbrev pub Means : LineState → List OpenEscape → ℕ → List PageEvent → LineState → List OpenEscape → Type 0
 Means p half b events q next =
-    (k : Known) (i : PageInput) → k.interrupted ≡ None → taking k p (record i { escapes = half }) b ≡ meaning_events
+    (k : Known) (i : PageInput) → k.interrupted ≡ None → byte_taking k p (record i { escapes = half }) b ≡ meaning_events
     (record i { escapes = next }) q events
 
 -- a backslash where a line begins, and within one

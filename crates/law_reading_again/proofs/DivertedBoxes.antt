@@ -10,7 +10,7 @@ use Rattle.page_model.specs.Happenings.{Happening, Does, Places}
 use Rattle.page_model.specs.Layout.{Box, Lined, Empty, Layout}
 use Rattle.page_model.specs.Columns.{printed}
 use Rattle.page_model.specs.Queries.{takes_text}
-use Rattle.page_model.specs.Springs.{first_met, is_on_top, springs}
+use Rattle.page_model.specs.Springs.{first_met, is_on_top, springs_on_page}
 use Rattle.page_model.specs.Turning.{with_event}
 use Rattle.page_model.specs.declared.settings.Settings.{Settings}
 use Rattle.roff_num.specs.declared.short_name.ShortName.{ShortName}
@@ -46,7 +46,7 @@ takes_text-diverted around boxes = by_begun (not (around.layout.begun == 0))
 pub record PutsBox (around : Around) (boxes : List Box) (x : Happening) (b : Box) : Type 0 where
   pub laid : with_event x (holding around boxes) ≡ holding around (b ∷ boxes)
   pub due : text_due x (holding around boxes) ≡ Some (Gets (outer around) (diverted_line b))
-  pub sprung : springs x (holding around boxes) ≡ None
+  pub sprung : springs_on_page x (holding around boxes) ≡ None
   pub unwritten : device_text x (holding around boxes) ≡ []
 
 -- a page that goes on is no other page

@@ -13,14 +13,14 @@ use Rattle.page_model.specs.DivertedText.{diverted_line}
 use Rattle.page_model.specs.DueTexts.{Gets, TextDue, text_due}
 use Rattle.page_model.specs.declared.event.Event.TheVariants.{WordEnd, LineEnd, Count, Break}
 use Rattle.page_model.specs.Events.{History, settings_after}
-use Rattle.page_model.specs.Fields.{Told, is_in_field, so_far, told, told_behind, unfielded}
+use Rattle.page_model.specs.Fields.{Told, is_in_field, so_far, told_plainly, told_behind, unfielded}
 use Rattle.page_model.specs.Fitting.{Word}
 use Rattle.page_model.specs.declared.layout_event.LayoutEvent.TheVariants.{Space}
 use Rattle.page_model.specs.Happenings.{Happening, Does, Places}
 use Rattle.page_model.specs.Layout.{Box, Lined, Empty, Layout}
-use Rattle.page_model.specs.Lines.{Finished, finished as finished_in, pending_length as length_in}
+use Rattle.page_model.specs.Lines.{Finished, finished_in, pending_length as length_in}
 use Rattle.page_model.specs.Settings.{counted}
-use Rattle.page_model.specs.Springs.{springs as springs_on_page}
+use Rattle.page_model.specs.Springs.{springs_on_page}
 use Rattle.page_model.specs.Turning.{with_event}
 use Rattle.page_model.specs.Words.{has_open_word as has_word_in, paragraph}
 use Rattle.page_model.specs.declared.glyph.Glyph.{Glyph}
@@ -108,7 +108,7 @@ behind_empty h = Page (Space 1) ∷ broken h
 
 -- behind the end of a word no field is open, and no word
 told-ended : (around : Around) (boxes : List Box) (gs : List Glyph) (h : PageHistory) (stands : Stands around boxes gs h)
-    → told (text_of (ended h)) ≡ unfielded (WordEnd ∷ stands.events)
+    → told_plainly (text_of (ended h)) ≡ unfielded (WordEnd ∷ stands.events)
 told-ended around boxes gs h stands = ap (told_behind WordEnd) stands.as_told
 
 no_field-ended : (around : Around) (boxes : List Box) (gs : List Glyph) (h : PageHistory) → Stands around boxes gs h

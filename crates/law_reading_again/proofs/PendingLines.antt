@@ -6,7 +6,7 @@ use Rattle.page_model.specs.declared.event.Event.TheVariants.{Print, WordEnd, Li
 use Rattle.page_model.specs.Events.{History, settings_after}
 use Rattle.page_model.specs.Fitting.{Word, begins_line, fits, last_line, line_text, word_text}
 use Rattle.page_model.specs.Glyphs.{glyph_text}
-use Rattle.page_model.specs.Lines.{Finished, empty_line, finished, line_laid_out, pending_length}
+use Rattle.page_model.specs.Lines.{Finished, empty_line, finished_in, line_laid_out, pending_length}
 use Rattle.page_model.specs.Settings.{fills}
 use Rattle.page_model.specs.Words.{Paragraph, blanks, has_open_word, indent_by, is_empty, open_glyphs, open_word, paragraph, word_ended, words}
 use Rattle.page_model.specs.declared.glyph.Glyph.{Glyph}
@@ -26,7 +26,7 @@ no_line-word : (is_open fits : Bool) (line : Finished) → (if is_open && false 
 no_line-word true fits line = refl
 no_line-word false fits line = refl
 
-pub finished-word_end : (T : History) → paragraph T ≡ clear → finished T WordEnd ≡ None
+pub finished-word_end : (T : History) → paragraph T ≡ clear → finished_in T WordEnd ≡ None
 finished-word_end T cleared =
     ap (λ (p : Paragraph).
     if has_open_word T && not (is_empty p.words) && not (fits (last_line p.words) (word_ended p.temporary_indent T))
@@ -34,7 +34,7 @@ finished-word_end T cleared =
     else None) cleared
     ∙ no_line-word (has_open_word T) (not (fits [] (word_ended None T))) (line_laid_out (settings_after T) true [])
 
-pub finished-break : (T : History) → words T ≡ [] → finished T Break ≡ None
+pub finished-break : (T : History) → words T ≡ [] → finished_in T Break ≡ None
 finished-break T none =
     ap (λ (ws : List Word). if is_empty ws then None else Some (line_laid_out (settings_after T) false (last_line ws))) none
 
@@ -61,7 +61,7 @@ words-none T cleared closed =
 -- the line's end finishes it
 pub finished-line_end : (S : Settings) (T : History) (g : Glyph) (gs : List Glyph) → settings_after T ≡ unfilled S → paragraph T ≡ clear
     → open_glyphs T ≡ g ∷ gs
-    → finished (WordEnd ∷ T) LineEnd ≡ Some (plain_line (line_of (g ∷ gs)))
+    → finished_in (WordEnd ∷ T) LineEnd ≡ Some (plain_line (line_of (g ∷ gs)))
 finished-line_end S T g gs settings cleared glyphs =
     let line : Settings → List Word → Option Finished = λ under ws.
     if fills under then None

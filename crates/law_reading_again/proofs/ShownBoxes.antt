@@ -15,7 +15,7 @@ use Rattle.page_model.specs.Stops.{Target, is_diverted, target}
 use Rattle.page_model.specs.Titles.{title_text}
 use Rattle.page_model.specs.Turning.{behind_put, in_innermost, next_behind, page_begun, turned, turned_if_full, turned_unless, unput, with_boxes, with_diversion_trap, with_event, with_mode, without_innermost, without_put}
 use Rattle.page_model.specs.declared.trap.Trap.{Trap}
-use Rattle.run_model.specs.Environments.{Environments, environments, gone_back, is_same, text_of, turned as ring_turned, turned_to, turned_unless as ring_turned_unless}
+use Rattle.run_model.specs.Environments.{Environments, environments, gone_back, is_same, text_of, ring_turned, turned_to, ring_turned_unless}
 use Rattle.run_model.specs.declared.environment_number.EnvironmentNumber.{EnvironmentNumber}
 use Rattle.run_model.specs.Layouts.{laid_out, layout_of, placed}
 use Rattle.run_model.specs.PageEvents.{PageHistory}

@@ -10,8 +10,8 @@ use Rattle.page_model.specs.declared.stop.StopKind.{StopKind}
 use Rattle.page_model.specs.declared.stop.StopKind.TheVariants.{Left as AtLeft, Right as AtRight, Centred as InMiddle}
 use Rattle.page_model.specs.Behind.{finished_by_tab}
 use Rattle.page_model.specs.Events.{History, stops_after}
-use Rattle.page_model.specs.Fields.{Field, Told, field_ended, field_told, is_in_field, motion, plain, so_far, tab_reached, tab_told, told, told_behind, without_gap}
-use Rattle.page_model.specs.Lines.{finished}
+use Rattle.page_model.specs.Fields.{Field, Told, field_ended, field_told, is_in_field, motion, plain, so_far, tab_reached, tab_told, told_plainly, told_behind, without_gap}
+use Rattle.page_model.specs.Lines.{finished_in}
 use Rattle.page_model.specs.Places.{input_place}
 use Rattle.page_model.specs.TabStops.{Way, way_to_next}
 use Rattle.law_reading_again.specs.Shown.{AllShow, IsShown, LinesPrint, Shows}
@@ -85,29 +85,29 @@ behind-shown Resume h field is show are = ((tt, show), are)
 behind-shown (Set p) h field is show are = ((tt, show), are)
 
 -- so behind all
-told-shown : (h : History) → AllShow h → ToldShows (told h)
+told-shown : (h : History) → AllShow h → ToldShows (told_plainly h)
 told-shown [] show = (tt, tt)
 told-shown (e ∷ h) show =
-    let before : ToldShows (told h) = told-shown h show.1 in
-    behind-shown e (told h).events (told h).field show.0 before.0 before.1
+    let before : ToldShows (told_plainly h) = told-shown h show.1 in
+    behind-shown e (told_plainly h).events (told_plainly h).field show.0 before.0 before.1
 
 plain-shown : (h : History) → AllShow h → AllShow (plain h)
 plain-shown h show =
-    let are : ToldShows (told h) = told-shown h show in so_far-shown (told h).events (told h).field are.0 are.1
+    let are : ToldShows (told_plainly h) = told-shown h show in so_far-shown (told_plainly h).events (told_plainly h).field are.0 are.1
 
 -- the line that a tab finishes
 tab-prints : (h : History) (field : Option Field) → AllShow h → FieldShows field → LinePrints (finished_by_tab (told_as h field))
 tab-prints h None show are = tt
 tab-prints h (Some f) show are =
     let moved : History = field_told (motion f) (without_gap f) h in
-    either LinePrints (f.gap == 0) None (finished moved WordEnd) tt
+    either LinePrints (f.gap == 0) None (finished_in moved WordEnd) tt
     (plain_lines_print moved WordEnd (field-shown (motion f) (without_gap f) h are show))
 
 pub lines_print : LinesPrint
 lines_print h Tab show =
-    let are : ToldShows (told h) = told-shown h show in tab-prints (told h).events (told h).field are.0 are.1
+    let are : ToldShows (told_plainly h) = told-shown h show in tab-prints (told_plainly h).events (told_plainly h).field are.0 are.1
 lines_print h WordEnd show =
-    either LinePrints (is_in_field h) None (finished (plain h) WordEnd) tt (plain_lines_print (plain h) WordEnd (plain-shown h show))
+    either LinePrints (is_in_field h) None (finished_in (plain h) WordEnd) tt (plain_lines_print (plain h) WordEnd (plain-shown h show))
 lines_print h LineEnd show = plain_lines_print (plain h) LineEnd (plain-shown h show)
 lines_print h Break show = plain_lines_print (plain h) Break (plain-shown h show)
 lines_print h (Print g) show = tt

@@ -8,7 +8,7 @@ use Rattle.page_model.specs.Columns.{added_columns, printed, spaces, spread}
 use Rattle.page_model.specs.Events.{History, settings_after}
 use Rattle.page_model.specs.Fitting.{Word, fits, gap_text, last_line, line_text, placed, word_text}
 use Rattle.page_model.specs.Glyphs.{glyph_blank, glyph_text}
-use Rattle.page_model.specs.Lines.{Finished, empty_line, finished, line_laid_out, pending_line}
+use Rattle.page_model.specs.Lines.{Finished, empty_line, finished_in, line_laid_out, pending_line}
 use Rattle.page_model.specs.Settings.{fills}
 use Rattle.page_model.specs.Words.{has_open_word, is_empty, open_glyphs, open_word, words}
 use Rattle.page_model.specs.declared.event.Event.{Event}
@@ -168,7 +168,7 @@ prints-pending h by_word show =
     (kept-line (pending_line h) (last_line-shown (words h) (words-shown h show)))
 
 -- told without fields
-pub plain_lines_print : (h : History) (e : Event) → AllShow h → LinePrints (finished h e)
+pub plain_lines_print : (h : History) (e : Event) → AllShow h → LinePrints (finished_in h e)
 plain_lines_print h WordEnd show =
     either LinePrints (has_open_word h && not (is_empty (words h)) && not (fits (pending_line h) (open_word h)))
     (Some (line_laid_out (settings_after h) true (pending_line h))) None (prints-pending h true show) tt

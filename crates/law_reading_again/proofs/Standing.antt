@@ -10,10 +10,10 @@ use Rattle.page_model.specs.declared.event.Event.TheVariants.{Print, WordEnd}
 use Rattle.page_model.specs.declared.event.Event.{Event}
 use Rattle.page_model.specs.Behind.{finished, length_reached}
 use Rattle.page_model.specs.Events.{History, is_interrupted, settings_after}
-use Rattle.page_model.specs.Fields.{Told, so_far, told, told_behind, unfielded}
+use Rattle.page_model.specs.Fields.{Told, so_far, told_plainly, told_behind, unfielded}
 use Rattle.page_model.specs.Happenings.{Places}
 use Rattle.page_model.specs.Layout.{Box, Layout}
-use Rattle.page_model.specs.Lines.{Finished, finished as finished_in, pending_length as length_in}
+use Rattle.page_model.specs.Lines.{Finished, finished_in, pending_length as length_in}
 use Rattle.page_model.specs.Queries.{takes_text}
 use Rattle.page_model.specs.Words.{open_glyphs, paragraph}
 use Rattle.page_model.specs.declared.glyph.Glyph.{Glyph}
@@ -35,7 +35,7 @@ use Rattle.law_reading_again.proofs.PendingLines.{clear, unfilled, finished-word
 -- nothing else is pending: so it is told without fields
 pub record Stands (around : Around) (boxes : List Box) (glyphs : List Glyph) (h : PageHistory) : Type 0 where
   pub events : History
-  pub as_told : told (text_of h) ≡ unfielded events
+  pub as_told : told_plainly (text_of h) ≡ unfielded events
   pub laid : layout_of h ≡ holding around boxes
   pub settings : settings_after events ≡ unfilled around.settings
   pub cleared : paragraph events ≡ clear

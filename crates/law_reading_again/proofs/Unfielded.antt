@@ -9,7 +9,7 @@ use Rattle.page_model.specs.declared.glyph.Glyph.TheVariants.{Blanks}
 use Rattle.page_model.specs.declared.stop.StopKind.{StopKind}
 use Rattle.page_model.specs.declared.stop.StopKind.TheVariants.{Left as AtLeft, Right as AtRight, Centred as InMiddle}
 use Rattle.page_model.specs.Events.{History, settings_after, stops_after}
-use Rattle.page_model.specs.Fields.{Field, Told, field_told, gap_ended, motion, plain, so_far, tab_told, told, told_behind, unfielded, without_gap}
+use Rattle.page_model.specs.Fields.{Field, Told, field_told, gap_ended, motion, plain, so_far, tab_told, told_plainly, told_behind, unfielded, without_gap}
 use Rattle.page_model.specs.Places.{input_place}
 use Rattle.page_model.specs.Settings.{counted, settings_with}
 use Rattle.page_model.specs.TabStops.{Way, way_to_next}
@@ -74,10 +74,10 @@ same-settings Break h i same = same
 same-settings Interrupt h i same = same
 same-settings Resume h i same = same
 
-settings_after-told : (h : History) → settings_after (told h).events ≡ settings_after h
+settings_after-told : (h : History) → settings_after (told_plainly h).events ≡ settings_after h
 settings_after-told [] = refl
 settings_after-told (e ∷ h) =
-    settings_after-behind e (told h).events (told h).field ∙ same-settings e (told h).events h (settings_after-told h)
+    settings_after-behind e (told_plainly h).events (told_plainly h).field ∙ same-settings e (told_plainly h).events h (settings_after-told h)
 
 settings_after-so_far : (h : History) (field : Option Field)
     → settings_after (let t : Told = record { events = h; field = field } in so_far t) ≡ settings_after h
@@ -85,7 +85,7 @@ settings_after-so_far h None = refl
 settings_after-so_far h (Some f) = settings_after-field 0 f h
 
 pub settings_after-plain : (h : History) → settings_after (plain h) ≡ settings_after h
-settings_after-plain h = settings_after-so_far (told h).events (told h).field ∙ settings_after-told h
+settings_after-plain h = settings_after-so_far (told_plainly h).events (told_plainly h).field ∙ settings_after-told h
 
 -- in a field a word is open, so where none is, no field is open
 no_glyphs-field : (columns : ℕ) (h : History) (gs : List Glyph) → open_glyphs (map Print gs ++ Print (Blanks columns) ∷ h) ≡ [] → ⊥
@@ -97,5 +97,5 @@ unfielded-so_far : (h : History) (field : Option Field)
 unfielded-so_far h None none = refl
 unfielded-so_far h (Some f) none = absurd (no_glyphs-field 0 h f.glyphs none)
 
-pub told-no_glyphs : (h : History) → open_glyphs (plain h) ≡ [] → told h ≡ unfielded (plain h)
-told-no_glyphs h none = unfielded-so_far (told h).events (told h).field none
+pub told-no_glyphs : (h : History) → open_glyphs (plain h) ≡ [] → told_plainly h ≡ unfielded (plain h)
+told-no_glyphs h none = unfielded-so_far (told_plainly h).events (told_plainly h).field none

@@ -5,7 +5,7 @@ use Rattle.std.specs.Prelude.{◌&&◌, nat_le, is_some, if◌then◌else◌, �
 use Rattle.std.proofs.lemmas.Bool.{ne_eqb}
 use Rattle.page_model.specs.Behind.{finished, has_open_word}
 use Rattle.page_model.specs.Events.{History}
-use Rattle.page_model.specs.Fields.{Field, Told, is_in_field, so_far, told, told_behind}
+use Rattle.page_model.specs.Fields.{Field, Told, is_in_field, so_far, told_plainly, told_behind}
 use Rattle.page_model.specs.Lines.{Finished}
 use Rattle.page_model.specs.Words.{has_open_word as has_word_in, is_empty}
 use Rattle.page_model.specs.declared.event.Event.TheVariants.{Print, Tab, FieldEnd, WordEnd, Gap, LineEnd, Count, Break, Interrupt as Interrupted, Resume, Set}
@@ -134,7 +134,7 @@ ends (Title which) = EndsNone (λ h. refl) (λ h. refl)
 
 -- behind a word end no word is open that one would end, and a field that was open still is
 closed-word_end : (h : History) → has_open_word (WordEnd ∷ h) ≡ false
-closed-word_end h = by_field (told h).events (told h).field
+closed-word_end h = by_field (told_plainly h).events (told_plainly h).field
   where
     by_field : (events : History) (field : Option Field) → let t : Told = told_behind WordEnd (record { events = events; field = field }) in
         (not (is_some t.field) && has_word_in (so_far t)) ≡ false
@@ -142,7 +142,7 @@ closed-word_end h = by_field (told h).events (told h).field
     by_field events (Some f) = refl
 
 same-field : (h : History) → is_in_field (WordEnd ∷ h) ≡ is_in_field h
-same-field h = by_field (told h).events (told h).field
+same-field h = by_field (told_plainly h).events (told_plainly h).field
   where
     by_field : (events : History) (field : Option Field) → is_some (told_behind WordEnd (record { events = events; field = field })).field ≡ is_some field
     by_field events None = refl

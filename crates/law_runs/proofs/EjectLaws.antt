@@ -15,7 +15,7 @@ use Rattle.page_model.specs.declared.layout_event.LayoutEvent.TheVariants.{ListP
 use Rattle.run_model.specs.Layouts.{layout_of}
 use Rattle.run_model.specs.PageEvents.{PageEvent, PageHistory}
 use Rattle.run_model.specs.Run.{Leads, State, after, step, step_behind, step_with}
-use Rattle.run_model.specs.Springs.{going_on, left_if, left_of, next, page_begin_or}
+use Rattle.run_model.specs.Springs.{eject_going_on, left_if, left_of, next, page_begin_or}
 use Rattle.run_model.specs.Titles.{told}
 use Rattle.run_model.specs.declared.event.PageEvent.TheVariants.{Text, Page}
 use Rattle.run_model.proofs.Leads.{Leads-refl, Leads-step, Leads-to, Leads-trans}
@@ -60,7 +60,7 @@ ends-eject x L eject some stops =
     ends-put x (puts x L) (appended x L) L some (sym (ap (λ (c : Bool). c && rest) eject) ∙ stops)
 
 -- an eject that goes on is left
-left_goes : (e : LayoutEvent) (goes : Bool) → goes ≡ true → IsAmong (Page (going_on e)) (left_if goes e)
+left_goes : (e : LayoutEvent) (goes : Bool) → goes ≡ true → IsAmong (Page (eject_going_on e)) (left_if goes e)
 left_goes e true is = inl refl
 left_goes e false is = absurd (cc)
 
@@ -68,7 +68,7 @@ left_goes e false is = absurd (cc)
 left_or_ended_by : (e : LayoutEvent) (h : PageHistory) (goes : Bool) → goes_on (Does e) (layout_of h) ≡ goes
     → is_eject_event e ≡ true
     → is_some (puts (Does e) (layout_of h)) ≡ true → (layout_of (Page e ∷ h)).is_over ≡ false
-    → ((layout_of h).begun < (layout_of (Page e ∷ h)).begun) ⊎ IsAmong (Page (going_on e)) (left_of h (Page e))
+    → ((layout_of h).begun < (layout_of (Page e ∷ h)).begun) ⊎ IsAmong (Page (eject_going_on e)) (left_of h (Page e))
 left_or_ended_by e h true is eject some on = inr (left_goes e (goes_on (Does e) (layout_of h)) is)
 left_or_ended_by e h false is eject some on = elim (ends-eject (Does e) (layout_of h) eject some is) [
   | inl more ↦ inl more
@@ -77,7 +77,7 @@ left_or_ended_by e h false is eject some on = elim (ends-eject (Does e) (layout_
 
 left_or_ended : (e : LayoutEvent) (h : PageHistory) → is_eject_event e ≡ true → is_some (puts (Does e) (layout_of h)) ≡ true
     → (layout_of (Page e ∷ h)).is_over ≡ false
-    → ((layout_of h).begun < (layout_of (Page e ∷ h)).begun) ⊎ IsAmong (Page (going_on e)) (left_of h (Page e))
+    → ((layout_of h).begun < (layout_of (Page e ∷ h)).begun) ⊎ IsAmong (Page (eject_going_on e)) (left_of h (Page e))
 left_or_ended e h eject some on = left_or_ended_by e h (goes_on (Does e) (layout_of h)) refl eject some on
 
 -- how an eject goes on, for the page of this count
@@ -130,7 +130,7 @@ again EndDivert count h asks begun on = absurd asks
 
 -- a page of no smaller count: it has ended, or it is in force
 ended_or_on : (l : Limits) (from : State) (e : LayoutEvent) (count : ℕ) (t : State) → count ≤ (layout_of t.history).begun
-    → Waits (Page (going_on e)) t
+    → Waits (Page (eject_going_on e)) t
     → HasCome l from e count t
 ended_or_on l from e count t more waits = elim (cases_lt count (layout_of t.history).begun) [
   | inl less ↦ PageEnded less
@@ -141,7 +141,7 @@ ended_or_on l from e count t more waits = elim (cases_lt count (layout_of t.hist
 come-performed : (l : Limits) (from : State) (e : LayoutEvent) (count : ℕ) (x : PageEvent) (left : List PageEvent) (s t : State)
     → PerformedOrStopped l x left s t → count ≤ (layout_of s.history).begun
     → ((layout_of (told s.registers x ∷ s.history)).is_over ≡ false
-    → (count < (layout_of (told s.registers x ∷ s.history)).begun) ⊎ (IsAmong (Page (going_on e)) left ⊎ IsPutBack (Page (going_on e)) s.input.ahead))
+    → (count < (layout_of (told s.registers x ∷ s.history)).begun) ⊎ (IsAmong (Page (eject_going_on e)) left ⊎ IsPutBack (Page (eject_going_on e)) s.input.ahead))
     → HasCome l from e count t
 come-performed l from e count x left s t (Performed allowed on none) more waits = elim (waits on) [
   | inl ended ↦ PageEnded ended
@@ -150,7 +150,7 @@ come-performed l from e count x left s t (Performed allowed on none) more waits 
 come-performed l from e count x left s t (Sprang name allowed on some) more waits = elim (waits on) [
   | inl ended ↦ PageEnded ended
   | inr waiting ↦
-      elim (waits-performed l x (Page (going_on e)) left s t refl (Sprang name allowed on some) waiting) [
+      elim (waits-performed l x (Page (eject_going_on e)) left s t refl (Sprang name allowed on some) waiting) [
         | inl over ↦ RunEnded over
         | inr still ↦ ended_or_on l from e count t (omega (arith, more, begun-event s.registers s.history x)) still
       ]
@@ -160,27 +160,27 @@ come-performed l from e count x left s t (StoppedAt limit) more waits = RunEnded
 
 -- while it waits
 waiting-performed : (l : Limits) (from : State) (e : LayoutEvent) (count : ℕ) (own : Option PageEvent) (x : PageEvent) (es : List PageEvent) (s t : State)
-    → GoesOnFor (going_on e) count → (layout_of s.history).begun ≡ count → ComesBefore s.history x own
-    → IsAmong (Page (going_on e)) (x ∷ es) ⊎ IsPutBack (Page (going_on e)) s.input.ahead
+    → GoesOnFor (eject_going_on e) count → (layout_of s.history).begun ≡ count → ComesBefore s.history x own
+    → IsAmong (Page (eject_going_on e)) (x ∷ es) ⊎ IsPutBack (Page (eject_going_on e)) s.input.ahead
     → PerformedOrStopped l (first_of own x) (left_behind own x es s) s t → HasCome l from e count t
 waiting-performed l from e count own x es s t asks begun (NothingComes none_begins) waits done =
     come-performed l from e count x (left_behind None x es s) s t done (omega (arith, begun)) (by_place waits)
   where
-    by_place : IsAmong (Page (going_on e)) (x ∷ es) ⊎ IsPutBack (Page (going_on e)) s.input.ahead
+    by_place : IsAmong (Page (eject_going_on e)) (x ∷ es) ⊎ IsPutBack (Page (eject_going_on e)) s.input.ahead
         → (layout_of (told s.registers x ∷ s.history)).is_over ≡ false
         → (count < (layout_of (told s.registers x ∷ s.history)).begun)
-        ⊎ (IsAmong (Page (going_on e)) (left_behind None x es s) ⊎ IsPutBack (Page (going_on e)) s.input.ahead)
+        ⊎ (IsAmong (Page (eject_going_on e)) (left_behind None x es s) ⊎ IsPutBack (Page (eject_going_on e)) s.input.ahead)
     by_place (inl (inl is)) on =
         subst
         (λ (first : PageEvent). (layout_of (told s.registers first ∷ s.history)).is_over ≡ false
         → (count < (layout_of (told s.registers first ∷ s.history)).begun)
-        ⊎ (IsAmong (Page (going_on e)) (left_behind None first es s) ⊎ IsPutBack (Page (going_on e)) s.input.ahead))
+        ⊎ (IsAmong (Page (eject_going_on e)) (left_behind None first es s) ⊎ IsPutBack (Page (eject_going_on e)) s.input.ahead))
         (sym is)
-        (λ on. elim (again (going_on e) count s.history asks begun on) [
+        (λ on. elim (again (eject_going_on e) count s.history asks begun on) [
           | inl ended ↦ inl ended
-          | inr among ↦ inr (inl (among-front (Page (going_on e)) (left_of s.history (Page (going_on e))) es among))
+          | inr among ↦ inr (inl (among-front (Page (eject_going_on e)) (left_of s.history (Page (eject_going_on e))) es among))
         ]) on
-    by_place (inl (inr among)) on = inr (inl (among-behind (Page (going_on e)) (left_of s.history (told s.registers x)) es among))
+    by_place (inl (inr among)) on = inr (inl (among-behind (Page (eject_going_on e)) (left_of s.history (told s.registers x)) es among))
     by_place (inr back) on = inr (inr back)
 waiting-performed l from e count own x es s t asks begun (FieldEndComes ends none_begins fewer) waits done =
     come-performed l from e count (Text FieldEnd) (x ∷ es) s t done (omega (arith, begun)) (λ on. inr waits)
@@ -191,7 +191,7 @@ waiting-performed l from e count own x es s t asks begun (PageComes none_begun f
 
 -- and something is read
 come-read : (l : Limits) (from : State) (e : LayoutEvent) (count : ℕ) (s t : State) → Leads l from s → Leads l s t
-    → StillWaits (Page (going_on e)) s t → t.history ≡ s.history
+    → StillWaits (Page (eject_going_on e)) s t → t.history ≡ s.history
     → (layout_of s.history).begun ≡ count → HasCome l from e count t
 come-read l from e count s t leads goes (WaitsStill waits) same begun = GoesOn (ap (λ (h : PageHistory). (layout_of h).begun) same ∙ begun) waits
 come-read l from e count s t leads goes (RunEnds ended) same begun = RunEnded ended
@@ -199,18 +199,18 @@ come-read l from e count s t leads goes (IsLost leaves reads) same begun = Input
 
 waiting-step_with : (l : Limits) (from : State) (e : LayoutEvent) (count : ℕ) (es : List PageEvent) (s : State)
     → Leads l from s → Leads l s (step_with l es s) → s.to_do ≡ es
-    → GoesOnFor (going_on e) count
-    → (layout_of s.history).begun ≡ count → Waits (Page (going_on e)) s → HasCome l from e count (step_with l es s)
+    → GoesOnFor (eject_going_on e) count
+    → (layout_of s.history).begun ≡ count → Waits (Page (eject_going_on e)) s → HasCome l from e count (step_with l es s)
 waiting-step_with l from e count (x ∷ es) s leads goes to_do asks begun waits =
     let own : Option PageEvent = next s.history x in
     waiting-performed l from e count own x es s _ asks begun (comes_before s.history x) (to_come waits) (performed_or_stopped l own x es s)
   where
-    to_come : Waits (Page (going_on e)) s → IsAmong (Page (going_on e)) (x ∷ es) ⊎ IsPutBack (Page (going_on e)) s.input.ahead
-    to_come (inl among) = inl (subst (IsAmong (Page (going_on e))) to_do among)
+    to_come : Waits (Page (eject_going_on e)) s → IsAmong (Page (eject_going_on e)) (x ∷ es) ⊎ IsPutBack (Page (eject_going_on e)) s.input.ahead
+    to_come (inl among) = inl (subst (IsAmong (Page (eject_going_on e))) to_do among)
     to_come (inr back) = inr back
 waiting-step_with l from e count [] s leads goes to_do asks begun waits =
     let reads = ReadsOn-with_sprung l s.follows.sprung s refl in
-    come-read l from e count s _ leads goes (waits-read (Page (going_on e)) l s _ reads to_do waits) (history-read l s _ reads) begun
+    come-read l from e count s _ leads goes (waits-read (Page (eject_going_on e)) l s _ reads to_do waits) (history-read l s _ reads) begun
 
 -- no step takes a page back
 begun-performed : (l : Limits) (x : PageEvent) (left : List PageEvent) (s t : State) → PerformedOrStopped l x left s t
@@ -238,17 +238,17 @@ begun-step_behind l (Some due) s some =
 -- a change of the text of a diversion comes first, if there is one
 waiting-step_behind : (l : Limits) (from : State) (e : LayoutEvent) (count : ℕ) (due : Option TextDue) (s : State)
     → Leads l from s → Leads l s (step_behind l due s) → s.follows.text ≡ due
-    → GoesOnFor (going_on e) count
-    → (layout_of s.history).begun ≡ count → Waits (Page (going_on e)) s → HasCome l from e count (step_behind l due s)
+    → GoesOnFor (eject_going_on e) count
+    → (layout_of s.history).begun ≡ count → Waits (Page (eject_going_on e)) s → HasCome l from e count (step_behind l due s)
 waiting-step_behind l from e count None s leads goes none asks begun waits =
     waiting-step_with l from e count s.to_do s leads goes refl asks begun waits
 waiting-step_behind l from e count (Some due) s leads goes some asks begun waits =
     let reads = ReadsOn-text l due s some in
-    come-read l from e count s _ leads goes (waits-text (Page (going_on e)) l due s waits) (history-read l s _ reads) begun
+    come-read l from e count s _ leads goes (waits-text (Page (eject_going_on e)) l due s waits) (history-read l s _ reads) begun
 
 -- a step
 come-going : (l : Limits) (from : State) (e : LayoutEvent) (count : ℕ) (s : State) → Leads l from s
-    → Leads l s (step_behind l s.follows.text s) → s.ended ≡ None → GoesOnFor (going_on e) count
+    → Leads l s (step_behind l s.follows.text s) → s.ended ≡ None → GoesOnFor (eject_going_on e) count
     → HasCome l from e count s → HasCome l from e count (step_behind l s.follows.text s)
 come-going l from e count s leads goes going asks (PageEnded ended) =
     PageEnded (omega (arith, ended, begun-step_behind l s.follows.text s refl))
@@ -259,7 +259,7 @@ come-going l from e count s leads goes going asks (InputLeft at to_it leaves beh
     InputLeft at to_it leaves (Leads-trans l at s (step_behind l s.follows.text s) behind goes)
 
 come-step : (l : Limits) (from : State) (e : LayoutEvent) (count : ℕ) (s : State) → Leads l from s
-    → GoesOnFor (going_on e) count → HasCome l from e count s
+    → GoesOnFor (eject_going_on e) count → HasCome l from e count s
     → HasCome l from e count (step l s)
 come-step l from e count s leads asks come = elim (ended_or_not s.ended) [
   | inl ended ↦ subst (HasCome l from e count) (sym (step-ended l s ended)) come
@@ -270,7 +270,7 @@ come-step l from e count s leads asks come = elim (ended_or_not s.ended) [
 ]
 
 come-after : (l : Limits) (from : State) (e : LayoutEvent) (count : ℕ) (n : ℕ) (s : State) → Leads l from s
-    → GoesOnFor (going_on e) count
+    → GoesOnFor (eject_going_on e) count
     → HasCome l from e count s → HasCome l from e count (after l n s)
 come-after l from e count zero s leads asks come = come
 come-after l from e count (suc n) s leads asks come =
@@ -293,7 +293,7 @@ asked_alone begun asked t some = by_test (begun == asked) refl some
     by_test false same some = absurd (cc)
 
 goes_on-asks : (e : LayoutEvent) (L : Layout) → is_eject_event e ≡ true → is_some (puts (Does e) L) ≡ true
-    → GoesOnFor (going_on e) L.begun
+    → GoesOnFor (eject_going_on e) L.begun
 goes_on-asks (Eject asked) L eject some = asked_here L.begun asked (not (page_target L).no_space) (page_target L) some
 goes_on-asks (EjectTo asked number) L eject some = asked_alone L.begun asked (page_target L) some
 goes_on-asks (EjectOn asked) L eject some = asked_alone L.begun asked (page_target L) some
@@ -331,7 +331,7 @@ begins-performed l e own rest s t eject some is (NothingComes none_begins) done 
     come-performed l s e (layout_of s.history).begun (Page e) (left_behind None (Page e) rest s) s t done (omega arith)
     (λ on. elim (left_or_ended e s.history eject some on) [
       | inl ended ↦ inl ended
-      | inr among ↦ inr (inl (among-front (Page (going_on e)) (left_of s.history (Page e)) rest among))
+      | inr among ↦ inr (inl (among-front (Page (eject_going_on e)) (left_of s.history (Page e)) rest among))
     ])
 begins-performed l e own rest s t eject some is (FieldEndComes ends none_begins fewer) done = absurd (cc)
 begins-performed l e own rest s t eject some is (WordEndComes none_begins fewer) done = absurd (no_word _ is)

@@ -3,7 +3,7 @@ use Rattle.std.proofs.Common.{◌≡◌, ◌∙◌, Bool, true, false, List, [],
 use Rattle.std.specs.Prelude.{if◌then◌else◌}
 use Rattle.page_model.specs.declared.event.Event.{Event}
 use Rattle.page_model.specs.declared.event.Event.TheVariants.{Interrupt as IsInterrupted}
-use Rattle.run_model.specs.Environments.{PageHistory, InEnvironment, Environments, environments, gone_back, happened, is_same, number_behind, switched_to, turned, turned_to, turned_unless}
+use Rattle.run_model.specs.Environments.{PageHistory, InEnvironment, Environments, environments, gone_back, happened, is_same, number_behind, switched_to, ring_turned, turned_to, ring_turned_unless}
 use Rattle.run_model.specs.declared.environment_number.EnvironmentNumber.{EnvironmentNumber}
 use Rattle.run_model.specs.declared.event.InputTrap.{InputTrap}
 use Rattle.run_model.specs.declared.line_state.TextLine.{TextLine}
@@ -18,7 +18,7 @@ ring number a b c left = record { number = number; in_force = a; next = b; last 
 -- turning the ring leaves each environment as it is
 turned-ring :
     (number n : EnvironmentNumber) (a b c : InEnvironment) (left : List EnvironmentNumber)
-    → environment_of n (turned (ring number a b c left)) ≡ environment_of n (ring number a b c left)
+    → environment_of n (ring_turned (ring number a b c left)) ≡ environment_of n (ring number a b c left)
 turned-ring Zero Zero a b c left = refl
 turned-ring Zero One a b c left = refl
 turned-ring Zero Two a b c left = refl
@@ -29,16 +29,16 @@ turned-ring Two Zero a b c left = refl
 turned-ring Two One a b c left = refl
 turned-ring Two Two a b c left = refl
 
-environment_of-turned : (n : EnvironmentNumber) (es : Environments) → environment_of n (turned es) ≡ environment_of n es
+environment_of-turned : (n : EnvironmentNumber) (es : Environments) → environment_of n (ring_turned es) ≡ environment_of n es
 environment_of-turned n es = turned-ring es.number n es.in_force es.next es.last es.left
 
-environment_of-turned_unless : (is_there : Bool) (n : EnvironmentNumber) (es : Environments) → environment_of n (turned_unless is_there es) ≡ environment_of n es
+environment_of-turned_unless : (is_there : Bool) (n : EnvironmentNumber) (es : Environments) → environment_of n (ring_turned_unless is_there es) ≡ environment_of n es
 environment_of-turned_unless true n es = refl
 environment_of-turned_unless false n es = environment_of-turned n es
 
 pub environment_of-turned_to : (number n : EnvironmentNumber) (es : Environments) → environment_of n (turned_to number es) ≡ environment_of n es
 environment_of-turned_to number n es =
-    let once : Environments = turned_unless (is_same es.number number) es in
+    let once : Environments = ring_turned_unless (is_same es.number number) es in
     environment_of-turned_unless (is_same once.number number) n once ∙ environment_of-turned_unless (is_same es.number number) n es
 
 -- nor does a switch, or going back

@@ -7,7 +7,7 @@ use Rattle.page_model.specs.declared.glyph.Glyph.TheVariants.{Blanks}
 use Rattle.page_model.specs.declared.event.Event.TheVariants.{Print, Gap, Interrupt}
 use Rattle.page_model.specs.Behind.{pending_length}
 use Rattle.page_model.specs.Events.{History}
-use Rattle.page_model.specs.Fields.{Field, Told, field_told, so_far, told, told_behind}
+use Rattle.page_model.specs.Fields.{Field, Told, field_told, so_far, told_plainly, told_behind}
 use Rattle.page_model.specs.Fitting.{Word, last_line, line_text}
 use Rattle.page_model.specs.Glyphs.{glyph_text}
 use Rattle.page_model.specs.Lines.{pending_length as length_in}
@@ -79,7 +79,7 @@ alike-interrupted : (h : History) → IsAlike (Interrupt ∷ h) h
 alike-interrupted h = record { glyphs = refl; on_line = refl; last_word = refl; gap = refl; in_lines = refl }
 
 pub pending_length-interrupted : (h : History) → pending_length (Interrupt ∷ h) ≡ pending_length h
-pending_length-interrupted h = by_field (told h).events (told h).field
+pending_length-interrupted h = by_field (told_plainly h).events (told_plainly h).field
   where
     by_field : (events : History) (field : Option Field) → let t : Told = record { events = events; field = field } in
         length_in (so_far (told_behind Interrupt t)) ≡ length_in (so_far t)

@@ -6,7 +6,7 @@ use Rattle.std.specs.Prelude.{length, if◌then◌else◌}
 use Rattle.roff_num.specs.declared.limit.Limit.{Limit}
 use Rattle.roff_num.specs.declared.limit.Limit.TheVariants.{Messages}
 use Rattle.roff_num.specs.declared.limits.Limits.{Limits}
-use Rattle.run_model.specs.Environments.{PageHistory, Environments, environments, first_environments, gone_back, is_same, turned, turned_to, turned_unless}
+use Rattle.run_model.specs.Environments.{PageHistory, Environments, environments, first_environments, gone_back, is_same, ring_turned, turned_to, ring_turned_unless}
 use Rattle.run_model.specs.declared.environment_number.EnvironmentNumber.{EnvironmentNumber}
 use Rattle.law_runs.specs.Laws.{NoLimitIsPassed}
 use Rattle.run_model.specs.Within.{EnvironmentsWithin, IsWithin}
@@ -69,16 +69,16 @@ IsWithin-same l s t input registers history is = record {
 }
 
 -- turning the ring of environments makes no line longer, and leaves none of them
-within-turned : (l : Limits) (es : Environments) → EnvironmentsWithin l es → EnvironmentsWithin l (turned es)
+within-turned : (l : Limits) (es : Environments) → EnvironmentsWithin l es → EnvironmentsWithin l (ring_turned es)
 within-turned l es is = record { in_force = is.next; next = is.last; last = is.in_force; left = is.left }
 
-within-turned_unless : (l : Limits) (is_there : Bool) (es : Environments) → EnvironmentsWithin l es → EnvironmentsWithin l (turned_unless is_there es)
+within-turned_unless : (l : Limits) (is_there : Bool) (es : Environments) → EnvironmentsWithin l es → EnvironmentsWithin l (ring_turned_unless is_there es)
 within-turned_unless l true es is = is
 within-turned_unless l false es is = within-turned l es is
 
 within-turned_to : (l : Limits) (number : EnvironmentNumber) (es : Environments) → EnvironmentsWithin l es → EnvironmentsWithin l (turned_to number es)
 within-turned_to l number es is =
-    let once : Environments = turned_unless (is_same es.number number) es in
+    let once : Environments = ring_turned_unless (is_same es.number number) es in
     within-turned_unless l (is_same once.number number) once (within-turned_unless l (is_same es.number number) es is)
 
 -- these are left, and no others

@@ -23,7 +23,7 @@ use Rattle.run_model.specs.Environments.{PageHistory, text_of}
 use Rattle.run_model.specs.Layouts.{laid_out, layout_of, placed}
 use Rattle.run_model.specs.Registers.{AllRegisters}
 use Rattle.run_model.specs.Titles.{put_back, title_told, told}
-use Rattle.run_model.specs.Reading.{escape_ended, taking}
+use Rattle.run_model.specs.Reading.{escape_ended, byte_taking}
 use Rattle.run_model.specs.Reading.Ends.{end_taking}
 use Rattle.run_model.specs.Reading.Items.{Taking}
 use Rattle.run_model.specs.Reading.Returns.{back_of, behind_return, gone_back_to}
@@ -217,11 +217,11 @@ meant-ahead_taken : (closing : Bool) (item : Ahead PageEvent) (behind : List (Ah
     → HasMeant closing s → HasMeant closing (ahead_taken item (record s { input = item_taken item behind s.input }))
 meant-ahead_taken closing (ByteAhead b) behind s ahead is =
     let taken : State = record s { input = item_taken (ByteAhead b) behind s.input } in
-    meant-taken closing (taking (known taken) s.reading taken.input b) taken (Means-taking (known taken) s.reading taken.input b)
+    meant-taken closing (byte_taking (known taken) s.reading taken.input b) taken (Means-taking (known taken) s.reading taken.input b)
     (record { to_do = is.to_do; ahead = ahead })
 meant-ahead_taken closing (FreeAhead b) behind s ahead is =
     let taken : State = record s { input = item_taken (FreeAhead b) behind s.input } in
-    meant-taken closing (taking (known taken) s.reading taken.input b) taken (Means-taking (known taken) s.reading taken.input b)
+    meant-taken closing (byte_taking (known taken) s.reading taken.input b) taken (Means-taking (known taken) s.reading taken.input b)
     (record { to_do = is.to_do; ahead = ahead })
 meant-ahead_taken closing EndAhead behind s ahead is = record { to_do = is.to_do; ahead = ahead }
 meant-ahead_taken closing (ReturnAhead back) behind s ahead is =
@@ -270,7 +270,7 @@ meant-read closing l s t (AheadTaken item behind ahead charge is_made) is =
     inl (meant-ahead_taken closing item behind s (subst (AllMeantAhead closing) ahead is.ahead) is)
 meant-read closing l s t (ByteTaken b none is_open gives charge is_made) is =
     let taken : State = moved (record s { input = counting b s.input }) in
-    inl (meant-taken closing (taking (known taken) s.reading taken.input b) taken (Means-taking (known taken) s.reading taken.input b)
+    inl (meant-taken closing (byte_taking (known taken) s.reading taken.input b) taken (Means-taking (known taken) s.reading taken.input b)
     (record { to_do = is.to_do; ahead = is.ahead }))
 meant-read closing l s t (NoteTaken message is_open gives) is = inl (record { to_do = is.to_do; ahead = is.ahead })
 meant-read closing l s t (HalfEnds first others half is_made) is =

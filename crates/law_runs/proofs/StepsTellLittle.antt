@@ -8,7 +8,7 @@ use Rattle.roff_num.specs.declared.limits.Limits.{Limits}
 use Rattle.roff_num.specs.declared.num.Num.{Num}
 use Rattle.run_model.specs.Messages.{message_line, message_lines}
 use Rattle.run_model.specs.PageEvents.{PageEvent}
-use Rattle.run_model.specs.Reading.{escape_ended, taking}
+use Rattle.run_model.specs.Reading.{escape_ended, byte_taking}
 use Rattle.run_model.specs.Reading.Ends.{end_taking}
 use Rattle.run_model.specs.Reading.Items.{Taking}
 use Rattle.run_model.specs.Reading.Returns.{behind_return, gone_back_to, line_of}
@@ -55,9 +55,9 @@ TellsLittle-taken_as t s before same brief =
 
 -- a byte, and an item ahead
 TellsLittle-byte : (b : ℕ) (s before : State) → before.messages ≡ s.messages → most_held before.input ≤ most_held s.input → NamesRequest before.reading
-    → TellsLittle s (taken_as (taking (known before) before.reading before.input b) before)
+    → TellsLittle s (taken_as (byte_taking (known before) before.reading before.input b) before)
 TellsLittle-byte b s before same held named =
-    let t : Taking = taking (known before) before.reading before.input b in
+    let t : Taking = byte_taking (known before) before.reading before.input b in
     TellsLittle-taken_as t s before same (Brief-more t held (Brief-taking (known before) before.reading before.input b named))
 
 -- what is gone back to names no request

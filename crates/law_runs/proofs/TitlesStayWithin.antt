@@ -11,7 +11,7 @@ use Rattle.run_model.specs.Environments.{PageHistory}
 use Rattle.run_model.specs.PageEvents.{PageEvent}
 use Rattle.run_model.specs.declared.event.PageEvent.TheVariants.{Text, Page, Interrupt, Environment, Back, InputTrap as SetsTrap, Title}
 use Rattle.run_model.specs.declared.title.WhichTitle.TheVariants.{Read, Kept}
-use Rattle.run_model.specs.Reading.{escape_ended, taking}
+use Rattle.run_model.specs.Reading.{escape_ended, byte_taking}
 use Rattle.run_model.specs.Reading.Ends.{end_taking}
 use Rattle.run_model.specs.Registers.{AllRegisters, Change, SetTo, FormatAs, Remove, StepBy, ReadLast, CharacterIs, TitleBegins, TitleGets, PartEnds, changed_by, changed_by_all, is_page, is_read_only}
 use Rattle.run_model.specs.Requests.{called_by}
@@ -107,8 +107,8 @@ titles-same : (l : Limits) (s t : State) → t.registers.kept_title ≡ s.regist
 titles-same l s t kept history within is = record { read = within.title; kept = rw kept is.kept; placed = rw history is.placed }
 
 kept-ahead_taken : (item : Ahead PageEvent) (s : State) → (ahead_taken item s).registers.kept_title ≡ s.registers.kept_title
-kept-ahead_taken (ByteAhead b) s = kept-changed (taking (known s) s.reading s.input b).effect.changes s.registers
-kept-ahead_taken (FreeAhead b) s = kept-changed (taking (known s) s.reading s.input b).effect.changes s.registers
+kept-ahead_taken (ByteAhead b) s = kept-changed (byte_taking (known s) s.reading s.input b).effect.changes s.registers
+kept-ahead_taken (FreeAhead b) s = kept-changed (byte_taking (known s) s.reading s.input b).effect.changes s.registers
 kept-ahead_taken EndAhead s = refl
 kept-ahead_taken (ReturnAhead back) s = refl
 kept-ahead_taken (DoAhead e) s = refl
@@ -131,7 +131,7 @@ titles-read l s t (AheadTaken item behind ahead charge is_made) within is =
     titles-same l s t (kept-ahead_taken item taken) (Behind-ahead_taken item taken).history within is
 titles-read l s t (ByteTaken b none is_open gives charge is_made) within is =
     let taken : State = moved (record s { input = counting b s.input }) in
-    titles-same l s t (kept-changed (taking (known taken) s.reading taken.input b).effect.changes s.registers) refl within is
+    titles-same l s t (kept-changed (byte_taking (known taken) s.reading taken.input b).effect.changes s.registers) refl within is
 titles-read l s t (NoteTaken message is_open gives) within is = titles-same l s t refl refl within is
 titles-read l s t (HalfEnds first others half is_made) within is =
     titles-same l s t (kept-changed (escape_ended (known s) s.reading s.input).effect.changes s.registers) refl within is

@@ -10,7 +10,7 @@ use Rattle.page_model.specs.Happenings.{Happening, Does, Places, Titles, is_ejec
 use Rattle.page_model.specs.Layout.{Box, Diversion, Layout, page_place}
 use Rattle.page_model.specs.Puts.{Put, appended, boxes_put, ejected_if, puts}
 use Rattle.roff_pages.specs.Reach.{IsMetAtEnd}
-use Rattle.page_model.specs.Springs.{first_met, is_on_top, is_passed, passed, passed_in, springs as springs_on_page}
+use Rattle.page_model.specs.Springs.{first_met, is_on_top, is_passed, passed, passed_in, springs_on_page}
 use Rattle.page_model.specs.Stops.{Target, is_diverted, page_target, place_of, target}
 use Rattle.page_model.specs.Turning.{behind_put, next_behind, page_begun, turned_if_full, turned_unless, unput, with_boxes, with_event}
 use Rattle.page_model.specs.declared.layout_event.LayoutEvent.{LayoutEvent}

@@ -7,7 +7,7 @@ use Rattle.input_model.specs.Input.Calls.{called_text}
 use Rattle.input_model.specs.Input.Names.{body_named}
 use Rattle.roff_num.specs.ShortNames.{name_bytes}
 use Rattle.run_model.specs.PageEvents.{PageEvent}
-use Rattle.run_model.specs.Reading.{escape_ended, taking}
+use Rattle.run_model.specs.Reading.{escape_ended, byte_taking}
 use Rattle.run_model.specs.Reading.Ends.{end_taking}
 use Rattle.run_model.specs.Reading.Items.{Taking}
 use Rattle.run_model.specs.Reading.Returns.{back_of}
@@ -81,11 +81,11 @@ waits-ahead_taken : (e : PageEvent) (item : Ahead PageEvent) (behind : List (Ahe
 waits-ahead_taken e (ByteAhead b) behind s (inl is) = absurd (cc)
 waits-ahead_taken e (ByteAhead b) behind s (inr back) =
     let taken : State = record s { input = item_taken (ByteAhead b) behind s.input } in
-    waits-taken e (taking (known taken) s.reading taken.input b) taken (Means-taking (known taken) s.reading taken.input b) back
+    waits-taken e (byte_taking (known taken) s.reading taken.input b) taken (Means-taking (known taken) s.reading taken.input b) back
 waits-ahead_taken e (FreeAhead b) behind s (inl is) = absurd (cc)
 waits-ahead_taken e (FreeAhead b) behind s (inr back) =
     let taken : State = record s { input = item_taken (FreeAhead b) behind s.input } in
-    waits-taken e (taking (known taken) s.reading taken.input b) taken (Means-taking (known taken) s.reading taken.input b) back
+    waits-taken e (byte_taking (known taken) s.reading taken.input b) taken (Means-taking (known taken) s.reading taken.input b) back
 waits-ahead_taken e EndAhead behind s (inl is) = absurd (cc)
 waits-ahead_taken e EndAhead behind s (inr back) = inr back
 waits-ahead_taken e (ReturnAhead code) behind s (inl is) = absurd (cc)

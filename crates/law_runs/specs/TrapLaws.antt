@@ -15,7 +15,7 @@ use Rattle.page_model.specs.Stops.{is_diverted, place_of}
 use Rattle.run_model.specs.Layouts.{happens, layout_of}
 use Rattle.run_model.specs.PageEvents.{PageEvent, PageHistory, PastEvent}
 use Rattle.run_model.specs.Run.{Leads, State, after}
-use Rattle.run_model.specs.Springs.{going_on, springs}
+use Rattle.run_model.specs.Springs.{eject_going_on, springs}
 use Rattle.run_model.specs.declared.event.PageEvent.TheVariants.{Page}
 use Rattle.run_model.specs.declared.line_state.LineState.TheVariants.{Exiting}
 use Rattle.run_model.specs.declared.phase.Phase.TheVariants.{Closing}
@@ -89,7 +89,7 @@ pub record LeavesInput (s : State) : Type 0 where
 -- on; or the run ended; or an `ex` on the way has left all that waited.
 pub data HasCome (l : Limits) (from : State) (e : LayoutEvent) (count : ℕ) (s : State) : Type 0 where
   PageEnded : count < (layout_of s.history).begun → HasCome l from e count s
-  GoesOn : (layout_of s.history).begun ≡ count → Waits (Page (going_on e)) s → HasCome l from e count s
+  GoesOn : (layout_of s.history).begun ≡ count → Waits (Page (eject_going_on e)) s → HasCome l from e count s
   RunEnded : IsSome s.ended → HasCome l from e count s
   InputLeft : (at : State) → Leads l from at → LeavesInput at → Leads l at s → HasCome l from e count s
 

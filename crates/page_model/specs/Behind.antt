@@ -3,9 +3,9 @@
 use Rattle.std.specs.Prelude.{ℕ, Bool, not, ◌&&◌, List, [], ◌∷◌, max, Option, Some, None, if◌then◌else◌, ◌==◌}
 use Rattle.std.specs.List.{cons_option}
 use Rattle.page_model.specs.Events.{Event, Tab, FieldEnd, WordEnd, LineEnd, Break, History}
-use Rattle.page_model.specs.Fields.{Field, Told, field_told, is_in_field, motion, plain, told, without_gap}
+use Rattle.page_model.specs.Fields.{Field, Told, field_told, is_in_field, motion, plain, told_plainly, without_gap}
 use Rattle.page_model.specs.LastLine.{newest_text, newest_width}
-use Rattle.page_model.specs.Lines.{Finished, finished as finished_in, pending_length as length_in}
+use Rattle.page_model.specs.Lines.{Finished, finished_in, pending_length as length_in}
 use Rattle.page_model.specs.Places.{has_line_glyph as has_glyph_in, input_place as place_in}
 use Rattle.page_model.specs.Words.{has_open_word as has_word_in}
 
@@ -40,7 +40,7 @@ finished_by_tab t =
 
 -- the line that an event finishes, if it finishes one
 abbrev pub finished : History → Event → Option Finished
-finished h Tab = finished_by_tab (told h)
+finished h Tab = finished_by_tab (told_plainly h)
 finished h WordEnd = if is_in_field h then None else finished_in (plain h) WordEnd
 finished h LineEnd = finished_in (plain h) LineEnd
 finished h Break = finished_in (plain h) Break

@@ -103,14 +103,14 @@ told_behind Break t = unfielded (Break ∷ so_far t)
 told_behind e t = record t { events = e ∷ t.events }
 
 -- what happened, told without fields
-abbrev pub told : History → Told
-told [] = unfielded []
-told (e ∷ h) = told_behind e (told h)
+abbrev pub told_plainly : History → Told
+told_plainly [] = unfielded []
+told_plainly (e ∷ h) = told_behind e (told_plainly h)
 
 -- whether a field is open
 abbrev pub is_in_field : History → Bool
-is_in_field h = is_some (told h).field
+is_in_field h = is_some (told_plainly h).field
 
 -- all that happened so far, without fields
 abbrev pub plain : History → History
-plain h = so_far (told h)
+plain h = so_far (told_plainly h)

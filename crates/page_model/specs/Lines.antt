@@ -70,18 +70,18 @@ abbrev pub empty_line : Settings → Finished
 empty_line s = record { text = []; lead = 0; spare = 0; gaps = 0; after = s.spacing - 1 }
 
 -- the line that an event finishes, if it finishes one
-abbrev pub finished : History → Event → Option Finished
+abbrev pub finished_in : History → Event → Option Finished
 -- a word that doesn't fit finishes the line before it
-finished h WordEnd =
+finished_in h WordEnd =
     if has_open_word h && not (is_empty (words h)) && not (fits (pending_line h) (open_word h))
     then Some (line_laid_out (settings_after h) true (pending_line h))
     else None
 -- where words aren't measured each line's end does, and without filling a line without a word is empty
-finished h LineEnd =
+finished_in h LineEnd =
     if fills (settings_after h) then None
     else if is_empty (words h) then (if (settings_after h).filling then None else Some (empty_line (settings_after h)))
     else Some (line_laid_out (settings_after h) false (pending_line h))
 -- a break finishes what is pending
-finished h Break =
+finished_in h Break =
     if is_empty (words h) then None else Some (line_laid_out (settings_after h) false (pending_line h))
-finished h (_) = None
+finished_in h (_) = None

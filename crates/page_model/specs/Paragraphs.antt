@@ -8,12 +8,12 @@ use Rattle.page_model.specs.declared.settings.Settings.{Settings}
 use Rattle.page_model.specs.Settings.{initial_settings, fills}
 use Rattle.page_model.specs.Events.{LineEnd, Break, History, settings_after}
 use Rattle.page_model.specs.Fitting.{Word}
-use Rattle.page_model.specs.Lines.{Finished, line_laid_out, finished}
+use Rattle.page_model.specs.Lines.{Finished, line_laid_out, finished_in}
 
 -- the lines that a history finishes
 abbrev pub finished_lines : History → List Finished
 finished_lines [] = []
-finished_lines (e ∷ h) = cons_option (finished h e) (finished_lines h)
+finished_lines (e ∷ h) = cons_option (finished_in h e) (finished_lines h)
 
 -- the history up to its last break; where words aren't measured, a line's end is one
 abbrev pub until_break : History → History

@@ -39,8 +39,8 @@ passed x from to L = if is_eject x then first_met (is_passed from to) L.length L
 
 -- what springs behind a happening: where a page begins, the first planted trap at its beginning, and else the first planted
 -- that was passed; nothing where the layout is over
-abbrev pub springs : Happening → Layout → Option ShortName
-springs x L =
+abbrev pub springs_on_page : Happening → Layout → Option ShortName
+springs_on_page x L =
     let behind = with_event x L in
     let from = (target x L).place in
     if behind.is_over then None

@@ -18,7 +18,7 @@ use Rattle.run_model.specs.Output.{PageHistory}
 use Rattle.read_lines.specs.Reader.State.{ReaderState}
 use Rattle.read_lines.specs.Reader.Taken.{IsReady, TakesAs, Took}
 use Rattle.run_model.specs.Reading.Items.{PageUnread, PageInput, Taking, behind_events, going_on}
-use Rattle.run_model.specs.Reading.{escape_ended, undropped_taking, taking}
+use Rattle.run_model.specs.Reading.{escape_ended, undropped_taking, byte_taking}
 use Rattle.run_model.specs.Reading.Branches.{branch_of}
 use Rattle.run_model.specs.Reading.Found.{found_in, place_in}
 use Rattle.input_escapes.specs.declared.open_escape.Decision.TheVariants.{Is}
@@ -216,15 +216,15 @@ first_escape-any k i (InTitle delimiter) b in_branch no_newline = ap (λ (c : Bo
 
 -- by whether a byte is dropped
 pub taking-of : (k : Known) (r : LineState) (i : PageInput) (b : ℕ) (c : Bool) → c ≡ is_dropped b
-    → (if c then going_on (interrupted r i) r else undropped_taking k r i b) ≡ taking k r i b
+    → (if c then going_on (interrupted r i) r else undropped_taking k r i b) ≡ byte_taking k r i b
 taking-of k r i b c is = ap (λ (dropped : Bool). if dropped then going_on (interrupted r i) r else undropped_taking k r i b) is
 
 -- a byte that isn't dropped
 pub TakesAs-undropped : (b : ℕ) (es : ComposerOf) (old new : ReaderState) (before behind : PageUnread) (result : Result Step Limit) → false ≡ is_dropped b
     → TakesAs (λ k. undropped_taking k old.reading before.input b) es old new before behind result
-    → TakesAs (λ k. taking k old.reading before.input b) es old new before behind result
+    → TakesAs (λ k. byte_taking k old.reading before.input b) es old new before behind result
 TakesAs-undropped b es old new before behind result is takes =
-    TakesAs-as (λ k. undropped_taking k old.reading before.input b) (λ k. taking k old.reading before.input b) es old new before behind result
+    TakesAs-as (λ k. undropped_taking k old.reading before.input b) (λ k. byte_taking k old.reading before.input b) es old new before behind result
     (λ k. taking-of k old.reading before.input b false is) takes
 
 -- within a line whose bytes are collected the end of the input is a newline, but of a string and of a definition

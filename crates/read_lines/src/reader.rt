@@ -12,7 +12,7 @@ ghost use Rattle.run_model.specs.declared.step.Step.TheVariants.{Nothing};
 ghost use Rattle.read_lines.specs.Clauses.{LineStart, fresh_reader};
 ghost use Rattle.read_lines.specs.Clauses.{Known, interrupted, is_left, is_unfinished};
 ghost use Rattle.read_lines.specs.Clauses.{due};
-ghost use Rattle.run_model.specs.Registers.Capped.{admitted, after};
+ghost use Rattle.run_model.specs.Registers.Capped.{change_admitted, after_change};
 ghost use Rattle.run_model.specs.Starts.{given_change};
 ghost use Rattle.run_model.specs.declared.phase.Phase.{Phase};
 ghost use Rattle.read_lines.specs.Clauses.{behind_return};
@@ -103,9 +103,9 @@ impl Reader {
     ///
     /// [`Limit::Names`] if more names than may would have a register; nothing changed then.
     pub fn give(&mut self, name: u8, value: Num) -> Result<(), Limit>
-        ensures answer { result ≡ admitted (given_change name value) self.old.registers }
+        ensures answer { result ≡ change_admitted (given_change name value) self.old.registers }
         ensures registers { self.new ≡ record self.old {
-          registers = after (given_change name value) self.old.registers;
+          registers = after_change (given_change name value) self.old.registers;
         } }
     {
         self.lasting.registers.give(name, value)

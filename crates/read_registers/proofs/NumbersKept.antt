@@ -6,12 +6,12 @@ use Rattle.roff_num.specs.declared.num.Num.{Num}
 use Rattle.roff_num.specs.declared.short_name.ShortName.{ShortName}
 use Rattle.roff_store.specs.Registers.{Registers}
 use Rattle.run_model.specs.Registers.{AllRegisters, Change, Known, known_behind}
-use Rattle.run_model.specs.Registers.Capped.{Capped, after, is_past_cap, with_change}
+use Rattle.run_model.specs.Registers.Capped.{Capped, after_change, is_past_cap, with_change}
 use Rattle.read_registers.specs.Lasting.{NumbersKept, TitlesKept, capped_of}
 use Rattle.read_registers.specs.Registers.Coded.{AreNumbersOf}
 
 -- a change past which no more names have a register than may is made
-pub after-within : (change : Change) (r : Capped) → is_past_cap (with_change change r) ≡ false → with_change change r ≡ after change r
+pub after-within : (change : Change) (r : Capped) → is_past_cap (with_change change r) ≡ false → with_change change r ≡ after_change change r
 after-within change r few = sym (ap (λ (past : Bool). if past then r else with_change change r) few)
 
 -- registers with what they have of numbers

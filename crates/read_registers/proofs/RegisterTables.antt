@@ -12,7 +12,7 @@ use Rattle.roff_store.specs.Named.{Table, entry_of, with_entry, has_room, put_in
 use Rattle.roff_store.specs.Registers.{Call, Registers, after as after_call, register_of, with_setting, with_format}
 use Rattle.roff_store.specs.declared.register.Register.{Register}
 use Rattle.run_model.specs.Registers.{AllRegisters, Change, SetTo, FormatAs, is_page, is_read_only}
-use Rattle.run_model.specs.Registers.Capped.{Capped, admitted, after, is_past_cap, with_change}
+use Rattle.run_model.specs.Registers.Capped.{Capped, change_admitted, after_change, is_past_cap, with_change}
 use Rattle.read_registers.specs.Registers.Kept.{IsCounted, with_table}
 
 -- a call leaves the names counted
@@ -52,7 +52,7 @@ pub record GivesTo (name : List ℕ) (r : Register) (t : Table Register) (rs : A
 
 -- the table answers what asking for the change does
 pub admitted-given : (name : List ℕ) (r : Register) (t : Table Register) (rs : AllRegisters) (line : ℕ) (change : Change)
-    → length t.entries ≤ t.cap → GivesTo name r t rs line change → admitted_name name t ≡ admitted change (with_table t rs line)
+    → length t.entries ≤ t.cap → GivesTo name r t rs line change → admitted_name name t ≡ change_admitted change (with_table t rs line)
 admitted-given name r t rs line change within gives =
     let refusing : Capped → Result (Unit {0}) Limit = λ next. if is_past_cap next then Err Names else Ok tt in
     by_room-by_limit (has_room name t) _ (Ok tt) (Err Names) (past-with_entry name r t within) ∙ ap refusing (sym gives.changed)
@@ -60,7 +60,7 @@ admitted-given name r t rs line change within gives =
 -- and is what is left behind it
 pub with_table-given : (name : List ℕ) (r : Register) (t : Table Register) (rs : AllRegisters) (line : ℕ) (change : Change)
     → length t.entries ≤ t.cap → GivesTo name r t rs line change
-    → with_table (put_into name r t) rs line ≡ after change (with_table t rs line)
+    → with_table (put_into name r t) rs line ≡ after_change change (with_table t rs line)
 with_table-given name r t rs line change within gives =
     let u : Table Register = record t { entries = with_entry name r t.entries } in
     let chosen : Capped → Capped = λ next. if is_past_cap next then with_table t rs line else next in

@@ -2,7 +2,7 @@
 
 ghost use Rattle.std.specs.Prelude.{◌≡◌, IfOk};
 ghost use Rattle.run_model.specs.Registers.{no_registers};
-ghost use Rattle.run_model.specs.Registers.Capped.{admitted, after};
+ghost use Rattle.run_model.specs.Registers.Capped.{change_admitted, after_change};
 
 use crate::registers::RunRegisters;
 use crate::titles::Titles;
@@ -77,8 +77,8 @@ impl Lasting {
     ///
     /// [`Limit::Names`] if more names than may would have a register; all is then as it was.
     pub fn apply(&mut self, change: &Change) -> Result<(), Limit>
-        ensures answer { result ≡ admitted (change_of change.now) self.old }
-        ensures changed { self.new ≡ after (change_of change.now) self.old }
+        ensures answer { result ≡ change_admitted (change_of change.now) self.old }
+        ensures changed { self.new ≡ after_change (change_of change.now) self.old }
     {
         match change {
             Change::SetTo {

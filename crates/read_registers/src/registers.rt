@@ -73,7 +73,7 @@ impl RunRegisters {
     ghost use Rattle.run_model.specs.Registers.{known_stepped, page_register};
     ghost use Rattle.run_model.specs.Registers.{page_stepped, settable, step_messages};
     ghost use Rattle.run_model.specs.Registers.{text_of_register, value_in_force};
-    ghost use Rattle.run_model.specs.Registers.Capped.{admitted, after, with_change};
+    ghost use Rattle.run_model.specs.Registers.Capped.{change_admitted, after_change, with_change};
     ghost use Rattle.read_registers.specs.Lasting.{TitlesKept, capped_of, no_numbers};
     ghost use Rattle.read_registers.specs.Registers.Coded.{AreNumbersOf, AreOf};
     ghost use Rattle.roff_num.specs.declared.short_name.ShortName.{ShortName as NameOf};
@@ -185,10 +185,10 @@ impl RunRegisters {
     /// they were.
     pub fn give(&mut self, name: u8, value: Num) -> Result<(), Limit>
         ensures answer { (t : TitlesKept) (last : Option NameOf)
-            → result ≡ admitted (given_change name value) (capped_of self.old t last) }
+            → result ≡ change_admitted (given_change name value) (capped_of self.old t last) }
         ensures registers { (t : TitlesKept) (last : Option NameOf)
             → capped_of self.new t last
-            ≡ after (given_change name value) (capped_of self.old t last) }
+            ≡ after_change (given_change name value) (capped_of self.old t last) }
     {
         let name = ShortName {
             first: name,
@@ -260,10 +260,10 @@ impl RunRegisters {
     #[inline(always)]
     pub fn set(&mut self, name: &Name, value: Num, increment: Num) -> Result<(), Limit>
         ensures answer { (t : TitlesKept) (last : Option NameOf)
-            → result ≡ admitted (SetTo name.now value increment) (capped_of self.old t last) }
+            → result ≡ change_admitted (SetTo name.now value increment) (capped_of self.old t last) }
         ensures registers { (t : TitlesKept) (last : Option NameOf)
             → capped_of self.new t last
-            ≡ after (SetTo name.now value increment) (capped_of self.old t last) }
+            ≡ after_change (SetTo name.now value increment) (capped_of self.old t last) }
     {
         let RunRegisters {
             named,
@@ -283,10 +283,10 @@ impl RunRegisters {
     /// Sets how a register is written.
     pub(crate) fn set_format(&mut self, name: &Name, format: Format) -> Result<(), Limit>
         ensures answer { (t : TitlesKept) (last : Option NameOf)
-            → result ≡ admitted (FormatAs name.now format) (capped_of self.old t last) }
+            → result ≡ change_admitted (FormatAs name.now format) (capped_of self.old t last) }
         ensures registers { (t : TitlesKept) (last : Option NameOf)
             → capped_of self.new t last
-            ≡ after (FormatAs name.now format) (capped_of self.old t last) }
+            ≡ after_change (FormatAs name.now format) (capped_of self.old t last) }
     {
         let RunRegisters {
             named,

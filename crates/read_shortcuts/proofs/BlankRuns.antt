@@ -20,7 +20,7 @@ use Rattle.read_shortcuts.proofs.RunsRead.{reads-taken, turned-behind}
 use Rattle.read_lines.proofs.TextTaken.{plain-found}
 use Rattle.read_lines.specs.Reader.State.{ReaderState}
 use Rattle.run_model.specs.Reading.Items.{PageUnread}
-use Rattle.run_model.specs.Reading.{taking}
+use Rattle.run_model.specs.Reading.{byte_taking}
 use Rattle.run_model.specs.Reading.Beginnings.{at_start}
 use Rattle.run_model.specs.Reading.Ends.{due}
 use Rattle.run_model.specs.Reading.Found.{read_in}
@@ -40,11 +40,11 @@ led line n = record line { leading = n }
 
 -- where there is a leading blank, another one only counts
 counts-blank : (k : Known) (i : PageInput) (line : TextLine) (n b : ℕ) → i.escapes ≡ [] → line.has_glyph ≡ false → 1 ≤ n → (b == blank) ≡ true
-    → taking k (InText (led line n)) i b ≡ going_on i (InText (led line (min (n + 1) most_leading)))
+    → byte_taking k (InText (led line n)) i b ≡ going_on i (InText (led line (min (n + 1) most_leading)))
 counts-blank k i line n b none_half no_glyph some is =
     let next : LineState = InText (led line (min (n + 1) most_leading)) in
     let more : (n == 0) ≡ false = ne_eqb n 0 (λ none. absurd (omega (arith, none, some))) in
-    subst (λ (c : ℕ). taking k (InText (led line n)) i c ≡ going_on i next) (sym (eqb-true b blank is))
+    subst (λ (c : ℕ). byte_taking k (InText (led line n)) i c ≡ going_on i next) (sym (eqb-true b blank is))
     (sym (plain-found k (InText (led line n)) i blank none_half refl)
     ∙ ap (λ (c : Bool). if c then meaning_events i (InText (led line n)) (Text WordEnd ∷ Text (Gap 1) ∷ []) else meaning_events i next (if n == 0 then Text WordEnd ∷ Text Break ∷ [] else [])) no_glyph
     ∙ ap (λ (c : Bool). meaning_events i next (if c then Text WordEnd ∷ Text Break ∷ [] else [])) more)
@@ -116,7 +116,7 @@ reads-blanks gave gives ready line behind count old new before after none_half i
 -- a blank where a branch begins is passed over
 pub passes-blank : (b : ℕ) → (b == blank) ≡ true → Ignores Branch b
 passes-blank b is = λ k i none_half.
-    subst (λ (c : ℕ). taking k Branch i c ≡ going_on i Branch) (sym (eqb-true b blank is))
+    subst (λ (c : ℕ). byte_taking k Branch i c ≡ going_on i Branch) (sym (eqb-true b blank is))
     (ap (λ (half : List OpenEscape). read_in k Branch i (byte_read (at_start k) half 32)) none_half
     ∙ ap (λ (half : List OpenEscape). going_on (record i { escapes = half }) Branch) (sym none_half))
 

@@ -13,7 +13,7 @@ use Rattle.run_model.proofs.PlainRuns.{behind_byte}
 use Rattle.read_shortcuts.proofs.PrintedRuns.{Fits, told_at}
 use Rattle.run_model.specs.Output.{PageHistory}
 use Rattle.run_model.specs.PageEvents.{PageEvent}
-use Rattle.run_model.specs.Reading.{taking}
+use Rattle.run_model.specs.Reading.{byte_taking}
 use Rattle.run_model.specs.Reading.Ends.{due}
 use Rattle.run_model.specs.Reading.Items.{PageInput, Taking, meaning_events}
 use Rattle.run_model.specs.Registers.{AllRegisters}
@@ -49,7 +49,7 @@ module _ (l : Limits) (rs : AllRegisters) (messages : List ℕ) (phase : Phase) 
   -- so the step at a byte is what the byte means
   pub step-read : (reading there : LineState) (from : Origin) (tape : Tape) (b : ℕ) (bytes : List ℕ) (half next : List OpenEscape) (events : List PageEvent) (i : PageInput) (h : PageHistory)
       → due reading ≡ None → IsOpenFor from closed → is_ended_by half (Some b) ≡ false → i.charge + 1 ≤ l.bytes
-      → ((j : PageInput) → taking (known_at h rs (with_escapes half j)) reading (with_escapes half j) b ≡ meaning_events (with_escapes next j) there events)
+      → ((j : PageInput) → byte_taking (known_at h rs (with_escapes half j)) reading (with_escapes half j) b ≡ meaning_events (with_escapes next j) there events)
       → Fits l reading rs messages phase closed from bytes (record (behind_byte from b i) { escapes = next })
       → step l (half_at reading from (b ∷ bytes) tape half i h []) ≡ half_at there from bytes tape next (behind_byte from b i) h events
   step-read reading there from tape b bytes half next events i h none_due is_open goes few means fits =

@@ -15,7 +15,7 @@ use Rattle.read_shortcuts.proofs.PrintedRuns.{Fits, fits-byte, told_at, told_fro
 use Rattle.read_shortcuts.specs.Fonts.{names_font}
 use Rattle.run_model.specs.Environments.{interrupted_line}
 use Rattle.run_model.specs.Output.{PageHistory}
-use Rattle.run_model.specs.Reading.{taking}
+use Rattle.run_model.specs.Reading.{byte_taking}
 use Rattle.run_model.specs.Reading.Beginnings.{going_on_told, line_begun_as}
 use Rattle.run_model.specs.Reading.Items.{PageInput, behind_events, meaning_events}
 use Rattle.run_model.specs.Reading.TextLines.{fresh_line, other_taking}
@@ -32,7 +32,7 @@ behind_first = InText (record fresh_line { has_other = true })
 
 -- the last byte of it
 named-first : (k : Known) (i : PageInput) (b : ℕ) → IsName b → k.interrupted ≡ None
-    → taking k LineStart (with_escapes (Name Font Nothing ∷ []) i) b ≡ meaning_events (with_escapes [] i) behind_first []
+    → byte_taking k LineStart (with_escapes (Name Font Nothing ∷ []) i) b ≡ meaning_events (with_escapes [] i) behind_first []
 named-first k i b name none =
     rw (name.stays, name.escape, name.opens)
     (ap (λ (line : Option TextLine). behind_events (going_on_told line) (other_taking (with_escapes [] i) (line_begun_as line))) none)

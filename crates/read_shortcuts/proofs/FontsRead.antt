@@ -19,7 +19,7 @@ use Rattle.roff_scan.specs.Unread.Calls.{NoNewline, PassesFront, front_bytes}
 use Rattle.roff_store.specs.Named.{Named}
 use Rattle.roff_store.specs.Texts.{Entry}
 use Rattle.run_model.specs.Reading.Items.{PageUnread}
-use Rattle.run_model.specs.Reading.{taking}
+use Rattle.run_model.specs.Reading.{byte_taking}
 use Rattle.run_model.specs.Reading.Items.{PageInput, going_on}
 use Rattle.run_model.specs.Registers.{Known}
 use Rattle.run_model.specs.Stages.{Here, Onward, Stage, Turned, input_at, stage_of}
@@ -78,7 +78,7 @@ on_line line a texts half = record { reading = InText line; escapes = half; argu
 
 -- the last byte of it
 takes-name : (k : Known) (i : PageInput) (line : TextLine) (b : ℕ) → IsName b
-    → taking k (InText line) (record i { escapes = Name Font Nothing ∷ [] }) b ≡ going_on (record i { escapes = [] }) (InText (record line { has_other = true }))
+    → byte_taking k (InText line) (record i { escapes = Name Font Nothing ∷ [] }) b ≡ going_on (record i { escapes = [] }) (InText (record line { has_other = true }))
 takes-name k i line b name = rw (name.stays, name.escape, name.opens) refl
 
 -- its bytes lead from stage to stage

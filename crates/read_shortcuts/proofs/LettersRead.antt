@@ -20,7 +20,7 @@ use Rattle.run_model.proofs.PlainRuns.{behind_byte, behind_bytes}
 use Rattle.read_shortcuts.proofs.PrintedRuns.{Fits, TakesText, fits-byte, told_at, told_from}
 use Rattle.run_model.specs.Output.{PageHistory, text_of}
 use Rattle.run_model.specs.Environments.{interrupted_line}
-use Rattle.run_model.specs.Reading.{taking}
+use Rattle.run_model.specs.Reading.{byte_taking}
 use Rattle.run_model.specs.Reading.Beginnings.{going_on_told, line_begun_as}
 use Rattle.run_model.specs.Reading.Ends.{due}
 use Rattle.run_model.specs.Reading.TextLines.{escape_taking}
@@ -88,14 +88,14 @@ behind_glyph other brace = record { has_glyph = true; has_other = other; has_bra
 pub record ReadsLetters (rs : AllRegisters) (reading : LineState) (other brace : Bool) (Ready : PageHistory → Type 0) : Type 0 where
   pub none_due : due reading ≡ None
   pub opens : (h : PageHistory) (i : PageInput) → Ready h
-      → taking (known_at h rs (with_escapes [] i)) reading (with_escapes [] i) backslash ≡ meaning_events (with_escapes (Backslash ∷ []) i) reading []
+      → byte_taking (known_at h rs (with_escapes [] i)) reading (with_escapes [] i) backslash ≡ meaning_events (with_escapes (Backslash ∷ []) i) reading []
   pub prints : (h : PageHistory) (i : PageInput) (b : ℕ) (g : Glyph) → Ready h → IsLetter b g
-      → taking (known_at h rs (with_escapes (Backslash ∷ []) i)) reading (with_escapes (Backslash ∷ []) i) b
+      → byte_taking (known_at h rs (with_escapes (Backslash ∷ []) i)) reading (with_escapes (Backslash ∷ []) i) b
       ≡ meaning_events (with_escapes [] i) (InText (behind_glyph other brace)) (Text (Print g) ∷ [])
 
 -- behind any glyph of a line
 prints-behind : (k : Known) (other brace : Bool) (i : PageInput) (b : ℕ) (g : Glyph) → IsLetter b g
-    → taking k (InText (behind_glyph other brace)) (with_escapes (Backslash ∷ []) i) b ≡ meaning_events (with_escapes [] i) (InText (behind_glyph other brace)) (Text (Print g) ∷ [])
+    → byte_taking k (InText (behind_glyph other brace)) (with_escapes (Backslash ∷ []) i) b ≡ meaning_events (with_escapes [] i) (InText (behind_glyph other brace)) (Text (Print g) ∷ [])
 prints-behind k other brace i _ _ Unpaddable = refl
 prints-behind k other brace i _ _ AsWideAsADigit = refl
 prints-behind k other brace i _ _ WithoutWidth = refl
@@ -117,7 +117,7 @@ reads_behind rs reading other brace is =
 
 -- and where a line begins, and no interrupted one goes on
 prints-first : (k : Known) (i : PageInput) (b : ℕ) (g : Glyph) → IsLetter b g → k.interrupted ≡ None
-    → taking k LineStart (with_escapes (Backslash ∷ []) i) b ≡ meaning_events (with_escapes [] i) (InText (behind_glyph false false)) (Text (Print g) ∷ [])
+    → byte_taking k LineStart (with_escapes (Backslash ∷ []) i) b ≡ meaning_events (with_escapes [] i) (InText (behind_glyph false false)) (Text (Print g) ∷ [])
 prints-first k i _ _ Unpaddable none = ap (λ (line : Option TextLine). behind_events (going_on_told line) (escape_taking (with_escapes [] i) (line_begun_as line) 32)) none
 prints-first k i _ _ AsWideAsADigit none = ap (λ (line : Option TextLine). behind_events (going_on_told line) (escape_taking (with_escapes [] i) (line_begun_as line) 48)) none
 prints-first k i _ _ WithoutWidth none = ap (λ (line : Option TextLine). behind_events (going_on_told line) (escape_taking (with_escapes [] i) (line_begun_as line) 38)) none

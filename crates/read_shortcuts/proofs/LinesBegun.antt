@@ -20,7 +20,7 @@ use Rattle.read_shortcuts.specs.Runs.{IsRun}
 use Rattle.roff_scan.specs.declared.run_kind.RunKind.TheVariants.{Text as TextRun}
 use Rattle.run_model.specs.Environments.{PageHistory, interrupted_line, text_of}
 use Rattle.run_model.specs.PageEvents.{PageEvent}
-use Rattle.run_model.specs.Reading.{taking, undropped_taking}
+use Rattle.run_model.specs.Reading.{byte_taking, undropped_taking}
 use Rattle.run_model.specs.Reading.Units.{interrupted}
 use Rattle.run_model.specs.Reading.Beginnings.{at_start, beginning_text, going_on_told, line_begun, line_begun_as}
 use Rattle.run_model.specs.Reading.Found.{read_in}
@@ -72,7 +72,7 @@ behind_glyph = InText (record { has_glyph = true; has_other = false; has_brace =
 
 -- such a byte is printed where a line begins, and no interrupted one goes on
 pub printed-first : (b : ℕ) → IsFirst b → (k : Known) (i : PageInput) → i.escapes ≡ [] → k.interrupted ≡ None
-    → taking k LineStart i b ≡ meaning_events i behind_glyph (byte_events b)
+    → byte_taking k LineStart i b ≡ meaning_events i behind_glyph (byte_events b)
 printed-first b first k i none_half none =
     let text = first.text in
     let line : TextLine = fresh_line in

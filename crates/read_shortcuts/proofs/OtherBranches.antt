@@ -18,7 +18,7 @@ use Rattle.roff_store.specs.Texts.{Entry}
 use Rattle.run_model.proofs.ItemsTaken.{IsOpenFor, Origin, ahead_at, not-first, not-second, taken_as-going_on, tape_at}
 use Rattle.run_model.proofs.NameBytes.{turns-first}
 use Rattle.run_model.proofs.PlainRuns.{behind_byte, behind_bytes, counted, run_at}
-use Rattle.run_model.specs.Reading.{taking, undropped_taking}
+use Rattle.run_model.specs.Reading.{byte_taking, undropped_taking}
 use Rattle.run_model.specs.Reading.Branches.{branch_of, reads_else}
 use Rattle.run_model.specs.Reading.ControlLines.{BelongsToName, behind_called, ends_name, name_ended_taking, name_whole_taking}
 use Rattle.run_model.specs.Reading.Ends.{due}
@@ -42,7 +42,7 @@ use Rattle.read_shortcuts.proofs.TurnedRuns.{IsGoing, stage_input, step-byte}
 pub record Changes (names : Named Entry) (q : Stage) (b : ℕ) (change : PageInput → PageInput) (there : PageInput → LineState) : Type 0 where
   pub none_due : due q.reading ≡ None
   pub stays : is_ended_by q.escapes (Some b) ≡ false
-  pub does : (k : Known) (i : PageInput) → let j : PageInput = input_at names q i in taking k q.reading j b ≡ going_on (change j) (there j)
+  pub does : (k : Known) (i : PageInput) → let j : PageInput = input_at names q i in byte_taking k q.reading j b ≡ going_on (change j) (there j)
 
 module _ (change : PageInput → PageInput) (there : PageInput → LineState) where
   -- the step at such a byte

@@ -15,7 +15,7 @@ use Rattle.run_model.proofs.InputCounts.{NoMore, first_passed-no_more}
 use Rattle.run_model.proofs.ItemsTaken.{IsOpenFor, FromAhead, FromSource, Origin, ahead_at, tape_at, taken_as-going_on}
 use Rattle.run_model.proofs.Leads.{Leads-to}
 use Rattle.run_model.proofs.PlainRuns.{behind_byte, behind_bytes, behind_bytes-counts, counted, counted-last, is-run_at, run_at}
-use Rattle.run_model.specs.Reading.{taking}
+use Rattle.run_model.specs.Reading.{byte_taking}
 use Rattle.run_model.specs.Reading.Ends.{due}
 use Rattle.run_model.specs.Reading.Items.{PageInput, Taking, going_on}
 use Rattle.run_model.specs.Reading.Units.{interrupted}
@@ -146,7 +146,7 @@ leads-last l s behind_them from bytes front b q going idle unsprung is_open is t
 -- the step at the last byte
 step-put : (asked : Asked) (l : Limits) (s : State) (names : Named Entry) (from : Origin) (p q : Stage) (b : ℕ) (name text : List ℕ) (j : PageInput)
     → IsGoing from s → due q.reading ≡ None → is_ended_by q.escapes (Some b) ≡ false → j.charge + 1 ≤ l.bytes
-    → ((k : Known) (i : PageInput) → taking k q.reading (input_at names q i) b ≡ going_on (pushing (text_asked asked k (input_at names p i) name) (input_at names p i)) p.reading)
+    → ((k : Known) (i : PageInput) → byte_taking k q.reading (input_at names q i) b ≡ going_on (pushing (text_asked asked k (input_at names p i) name) (input_at names p i)) p.reading)
     → (let there : PageInput = stage_input names p from [] (behind_byte from b j) in text ≡ text_asked asked (known_at s.history s.registers there) there name)
     → first_passed l (counts_in s.registers (pushing text (stage_input names p from [] (behind_byte from b j)))) ≡ None
     → step l (run_at s names q from (b ∷ []) j)

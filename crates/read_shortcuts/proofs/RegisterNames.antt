@@ -18,7 +18,7 @@ use Rattle.input_model.specs.Input.Calls.{arguments_live}
 use Rattle.input_model.specs.Input.Names.{body_named}
 use Rattle.roff_num.specs.ShortNames.{name_bytes}
 use Rattle.roff_num.specs.declared.short_name.ShortName.{ShortName}
-use Rattle.run_model.specs.Reading.{taking, undropped_taking}
+use Rattle.run_model.specs.Reading.{byte_taking, undropped_taking}
 use Rattle.run_model.specs.Reading.Escapes.{argument_named}
 use Rattle.run_model.specs.Reading.Found.{place_in, read_in}
 use Rattle.run_model.specs.Reading.Items.{PageInput, going_on}
@@ -37,7 +37,7 @@ use Rattle.read_shortcuts.specs.Registers.{Asked, OfArgument, OfRegister, OfStri
 use Rattle.read_shortcuts.proofs.HeldRuns.{none_of_three}
 
 -- a byte that isn't dropped is read by what is half read
-pub undropped : (k : Known) (reading : LineState) (i : PageInput) (b : ℕ) → is_dropped b ≡ false → taking k reading i b ≡ undropped_taking k reading i b
+pub undropped : (k : Known) (reading : LineState) (i : PageInput) (b : ℕ) → is_dropped b ≡ false → byte_taking k reading i b ≡ undropped_taking k reading i b
 undropped k reading i b stands = ap (λ (c : Bool). if c then going_on (interrupted reading i) reading else undropped_taking k reading i b) stands
 
 -- where a name's text is put in front behind it, that is so of its last byte
@@ -52,7 +52,7 @@ asked_in : (reading : LineState)
     → (asked : Asked) (k : Known) (i : PageInput) (b : ℕ) (rest : List OpenEscape) (name : List ℕ) → is_dropped b ≡ false
     → ((base : Surroundings) → byte_read base i.escapes b ≡ (Asks (purpose_of asked) (Some name), rest))
     → let behind : PageInput = record (interrupted reading i) { escapes = rest } in
-    taking k reading i b ≡ going_on (pushing (text_asked asked k behind name) behind) reading
+    byte_taking k reading i b ≡ going_on (pushing (text_asked asked k behind name) behind) reading
 asked_in reading reads register string argument OfRegister k i b rest name stands goes =
     undropped k reading i b stands ∙ reads k i b ∙ ap (λ (r : Reads). read_in k reading i r) (goes (place_in k reading)) ∙ register k i rest name
 asked_in reading reads register string argument OfString k i b rest name stands goes =
@@ -224,7 +224,7 @@ module _ (asked : Asked) (names : Named Entry) (reading : LineState) (reads : Re
   -- and its last one
   asks-last : (half : List OpenEscape) (b : ℕ) (name : List ℕ) → is_dropped b ≡ false → ((base : Surroundings) → byte_read base half b ≡ (Asks (purpose_of asked) (Some name), rest))
       → (k : Known) (i : PageInput) → let behind : PageInput = input_at names (within rest) i in
-      taking k reading (input_at names (within half) i) b ≡ going_on (pushing (text_asked asked k behind name) behind) reading
+      byte_taking k reading (input_at names (within half) i) b ≡ going_on (pushing (text_asked asked k behind name) behind) reading
   asks-last half b name stands is k i =
       reads.asks asked k (input_at names (within half) i) b rest name stands is
       ∙ ap (λ (settled : Arguments). let behind : PageInput = record (input_at names (within rest) i) { arguments = settled } in going_on (pushing (text_asked asked k behind name) behind) reading)

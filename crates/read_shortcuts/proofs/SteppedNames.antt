@@ -13,7 +13,7 @@ use Rattle.input_escapes.specs.declared.open_escape.Surroundings.{Surroundings}
 use Rattle.roff_num.specs.ShortNames.{name_bytes}
 use Rattle.roff_num.specs.declared.direction.Direction.{Direction}
 use Rattle.roff_num.specs.declared.direction.Direction.TheVariants.{Up, Down}
-use Rattle.run_model.specs.Reading.{taking}
+use Rattle.run_model.specs.Reading.{byte_taking}
 use Rattle.run_model.specs.Reading.Escapes.{interpolating}
 use Rattle.run_model.specs.Reading.Found.{place_in, read_in}
 use Rattle.run_model.specs.Reading.Items.{PageInput}
@@ -81,7 +81,7 @@ module _ (direction : Direction) (names : Named Entry) (line : TextLine) (a : Ar
 
   -- and the last one
   asks-last : (half : List OpenEscape) (b : ℕ) (name : List ℕ) → is_dropped b ≡ false → ((base : Surroundings) → byte_read base half b ≡ (Asks (Register (Some direction)) (Some name), []))
-      → (k : Known) (i : PageInput) → taking k (InText line) (input_at names (within half) i) b ≡ interpolating k (input_at names (within []) i) (InText line) (Some direction) name
+      → (k : Known) (i : PageInput) → byte_taking k (InText line) (input_at names (within half) i) b ≡ interpolating k (input_at names (within []) i) (InText line) (Some direction) name
   asks-last half b name stands is k i =
       undropped k (InText line) (input_at names (within half) i) b stands
       ∙ ap (λ (r : Reads). read_in k (InText line) (input_at names (within half) i) r) (is (place_in k (InText line)))

@@ -13,7 +13,7 @@ use Rattle.roff_store.specs.Registers.{next_value}
 use Rattle.roff_store.specs.Texts.{Entry}
 use Rattle.run_model.proofs.ItemsTaken.{IsOpenFor, Origin, ahead_at, tape_at}
 use Rattle.run_model.proofs.PlainRuns.{behind_byte, behind_bytes, counted, run_at}
-use Rattle.run_model.specs.Reading.{taking}
+use Rattle.run_model.specs.Reading.{byte_taking}
 use Rattle.run_model.specs.Reading.Ends.{due}
 use Rattle.run_model.specs.Reading.Escapes.{interpolating}
 use Rattle.run_model.specs.Reading.Items.{PageInput, Taking}
@@ -70,7 +70,7 @@ module _ (direction : Direction) (name : List ℕ) where
   -- the step at the last byte
   step-stepped : (l : Limits) (s : State) (names : Named Entry) (from : Origin) (p q : Stage) (b : ℕ) (text : List ℕ) (j : PageInput)
       → IsGoing from s → due q.reading ≡ None → is_ended_by q.escapes (Some b) ≡ false → j.charge + 1 ≤ l.bytes
-      → ((k : Known) (i : PageInput) → taking k q.reading (input_at names q i) b ≡ interpolating k (input_at names p i) p.reading (Some direction) name)
+      → ((k : Known) (i : PageInput) → byte_taking k q.reading (input_at names q i) b ≡ interpolating k (input_at names p i) p.reading (Some direction) name)
       → IsQuiet s.registers → is_page name ≡ false
       → (let there : PageInput = stage_input names p from [] (behind_byte from b j) in text ≡ text_of_register (known_at s.history (stepped s.registers) there) name)
       → first_passed l (counts_in (stepped s.registers) (pushing text (stage_input names p from [] (behind_byte from b j)))) ≡ None

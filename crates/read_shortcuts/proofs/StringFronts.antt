@@ -24,7 +24,7 @@ use Rattle.roff_scan.specs.Unread.Runs.{TakesRun, room_for, with_stage_of}
 use Rattle.roff_scan.specs.declared.run_kind.RunKind.TheVariants.{Definition}
 use Rattle.roff_num.specs.declared.short_name.ShortName.{ShortName}
 use Rattle.run_model.specs.PageEvents.{PageEvent}
-use Rattle.run_model.specs.Reading.{taking, undropped_taking}
+use Rattle.run_model.specs.Reading.{byte_taking, undropped_taking}
 use Rattle.run_model.specs.Reading.Units.{interrupted}
 use Rattle.run_model.specs.Reading.Found.{found_in}
 use Rattle.run_model.specs.Reading.Items.{PageInput, PageUnread, Taking, going_on}
@@ -64,7 +64,7 @@ plain_parts b plain = record {
 module _ (k : Known) (i : PageInput) (name : ShortName) (appends : Bool) (none_half : i.escapes ≡ []) where
   -- a byte of plain text is found as itself
   text-found : (is_front : Bool) (b : ℕ) → IsPlain b
-      → taking k (at_text name appends is_front) i b ≡ found_in k i (at_text name appends is_front) (GivesUnit (Byte b))
+      → byte_taking k (at_text name appends is_front) i b ≡ found_in k i (at_text name appends is_front) (GivesUnit (Byte b))
   text-found is_front b plain =
       let reading : LineState = at_text name appends is_front in
       ap (λ (c : Bool). if c then going_on (interrupted reading i) reading else undropped_taking k reading i b) plain.undropped
@@ -78,14 +78,14 @@ module _ (k : Known) (i : PageInput) (name : ShortName) (appends : Bool) (none_h
   ended = going_on (string_entered (Some name) appends i) LineStart
 
   -- behind the beginning it is put behind the text
-  text-adds : (b : ℕ) → IsPlain b → taking k (at_text name appends false) i b ≡ going_on (adding (b ∷ []) i) (at_text name appends false)
+  text-adds : (b : ℕ) → IsPlain b → byte_taking k (at_text name appends false) i b ≡ going_on (adding (b ∷ []) i) (at_text name appends false)
   text-adds b plain =
       text-found false b plain
       ∙ ap (λ (c : Bool). if c then ended else grown b) plain.no_newline
 
   -- and at the beginning, if it is kept there
   front-adds : (b : ℕ) → IsPlain b → (b == blank) ≡ false → (b == quote) ≡ false
-      → taking k (at_text name appends true) i b ≡ going_on (adding (b ∷ []) i) (at_text name appends false)
+      → byte_taking k (at_text name appends true) i b ≡ going_on (adding (b ∷ []) i) (at_text name appends false)
   front-adds b plain no_blank no_quote =
       let dropped : Taking = going_on i (at_text name appends true) in
       let unquoted : Taking = going_on i (at_text name appends false) in
@@ -95,7 +95,7 @@ module _ (k : Known) (i : PageInput) (name : ShortName) (appends : Bool) (none_h
       ∙ ap (λ (c : Bool). if c then unquoted else grown b) no_quote
 
   -- a quote is dropped there
-  quote-dropped : taking k (at_text name appends true) i quote ≡ going_on i (at_text name appends false)
+  quote-dropped : byte_taking k (at_text name appends true) i quote ≡ going_on i (at_text name appends false)
   quote-dropped = sym (plain-found k (at_text name appends true) i quote none_half refl)
 
 -- bytes of which the first is kept lead behind the beginning

@@ -19,7 +19,7 @@ use Rattle.roff_scan.specs.Unread.FirstArguments.{MayStand, TakesFirst, Unended}
 use Rattle.roff_scan.specs.declared.run_kind.RunKind.TheVariants.{CallArguments}
 use Rattle.read_lines.proofs.TextTaken.{plain-found}
 use Rattle.read_lines.specs.Reader.State.{ReaderState}
-use Rattle.run_model.specs.Reading.{taking, undropped_taking}
+use Rattle.run_model.specs.Reading.{byte_taking, undropped_taking}
 use Rattle.run_model.specs.Reading.Items.{PageInput, PageUnread, going_on}
 use Rattle.run_model.specs.Reading.Strings.{string_name_unit}
 use Rattle.run_model.specs.Reading.Units.{holding, settling}
@@ -87,7 +87,7 @@ between false place begun is = absurd (cc)
 -- a byte of the name where nothing is half read
 takes-name : (k : Known) (appends : Bool) (i : PageInput) (b : ℕ) → i.escapes ≡ [] → (b == backslash) ≡ false → is_dropped b ≡ false
     → string_name_unit i appends (Byte b) ≡ going_on (holding (Byte b) i) (Collecting (StringName appends))
-    → taking k (Collecting (StringName appends)) i b ≡ going_on (holding (Byte b) i) (Collecting (StringName appends))
+    → byte_taking k (Collecting (StringName appends)) i b ≡ going_on (holding (Byte b) i) (Collecting (StringName appends))
 takes-name k appends i b none_half no_escape stays holds =
     let reading : LineState = Collecting (StringName appends) in
     ap (λ (c : Bool). if c then going_on (settling i) reading else undropped_taking k reading i b) stays

@@ -14,7 +14,7 @@ use Rattle.run_model.proofs.InputCounts.{NoMore, first_passed-no_more, first_pas
 use Rattle.run_model.proofs.ItemsTaken.{IsOpenFor, FromAhead, FromSource, Origin, ahead_at, byte_ahead_is_taken, bytes_of_the_source_are_taken, taken_as-going_on}
 use Rattle.run_model.proofs.PlainRuns.{behind_byte, behind_bytes, behind_bytes-counts, counted, counted-ahead, run_at}
 use Rattle.run_model.proofs.TurnsToCome.{turns_within-byte}
-use Rattle.run_model.specs.Reading.{taking}
+use Rattle.run_model.specs.Reading.{byte_taking}
 use Rattle.run_model.specs.Reading.Ends.{due}
 use Rattle.run_model.specs.Reading.Items.{PageInput, Taking}
 use Rattle.run_model.specs.Registers.{AllRegisters, Known}
@@ -166,7 +166,7 @@ turns-turned : (most : ℕ) (k : Known) (names : Named Entry) (from : Origin) (p
     ≤ turns_within most (stage_input names p from (b ∷ bytes) i) + begun p.reading
 turns-turned most k names from p q b bytes i turns few =
     let there : PageInput = record (behind_byte from b i) { ahead = ahead_at from bytes } in
-    let bound : turns_within most (taking k p.reading (input_at names p there) b).input + begun (taking k p.reading (input_at names p there) b).reading
+    let bound : turns_within most (byte_taking k p.reading (input_at names p there) b).input + begun (byte_taking k p.reading (input_at names p there) b).reading
     ≤ turns_within most (input_at names p there) + begun p.reading + 4 = turns_within-byte most k p.reading (input_at names p there) b in
     let read : turns_within most (input_at names q there) + begun q.reading ≤ turns_within most (input_at names p there) + begun p.reading + 4 =
     subst (λ (t : Taking). turns_within most t.input + begun t.reading ≤ turns_within most (input_at names p there) + begun p.reading + 4) (turns k there) bound in

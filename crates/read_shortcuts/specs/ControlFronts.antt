@@ -4,7 +4,7 @@ use Rattle.input_source.specs.Bytes.{apostrophe, backslash, blank, dot, newline}
 use Rattle.roff_scan.specs.Unread.Calls.{IsFront, front_bytes}
 use Rattle.roff_scan.specs.Unread.Lines.{StandsNewline, begins_with_newline}
 use Rattle.run_model.specs.Reading.Items.{PageUnread}
-use Rattle.run_model.specs.Reading.{taking}
+use Rattle.run_model.specs.Reading.{byte_taking}
 use Rattle.run_model.specs.Reading.Items.{PageInput, going_on}
 use Rattle.input_model.specs.declared.place.Place.{Place}
 use Rattle.read_names.specs.NamesRead.{LeadsTo, is_deciding}
@@ -29,7 +29,7 @@ control_byte breaks = if breaks then dot else apostrophe
 abbrev pub BeginsControl : LineState → Type 0
 BeginsControl reading =
     (k : Known) (i : PageInput) (breaks : Bool) → i.escapes ≡ []
-    → taking k reading i (control_byte breaks) ≡ going_on i (Control breaks)
+    → byte_taking k reading i (control_byte breaks) ≡ going_on i (Control breaks)
 
 -- where this is read and nothing is half read, the item in front is taken
 abbrev pub TakesAtBeginning : LineState → Type 0

@@ -21,7 +21,7 @@ use Rattle.roff_num.specs.ShortNames.{name_bytes}
 use Rattle.roff_num.specs.declared.short_name.ShortName.{ShortName}
 use Rattle.read_lines.specs.Reader.State.{ReaderState}
 use Rattle.run_model.specs.Environments.{PageHistory}
-use Rattle.run_model.specs.Reading.{taking}
+use Rattle.run_model.specs.Reading.{byte_taking}
 use Rattle.run_model.specs.Reading.Ends.{due}
 use Rattle.run_model.specs.Reading.Escapes.{argument_named}
 use Rattle.run_model.specs.Reading.Items.{PageInput, PageUnread, going_on}
@@ -122,11 +122,11 @@ pub record ReadsNames (reading : LineState) : Type 0 where
   pub none_due : due reading ≡ None
   pub goes_on : (k : Known) (i : PageInput) (b : ℕ) (next : List OpenEscape) → is_dropped b ≡ false
       → ((base : Surroundings) → byte_read base i.escapes b ≡ (GoesOn, next))
-      → taking k reading i b ≡ going_on (record (interrupted reading i) { escapes = next }) reading
+      → byte_taking k reading i b ≡ going_on (record (interrupted reading i) { escapes = next }) reading
   pub asks : (asked : Asked) (k : Known) (i : PageInput) (b : ℕ) (rest : List OpenEscape) (name : List ℕ) → is_dropped b ≡ false
       → ((base : Surroundings) → byte_read base i.escapes b ≡ (Asks (purpose_of asked) (Some name), rest))
       → let behind : PageInput = record (interrupted reading i) { escapes = rest } in
-      taking k reading i b ≡ going_on (pushing (text_asked asked k behind name) behind) reading
+      byte_taking k reading i b ≡ going_on (pushing (text_asked asked k behind name) behind) reading
   pub twice : (a : Arguments) → settled_for reading (settled_for reading a) ≡ settled_for reading a
   pub same_held : (a : Arguments) → held (settled_for reading a) ≡ held a
   pub takes : (place : Place) → is_behind_quote place ≡ false → line_waits reading place ≡ Takes
@@ -147,7 +147,7 @@ pub record AsksText (asked : Asked) (names : Named Entry) (p : Stage) (bytes nam
   pub held : held_at there ≤ held_at p
   pub texts : there.texts ≡ p.texts
   pub asks : (k : Known) (i : PageInput) → let behind : PageInput = input_at names (settled_at p) i in
-      taking k there.reading (input_at names there i) last ≡ going_on (pushing (text_asked asked k behind name) behind) p.reading
+      byte_taking k there.reading (input_at names there i) last ≡ going_on (pushing (text_asked asked k behind name) behind) p.reading
 
 -- an input with a text in front
 abbrev pub with_text : List ℕ → PageUnread → PageUnread

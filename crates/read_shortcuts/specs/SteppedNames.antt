@@ -4,7 +4,7 @@ use Rattle.input_escapes.specs.Waiting.{is_ended_by}
 use Rattle.roff_num.specs.declared.direction.Direction.{Direction}
 use Rattle.roff_num.specs.declared.direction.Direction.TheVariants.{Up, Down}
 use Rattle.roff_num.specs.declared.short_name.ShortName.{ShortName}
-use Rattle.run_model.specs.Reading.{taking}
+use Rattle.run_model.specs.Reading.{byte_taking}
 use Rattle.run_model.specs.Reading.Ends.{due}
 use Rattle.run_model.specs.Reading.Escapes.{interpolating}
 use Rattle.run_model.specs.Reading.Items.{PageInput}
@@ -48,4 +48,4 @@ pub record AsksStep (direction : Direction) (names : Named Entry) (p : Stage) (b
   pub held : held_at there ≤ held_at p
   pub texts : there.texts ≡ p.texts
   pub asks : (k : Known) (i : PageInput)
-      → taking k there.reading (input_at names there i) last ≡ interpolating k (input_at names p i) p.reading (Some direction) name
+      → byte_taking k there.reading (input_at names there i) last ≡ interpolating k (input_at names p i) p.reading (Some direction) name

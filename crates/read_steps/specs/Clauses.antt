@@ -4,7 +4,7 @@ pub use Rattle.run_state.specs.Composer.Standing.{StandFor}
 pub use Rattle.run_state.specs.declared.composer.Composer.{Composer as ComposerOf}
 pub use Rattle.read_lines.specs.Reader.Taken.{TakesAs}
 pub use Rattle.run_model.specs.Reading.Items.{PageUnread}
-pub use Rattle.run_model.specs.Reading.{escape_ended, undropped_taking, taking}
+pub use Rattle.run_model.specs.Reading.{escape_ended, undropped_taking, byte_taking}
 pub use Rattle.run_model.specs.Reading.Arguments.{line_ended, unit_found, arguments_ended}
 pub use Rattle.run_model.specs.Reading.Branches.{condition_found}
 pub use Rattle.run_model.specs.Reading.ControlLines.{line_taking, name_ended_taking}

@@ -6,7 +6,7 @@ use Rattle.page_model.specs.declared.event.Event.TheVariants.{Gap}
 use Rattle.page_model.specs.Events.{History}
 use Rattle.page_model.specs.Places.{has_line_glyph, moved}
 use Rattle.page_model.specs.Words.{blanks, has_open_word}
-use Rattle.roff_lines.specs.Env.Kept.{Kept, with_gap}
+use Rattle.roff_lines.specs.Env.Kept.{Kept, kept_with_gap}
 use Rattle.roff_lines.specs.Env.Stands.{StandsPlain, StandsPlainBehind}
 use Rattle.roff_lines.proofs.Gaps.{StandsBehind-first_gap, blanks-open, closed-none}
 use Rattle.roff_lines.proofs.LastLine.{last_text-none, last_width-none}
@@ -75,29 +75,29 @@ module _ (line_cap : ℕ) (n : ℕ) (h : History) (k : Kept) (s : StandsPlain li
       closed-none k.is_open k.blanks (λ o. let some = blanks-open h (sym s.is_open ∙ o) in omega (arith, s.blanks, some)) none
 
 -- so what is kept behind it stands for the plain history with it
-pub Stands-with_gap : (n : ℕ) → n ≤ 2 ^ 33 → (k : Kept) → StandsPlainBehind k (Gap n) (with_gap n k)
+pub Stands-with_gap : (n : ℕ) → n ≤ 2 ^ 33 → (k : Kept) → StandsPlainBehind k (Gap n) (kept_with_gap n k)
 Stands-with_gap n few k line_cap h s =
     let Goal : Kept → Type 0 = StandsPlain line_cap (Gap n ∷ h) in
     elim (cases_Bool k.has_glyph) [
       | inl glyph ↦ elim (cases_Bool k.is_open) [
         | inl o ↦
-            let is : record k { place = moved n k.place } ≡ with_gap n k = rw (glyph, o) refl in
+            let is : record k { place = moved n k.place } ≡ kept_with_gap n k = rw (glyph, o) refl in
             subst Goal is (Stands-gap_open line_cap n h k s o glyph)
         | inr o ↦
-            let is : behind_gap n k ≡ with_gap n k = rw (glyph, o) refl in
+            let is : behind_gap n k ≡ kept_with_gap n k = rw (glyph, o) refl in
             subst Goal is (Stands-gap n k o glyph line_cap h s)
       ]
       | inr bare ↦ elim (cases_Bool (k.blanks == 0)) [
         | inl none ↦
             let zero = eqb-true k.blanks 0 none in
-            let is : record k { blanks = n } ≡ with_gap n k = rw (bare, none) refl in
+            let is : record k { blanks = n } ≡ kept_with_gap n k = rw (bare, none) refl in
             subst Goal is (StandsBehind-first_gap n k few bare (closed_bare line_cap n h k s zero) zero line_cap h s)
         | inr some ↦
-            let is : k ≡ with_gap n k = rw (bare, some) refl in
+            let is : k ≡ kept_with_gap n k = rw (bare, some) refl in
             subst Goal is (Stands-gap_kept line_cap n h k s bare some)
       ]
     ]
 
 -- it opens no field, and ends none
-pub field-gap : (n : ℕ) (k : Kept) → (with_gap n k).field ≡ k.field
+pub field-gap : (n : ℕ) (k : Kept) → (kept_with_gap n k).field ≡ k.field
 field-gap n k = cond_both (not k.has_glyph) _ _ (λ (new : Kept). new.field ≡ k.field) (λ _. refl) (λ _. refl)

@@ -7,9 +7,9 @@ use Rattle.page_model.specs.declared.event.Event.TheVariants.{Print}
 use Rattle.page_model.specs.Glyphs.{glyph_text}
 use Rattle.page_model.specs.Events.{History}
 use Rattle.page_model.specs.Lines.{pending_length as length_plainly}
-use Rattle.page_model.specs.Fields.{Field, so_far, told, told_behind}
+use Rattle.page_model.specs.Fields.{Field, so_far, told_plainly, told_behind}
 use Rattle.page_model.specs.Behind.{pending_length}
-use Rattle.roff_lines.specs.Env.Kept.{Kept, KeptField, kept_length, length_told, length_with, with_glyph, with_glyph_in, with_glyph_told}
+use Rattle.roff_lines.specs.Env.Kept.{Kept, KeptField, kept_length, length_told, length_with, kept_with_glyph, with_glyph_in, with_glyph_told}
 use Rattle.roff_lines.specs.Env.Stands.{Stands, StandsBehind, StandsFor, StandsTold}
 use Rattle.roff_lines.proofs.InField.{Stands-glyph_in, limit-glyph}
 use Rattle.roff_lines.proofs.Printed.{Stands-print, room-print, within-print}
@@ -20,9 +20,9 @@ pub length_told-none : (g : Glyph) (k : Kept) → k.field ≡ None → length_to
 length_told-none g k none =
     ap (λ (o : Option KeptField). elim o [ None ↦ length_with g k | Some f ↦ kept_length k + k.blanks + length (glyph_text g) ]) none
 
-pub with_glyph_told-none : (g : Glyph) (k : Kept) → k.field ≡ None → with_glyph_told g k ≡ with_glyph g k
+pub with_glyph_told-none : (g : Glyph) (k : Kept) → k.field ≡ None → with_glyph_told g k ≡ kept_with_glyph g k
 with_glyph_told-none g k none =
-    ap (λ (o : Option KeptField). elim o [ None ↦ with_glyph g k | Some f ↦ with_glyph_in g f k ]) none
+    ap (λ (o : Option KeptField). elim o [ None ↦ kept_with_glyph g k | Some f ↦ with_glyph_in g f k ]) none
 
 module _ (g : Glyph) (line_cap : ℕ) where
   glyph_told : (h : History) (f : Option Field) (k : Kept) → StandsTold line_cap h f k → length_told g k ≤ k.cap
@@ -49,11 +49,11 @@ module _ (g : Glyph) (line_cap : ℕ) where
   module _ (h : History) (k : Kept) (s : Stands line_cap h k) where
     -- what is kept behind it stands for the history with it
     pub Stands-glyph_told : length_told g k ≤ k.cap → Stands line_cap (Print g ∷ h) (with_glyph_told g k)
-    Stands-glyph_told room = glyph_told (told h).events (told h).field k s room
+    Stands-glyph_told room = glyph_told (told_plainly h).events (told_plainly h).field k s room
 
     -- it is within the limit exactly where what is kept is
     pub limit-glyph_told : (k.cap < length_told g k) ↔ (line_cap < pending_length (Print g ∷ h))
-    limit-glyph_told = limit_told (told h).events (told h).field k s
+    limit-glyph_told = limit_told (told_plainly h).events (told_plainly h).field k s
 
 -- so does an environment that was told a glyph, where the limit let it through
 pub StandsBehind-glyph : {E : Type 0} (r : Result (Unit {0}) E) (g : Glyph) (old new : Kept) → OnOk r (new ≡ with_glyph_told g old)

@@ -13,7 +13,7 @@ use Rattle.page_model.specs.Words.{begun_gap, blanks, ends_sentence, has_open_wo
 use Rattle.page_model.specs.Lines.{pending_length, pending_line}
 use Rattle.page_model.specs.LastLine.{last_text, last_width, newest_text, newest_width}
 use Rattle.page_model.specs.Fields.{Field, field_text, field_told, motion, with_glyph, without_gap}
-use Rattle.roff_lines.specs.Env.Kept.{Kept, KeptField, kept_length, kept_motion, length_ended, length_of_words, length_told, length_with, with_field_ended, with_field_left, with_glyph as with_glyph_open, with_glyph_in, with_glyph_told}
+use Rattle.roff_lines.specs.Env.Kept.{Kept, KeptField, kept_length, kept_motion, length_ended, length_of_words, length_told, length_with, with_field_ended, with_field_left, kept_with_glyph, with_glyph_in, with_glyph_told}
 use Rattle.roff_lines.specs.Env.Stands.{StandsInField, StandsPlain}
 use Rattle.roff_lines.proofs.Fields.{blanks-field, ends_sentence-field, field_text-glyph, finished_lines-field, has_line_glyph-field, has_open_word-field, input_place-field, is_interrupted-field, length-field_glyph, pending_length-field, pending_length-motion, settings_after-field, stops_after-field, temporary_indent-field, text_width-field_glyph, word_text-field, words-field}
 use Rattle.roff_lines.proofs.Stands.{blanks-counted}
@@ -164,7 +164,7 @@ module _ (line_cap : ℕ) (h : History) (f : Field) (k : Kept) (s : StandsInFiel
       ap (λ n. field_text f ++ (replicate n glyph_blank ++ glyph_text g)) whole ∙ sym (field_text-glyph g f) in
       let now : Kept = with_glyph_in g s.field k in
       let is : with_glyph_told g k ≡ now =
-      ap (λ (o : Option KeptField). elim o [ None ↦ with_glyph_open g k | Some kept ↦ with_glyph_in g kept k ]) s.field_is in
+      ap (λ (o : Option KeptField). elim o [ None ↦ kept_with_glyph g k | Some kept ↦ with_glyph_in g kept k ]) s.field_is in
       subst (StandsInField line_cap h (with_glyph g f)) (sym is) (record {
         field = record s.field { text = s.field.text ++ more };
         field_is = refl;

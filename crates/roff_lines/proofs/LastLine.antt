@@ -11,7 +11,7 @@ use Rattle.page_model.specs.declared.event.Event.{Event}
 use Rattle.page_model.specs.declared.event.Event.TheVariants.{WordEnd, LineEnd, Break}
 use Rattle.page_model.specs.Events.{History, settings_after}
 use Rattle.page_model.specs.Words.{is_empty, has_open_word, open_word, words}
-use Rattle.page_model.specs.Lines.{Finished, free_columns, spread_columns, laid_out, line_laid_out, pending_line, finished}
+use Rattle.page_model.specs.Lines.{Finished, free_columns, spread_columns, laid_out, line_laid_out, pending_line, finished_in}
 use Rattle.page_model.specs.Fitting.{fits, line_indent, line_text}
 use Rattle.page_model.specs.Settings.{fills}
 use Rattle.page_model.specs.Columns.{added_columns}
@@ -20,17 +20,17 @@ use Rattle.page_model.specs.LastLine.{line_width, newest_width, last_width, newe
 
 module _ (h : History) (e : Event) where
   -- an event that finishes no line leaves it
-  pub last_width-none : finished h e ≡ None → last_width (e ∷ h) ≡ last_width h
+  pub last_width-none : finished_in h e ≡ None → last_width (e ∷ h) ≡ last_width h
   last_width-none none = ap (λ (o : Option Finished). newest_width (cons_option o (finished_lines h))) none
 
-  pub last_text-none : finished h e ≡ None → last_text (e ∷ h) ≡ last_text h
+  pub last_text-none : finished_in h e ≡ None → last_text (e ∷ h) ≡ last_text h
   last_text-none none = ap (λ (o : Option Finished). newest_text (cons_option o (finished_lines h))) none
 
   -- a line that is finished sets it
-  pub last_width-some : (line : Finished) → finished h e ≡ Some line → last_width (e ∷ h) ≡ line_width line
+  pub last_width-some : (line : Finished) → finished_in h e ≡ Some line → last_width (e ∷ h) ≡ line_width line
   last_width-some line some = ap (λ (o : Option Finished). newest_width (cons_option o (finished_lines h))) some
 
-  pub last_text-some : (line : Finished) → finished h e ≡ Some line → last_text (e ∷ h) ≡ line.text
+  pub last_text-some : (line : Finished) → finished_in h e ≡ Some line → last_text (e ∷ h) ≡ line.text
   last_text-some line some = ap (λ (o : Option Finished). newest_text (cons_option o (finished_lines h))) some
 
 -- behind all gaps stand all columns that are spread, if none are where there is no gap
@@ -67,7 +67,7 @@ EndsAtWidth-pending h by_word =
     EndsAtWidth-laid_out (settings_after h) by_word (line_indent (pending_line h)) (line_text (pending_line h))
 
 -- so each finished line's does
-pub EndsAtWidth-finished : (h : History) (e : Event) → IfSome (finished h e) EndsAtWidth
+pub EndsAtWidth-finished : (h : History) (e : Event) → IfSome (finished_in h e) EndsAtWidth
 EndsAtWidth-finished h WordEnd =
     cond_both (has_open_word h && not (is_empty (words h)) && not (fits (pending_line h) (open_word h))) _ _
     (λ o. IfSome o EndsAtWidth) (λ _. EndsAtWidth-pending h true) (λ _. tt)

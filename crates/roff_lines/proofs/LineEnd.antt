@@ -7,7 +7,7 @@ use Rattle.page_model.specs.Events.{History, settings_after}
 use Rattle.page_model.specs.Settings.{fills, counted}
 use Rattle.page_model.specs.Places.{has_line_glyph}
 use Rattle.page_model.specs.Words.{is_empty, blanks, words}
-use Rattle.page_model.specs.Lines.{Finished, empty_line, finished, laid_out, line_laid_out, pending_line}
+use Rattle.page_model.specs.Lines.{Finished, empty_line, finished_in, laid_out, line_laid_out, pending_line}
 use Rattle.page_model.specs.LastLine.{line_width, last_text, last_width}
 use Rattle.roff_lines.specs.Env.Kept.{Kept, pending_width, with_input_line_ended, finished_by_line_end}
 use Rattle.roff_lines.specs.Env.Stands.{StandsPlain}
@@ -52,7 +52,7 @@ module _ (line_cap : ℕ) (h : History) (k : Kept) (s : StandsPlain line_cap h k
       ]
 
   -- the line that a line's end finishes is the definition's
-  pub finished_by_line_end-stands : finished_by_line_end k ≡ finished h LineEnd
+  pub finished_by_line_end-stands : finished_by_line_end k ≡ finished_in h LineEnd
   finished_by_line_end-stands =
       ap (λ t. if fills t then None
       else if k.has_line then Some (laid_out k.settings false k.indent k.line)

@@ -3,7 +3,7 @@ use Rattle.std.proofs.Common.{◌≡◌, ℕ, false, not, Option, Some, None, re
 use Rattle.std.proofs.lemmas.Bool.{cond_both, not-false, true≢false}
 use Rattle.page_model.specs.declared.event.Event.TheVariants.{WordEnd, LineEnd}
 use Rattle.page_model.specs.Events.{History}
-use Rattle.page_model.specs.Fields.{Field, plain, told, told_behind}
+use Rattle.page_model.specs.Fields.{Field, plain, told_plainly, told_behind}
 use Rattle.roff_lines.specs.Env.Kept.{Kept, finished_by_line_end, finished_by_word, with_field_left, with_input_line_ended, with_word_ended, word_fits}
 use Rattle.roff_lines.specs.Env.Stands.{Finishes, StandsBehind, StandsFor, StandsInField, StandsTold}
 use Rattle.roff_lines.proofs.LineEnd.{Stands-line_end, finished_by_line_end-stands}
@@ -30,7 +30,7 @@ word_end_told line_cap h None k s = Stands-word_end line_cap h k s
 word_end_told line_cap h (Some f) k s = subst (StandsInField line_cap h f) (sym (with_word_ended-closed k s.none_open)) s
 
 pub StandsBehind-word_end : (k : Kept) → StandsBehind k WordEnd (with_word_ended k)
-StandsBehind-word_end k line_cap h s = word_end_told line_cap (told h).events (told h).field k s
+StandsBehind-word_end k line_cap h s = word_end_told line_cap (told_plainly h).events (told_plainly h).field k s
 
 word_end_finished : (line_cap : ℕ) (h : History) (f : Option Field) (k : Kept) → StandsTold line_cap h f k
     → finished_by_word k ≡ finished_told WordEnd (told_as h f)
@@ -39,7 +39,7 @@ word_end_finished line_cap h (Some f) k s = rw s.none_open refl
 
 pub Finishes-word_end : (k : Kept) → Finishes k WordEnd (finished_by_word k)
 Finishes-word_end k line_cap h s =
-    word_end_finished line_cap (told h).events (told h).field k s ∙ sym (finished_told-is WordEnd h)
+    word_end_finished line_cap (told_plainly h).events (told_plainly h).field k s ∙ sym (finished_told-is WordEnd h)
 
 -- a word end opens no field, and ends none
 pub field-word_ended : (k : Kept) → (with_word_ended k).field ≡ k.field

@@ -3,9 +3,9 @@ use Rattle.std.proofs.Common.{◌≡◌, ◌≤◌, ℕ, List, [], ◌∷◌, Op
 use Rattle.std.specs.Prelude.{is_some, if◌then◌else◌, ◌==◌}
 use Rattle.page_model.specs.declared.event.Event.TheVariants.{WordEnd}
 use Rattle.page_model.specs.Events.{History}
-use Rattle.page_model.specs.Fields.{Field, Told, so_far, told, unfielded}
+use Rattle.page_model.specs.Fields.{Field, Told, so_far, told_plainly, unfielded}
 use Rattle.page_model.specs.Behind.{finished}
-use Rattle.page_model.specs.Lines.{Finished, finished as finished_plainly, pending_length as length_plainly}
+use Rattle.page_model.specs.Lines.{Finished, finished_in, pending_length as length_plainly}
 use Rattle.page_model.specs.Telling.{bytes_told, QuietlyTold}
 use Rattle.roff_lines.specs.Env.Kept.{Kept}
 use Rattle.roff_lines.specs.Env.Stands.{Stands, StandsFor, StandsPlain, StandsTold}
@@ -24,27 +24,27 @@ told_unfielded t none = ap (λ (f : Option Field). record { events = t.events; f
 -- what an environment in which no field is kept stands for
 pub record IsPlain (line_cap : ℕ) (h : History) (k : Kept) : Type 0 where
   pub events : History
-  pub is_told : told h ≡ unfielded events
+  pub is_told : told_plainly h ≡ unfielded events
   pub stands : StandsPlain line_cap events k
 
 pub plain_of : (line_cap : ℕ) (h : History) (k : Kept) → k.field ≡ None → Stands line_cap h k → IsPlain line_cap h k
 plain_of line_cap h k none s =
-    let unopened : (told h).field ≡ None = none_told line_cap (told h).events (told h).field k none s in record {
-      events = (told h).events;
-      is_told = told_unfielded (told h) unopened;
-      stands = subst (λ (f : Option Field). StandsTold line_cap (told h).events f k) unopened s;
+    let unopened : (told_plainly h).field ≡ None = none_told line_cap (told_plainly h).events (told_plainly h).field k none s in record {
+      events = (told_plainly h).events;
+      is_told = told_unfielded (told_plainly h) unopened;
+      stands = subst (λ (f : Option Field). StandsTold line_cap (told_plainly h).events f k) unopened s;
     }
 
 -- and the other way round
-pub stands_plain : (line_cap : ℕ) (h events : History) (k : Kept) → told h ≡ unfielded events → StandsPlain line_cap events k → Stands line_cap h k
+pub stands_plain : (line_cap : ℕ) (h events : History) (k : Kept) → told_plainly h ≡ unfielded events → StandsPlain line_cap events k → Stands line_cap h k
 stands_plain line_cap h events k is s = subst (λ (t : Told). StandsFor line_cap t k) (sym is) s
 
 -- a word end finishes what it finishes behind the plain history
-finished-word_end : (h events : History) → told h ≡ unfielded events → finished h WordEnd ≡ finished_plainly events WordEnd
-finished-word_end h events is = ap (λ (t : Told). if is_some t.field then None else finished_plainly (so_far t) WordEnd) is
+finished-word_end : (h events : History) → told_plainly h ≡ unfielded events → finished h WordEnd ≡ finished_in events WordEnd
+finished-word_end h events is = ap (λ (t : Told). if is_some t.field then None else finished_in (so_far t) WordEnd) is
 
 -- bytes are told quietly where the plain history lets them
-pub quiet_plain : (line_cap : ℕ) (bytes : List ℕ) (h events : History) → told h ≡ unfielded events → PlainlyTold line_cap bytes events
+pub quiet_plain : (line_cap : ℕ) (bytes : List ℕ) (h events : History) → told_plainly h ≡ unfielded events → PlainlyTold line_cap bytes events
     → QuietlyTold line_cap bytes h
 quiet_plain line_cap [] h events is quiet = tt
 quiet_plain line_cap (b ∷ bytes) h events is quiet =
@@ -54,7 +54,7 @@ quiet_plain line_cap (b ∷ bytes) h events is quiet =
       quiet_plain line_cap bytes (bytes_told (b ∷ []) h) (bytes_told (b ∷ []) events) is_told quiet.2,
     )
 
-pub plainly_quiet : (line_cap : ℕ) (bytes : List ℕ) (h events : History) → told h ≡ unfielded events → QuietlyTold line_cap bytes h
+pub plainly_quiet : (line_cap : ℕ) (bytes : List ℕ) (h events : History) → told_plainly h ≡ unfielded events → QuietlyTold line_cap bytes h
     → PlainlyTold line_cap bytes events
 plainly_quiet line_cap [] h events is quiet = tt
 plainly_quiet line_cap (b ∷ bytes) h events is quiet =

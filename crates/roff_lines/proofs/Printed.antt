@@ -12,7 +12,7 @@ use Rattle.page_model.specs.Places.{moved}
 use Rattle.page_model.specs.Fitting.{word_text, line_text}
 use Rattle.page_model.specs.Words.{is_empty, is_closer, is_sentence_mark, ends_sentence, blanks, has_open_word, last_word_glyphs, open_glyphs, open_word, words}
 use Rattle.page_model.specs.Lines.{pending_line, pending_length}
-use Rattle.roff_lines.specs.Env.Kept.{Kept, begun_blanks, ends_in_word, length_with, with_glyph}
+use Rattle.roff_lines.specs.Env.Kept.{Kept, begun_blanks, ends_in_word, length_with, kept_with_glyph}
 use Rattle.roff_lines.specs.Env.Stands.{StandsPlain}
 use Rattle.roff_lines.proofs.Gaps.{begun_blanks-stands}
 
@@ -80,7 +80,7 @@ module _ (line_cap : ℕ) (h : History) (k : Kept) (s : StandsPlain line_cap h k
       ∙ ends-open (has_open_word h) (last_word_glyphs h)
 
   -- what is kept behind it stands for the history with it
-  pub Stands-print : length_with g k ≤ k.cap → StandsPlain line_cap (Print g ∷ h) (with_glyph g k)
+  pub Stands-print : length_with g k ≤ k.cap → StandsPlain line_cap (Print g ∷ h) (kept_with_glyph g k)
   Stands-print room = record {
     small = s.small;
     within = within-print room;

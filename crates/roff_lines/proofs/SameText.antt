@@ -13,7 +13,7 @@ use Rattle.page_model.specs.Places.{has_line_glyph, input_place, moved}
 use Rattle.page_model.specs.Words.{open_glyphs, last_word_glyphs, blanks, words, temporary_indent}
 use Rattle.page_model.specs.LastLine.{newest_text, newest_width}
 use Rattle.page_model.specs.Paragraphs.{finished_lines}
-use Rattle.page_model.specs.Fields.{Field, Told, field_text, field_told, told, told_behind}
+use Rattle.page_model.specs.Fields.{Field, Told, field_text, field_told, told_plainly, told_behind}
 use Rattle.roff_lines.specs.Env.Kept.{Kept}
 use Rattle.roff_lines.specs.Env.Stands.{StandsBehind, StandsPlain, StandsTold}
 use Rattle.roff_lines.proofs.Fields.{blanks-field, finished_lines-field, has_line_glyph-field, input_place-field, is_interrupted-field, last_word_glyphs-field, open_glyphs-field, settings_after-field, stops_after-field, temporary_indent-field, words-field}
@@ -122,7 +122,7 @@ module _ (e : Event) (settings : Settings → Settings) (indent : Option ℕ →
   -- what is kept behind it stands for the history with it
   StandsBehind-change : (k : Kept) → StandsBehind k e (behind k)
   StandsBehind-change k line_cap h s =
-      rw c.told (changed_told line_cap (told h).events (told h).field k s)
+      rw c.told (changed_told line_cap (told_plainly h).events (told_plainly h).field k s)
 
 -- each of these is one
 text_before : (e : Event) (h : History) → words (e ∷ h) ≡ words h → open_glyphs (e ∷ h) ≡ open_glyphs h

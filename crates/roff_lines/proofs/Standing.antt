@@ -2,7 +2,7 @@
 use Rattle.std.proofs.Common.{◌≡◌, ℕ, ◌^◌, min, true, false, Option, Some, None, refl, sym, ap, subst, ◌∙◌}
 use Rattle.std.specs.Prelude.{◌++◌}
 use Rattle.page_model.specs.Events.{History, settings_after, is_interrupted}
-use Rattle.page_model.specs.Fields.{Field, field_text, field_told, plain, so_far, told}
+use Rattle.page_model.specs.Fields.{Field, field_text, field_told, plain, so_far, told_plainly}
 use Rattle.page_model.specs.Behind.{last_text, last_width}
 use Rattle.roff_lines.specs.Env.Kept.{Kept, KeptField, with_field_left}
 use Rattle.roff_lines.specs.Env.Stands.{Stands, StandsInField, StandsPlain, StandsTold}
@@ -58,7 +58,7 @@ left_told line_cap h None k s = subst (StandsPlain line_cap h) (sym (with_field_
 left_told line_cap h (Some f) k s = s.left
 
 pub left_stands : (line_cap : ℕ) (h : History) (k : Kept) → Stands line_cap h k → StandsPlain line_cap (plain h) (with_field_left k)
-left_stands line_cap h k s = left_told line_cap (told h).events (told h).field k s
+left_stands line_cap h k s = left_told line_cap (told_plainly h).events (told_plainly h).field k s
 
 module _ (line_cap : ℕ) (h : History) (k : Kept) (s : Stands line_cap h k) where
   pub settings-stands : k.settings ≡ settings_after h

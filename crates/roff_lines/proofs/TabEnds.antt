@@ -11,10 +11,10 @@ use Rattle.page_model.specs.Events.{History, settings_after}
 use Rattle.page_model.specs.Places.{has_line_glyph}
 use Rattle.page_model.specs.Fitting.{Word, begins_line, fits, last_line, line_indent, line_text, may_be_wide, word_text}
 use Rattle.page_model.specs.Words.{Paragraph, blanks, has_open_word, indent_by, is_empty, open_glyphs, open_word, paragraph, words}
-use Rattle.page_model.specs.Lines.{Finished, finished, laid_out, line_laid_out, pending_line}
+use Rattle.page_model.specs.Lines.{Finished, finished_in, laid_out, line_laid_out, pending_line}
 use Rattle.page_model.specs.LastLine.{newest_text, newest_width}
 use Rattle.page_model.specs.Paragraphs.{finished_lines}
-use Rattle.page_model.specs.Fields.{Field, field_text, field_told, gap_ended, motion, told, without_gap}
+use Rattle.page_model.specs.Fields.{Field, field_text, field_told, gap_ended, motion, told_plainly, without_gap}
 use Rattle.page_model.specs.Behind.{finished as finished_behind, finished_by_tab}
 use Rattle.roff_lines.specs.Env.Kept.{Kept, KeptField, at_tab, finished_at_tab, finished_by_word, kept_motion, length_ended, with_field_ended, with_word_ended}
 use Rattle.roff_lines.specs.Env.Stands.{Stands, StandsInField, StandsPlain, StandsTold}
@@ -40,7 +40,7 @@ module _ (n : ℕ) (h : History) (open_is : has_open_word h ≡ true) where
       } in
       ap behind gap_kept
 
-  pub finished-gap : finished (Gap n ∷ h) WordEnd ≡ finished (Gap 0 ∷ h) WordEnd
+  pub finished-gap : finished_in (Gap n ∷ h) WordEnd ≡ finished_in (Gap 0 ∷ h) WordEnd
   finished-gap =
       let p : Paragraph = paragraph h in
       let ended : ℕ → Word =
@@ -120,7 +120,7 @@ module _ (line_cap : ℕ) (h : History) (f : Field) (k : Kept) (s : StandsInFiel
       ∙ ap (λ (t : List ℕ). word_text (open_word h) ++ (replicate (motion f) glyph_blank ++ t)) s.text
 
   -- the line that this finishes: also where the limit refuses the motion
-  finished-ended : finished_by_word (ended_of k s.field) ≡ finished (field_told (motion f) (without_gap f) h) WordEnd
+  finished-ended : finished_by_word (ended_of k s.field) ≡ finished_in (field_told (motion f) (without_gap f) h) WordEnd
   finished-ended =
       let m : ℕ = motion f in
       let g : Field = without_gap f in
@@ -155,7 +155,7 @@ module _ (line_cap : ℕ) (h : History) (f : Field) (k : Kept) (s : StandsInFiel
       ∙ ap (λ (o : Bool). if o && not (is_empty (words q)) && not (fits (pending_line q) (open_word q)) then Some (line_laid_out (settings_after q) true (pending_line q)) else None)
       (sym opened)
 
-  pub finished_at_tab-is : finished_at_tab k ≡ (if f.gap == 0 then None else finished (field_told (motion f) (without_gap f) h) WordEnd)
+  pub finished_at_tab-is : finished_at_tab k ≡ (if f.gap == 0 then None else finished_in (field_told (motion f) (without_gap f) h) WordEnd)
   finished_at_tab-is =
       ap (λ (o : Option KeptField). elim o [ None ↦ None | Some kept ↦ if k.blanks == 0 then None else finished_by_word (with_field_ended k) ]) s.field_is
       ∙ ap₂ (λ (none : Bool) (ended : Kept). if none then None else finished_by_word ended) (gap-none line_cap h f k s) (with_field_ended-is line_cap h f k s)
@@ -169,4 +169,4 @@ finished_at_tab-told line_cap h None k s =
 finished_at_tab-told line_cap h (Some f) k s = finished_at_tab-is line_cap h f k s
 
 pub finished_at_tab-stands : (line_cap : ℕ) (h : History) (k : Kept) → Stands line_cap h k → finished_at_tab k ≡ finished_behind h Tab
-finished_at_tab-stands line_cap h k s = finished_at_tab-told line_cap (told h).events (told h).field k s
+finished_at_tab-stands line_cap h k s = finished_at_tab-told line_cap (told_plainly h).events (told_plainly h).field k s

@@ -9,12 +9,12 @@ use Rattle.page_model.specs.declared.glyph.Glyph.TheVariants.{Blanks}
 use Rattle.page_model.specs.declared.stop.StopKind.{StopKind}
 use Rattle.page_model.specs.declared.event.Event.TheVariants.{FieldEnd, Print, Tab}
 use Rattle.page_model.specs.Events.{History, stops_after}
-use Rattle.page_model.specs.Fields.{Field, Told, field_ended, opened, so_far, tab_told, told, told_behind, tab_reached}
+use Rattle.page_model.specs.Fields.{Field, Told, field_ended, opened, so_far, tab_told, told_plainly, told_behind, tab_reached}
 use Rattle.page_model.specs.Behind.{finished_by_tab, length_reached, pending_length as pending_length_behind}
 use Rattle.page_model.specs.TabStops.{Way, way_to_next}
 use Rattle.page_model.specs.Places.{input_place}
 use Rattle.page_model.specs.Lines.{pending_length}
-use Rattle.roff_lines.specs.Env.Kept.{Kept, KeptField, at_tab, length_ended, length_of_words, length_with, with_field_ended, with_field_opened, with_glyph, with_word_ended, word_fits}
+use Rattle.roff_lines.specs.Env.Kept.{Kept, KeptField, at_tab, length_ended, length_of_words, length_with, with_field_ended, with_field_opened, kept_with_glyph, with_word_ended, word_fits}
 use Rattle.roff_lines.specs.Env.Stands.{Finishes, Stands, StandsBehind, StandsBehindTab, StandsFor, StandsPlain, StandsTold, length_at_tab}
 use Rattle.roff_lines.proofs.InField.{Stands-field_ended, length-stands, limit-ended}
 use Rattle.roff_lines.proofs.PlainStanding.{plain_of}
@@ -49,15 +49,15 @@ module _ (line_cap : ℕ) (h : History) where
   tab-told (Some f) k s room = Stands-at_tab line_cap h f k s room
 
 pub limit-field_end : (line_cap : ℕ) (h : History) (k : Kept) → Stands line_cap h k
-    → (k.cap < length_ended k) ↔ (line_cap < pending_length (field_ended (told h)))
-limit-field_end line_cap h k s = limit-told line_cap (told h).events (told h).field k s
+    → (k.cap < length_ended k) ↔ (line_cap < pending_length (field_ended (told_plainly h)))
+limit-field_end line_cap h k s = limit-told line_cap (told_plainly h).events (told_plainly h).field k s
 
 pub StandsBehind-field_end : (old : Kept) → length_ended old ≤ old.cap → StandsBehind old FieldEnd (with_field_ended old)
-StandsBehind-field_end old room line_cap h s = ended-told line_cap (told h).events (told h).field old s room
+StandsBehind-field_end old room line_cap h s = ended-told line_cap (told_plainly h).events (told_plainly h).field old s room
 
 pub Stands-tab_reached : (line_cap : ℕ) (h : History) (k : Kept) → Stands line_cap h k → length_ended k ≤ k.cap
-    → StandsPlain line_cap (tab_reached (told h)) (at_tab k)
-Stands-tab_reached line_cap h k s room = tab-told line_cap (told h).events (told h).field k s room
+    → StandsPlain line_cap (tab_reached (told_plainly h)) (at_tab k)
+Stands-tab_reached line_cap h k s room = tab-told line_cap (told_plainly h).events (told_plainly h).field k s room
 
 -- a tab of no columns that opens a field
 pub Stands-opened : (line_cap : ℕ) (h : History) (k : Kept) (way : ℕ) (is_centred : Bool) → StandsPlain line_cap (Print (Blanks 0) ∷ h) k
@@ -131,13 +131,13 @@ at_tab-none k = at_tab-by k k.field refl
 pub StandsBehindTab-opened : (old new : Kept) (columns : ℕ) (kind : StopKind) (is_centred : Bool)
     → ((h : History) → tab_told (Some (record { columns = columns; kind = kind })) h ≡ opened columns is_centred h)
     → way_to_next old.stops old.place ≡ Some (record { columns = columns; kind = kind })
-    → new ≡ with_field_opened columns is_centred (with_glyph (Blanks 0) old) → length_with (Blanks 0) old ≤ old.cap → StandsBehindTab old new
+    → new ≡ with_field_opened columns is_centred (kept_with_glyph (Blanks 0) old) → length_with (Blanks 0) old ≤ old.cap → StandsBehindTab old new
 StandsBehindTab-opened old new columns kind is_centred opens way is room line_cap h s =
     let same : way_to_next (stops_after h) (input_place h) ≡ Some (record { columns = columns; kind = kind }) =
     sym (ap₂ way_to_next s.stops s.place) ∙ way in
     subst (λ (t : Told). StandsFor line_cap t new) (sym (ap (λ (w : Option Way). tab_told w h) same ∙ opens h))
     (subst (StandsFor line_cap (opened columns is_centred h)) (sym is)
-    (Stands-opened line_cap h (with_glyph (Blanks 0) old) columns is_centred (Stands-print line_cap h old s (Blanks 0) room)))
+    (Stands-opened line_cap h (kept_with_glyph (Blanks 0) old) columns is_centred (Stands-print line_cap h old s (Blanks 0) room)))
 
 -- where no error was answered, a count was within the limit
 pub no_error : {failed : Bool} {c n : ℕ} → ((failed ≡ true) ↔ (c < n)) → failed ≡ false → n ≤ c

@@ -11,10 +11,10 @@ use Rattle.page_model.specs.declared.stop.StopKind.{StopKind}
 use Rattle.page_model.specs.declared.stop.StopKind.TheVariants.{Left as AtLeft, Right as AtRight, Centred as InMiddle}
 use Rattle.page_model.specs.TabStops.{Way, stops_with, way_to_next}
 use Rattle.page_model.specs.Places.{input_place}
-use Rattle.page_model.specs.Lines.{Finished, finished}
+use Rattle.page_model.specs.Lines.{Finished, finished_in}
 use Rattle.page_model.specs.Paragraphs.{finished_lines}
 use Rattle.page_model.specs.LastLine.{newest_text, newest_width, last_text, last_width}
-use Rattle.page_model.specs.Fields.{Field, Told, field_told, gap_ended, motion, plain, so_far, tab_told, told, told_behind, without_gap}
+use Rattle.page_model.specs.Fields.{Field, Told, field_told, gap_ended, motion, plain, so_far, tab_told, told_plainly, told_behind, without_gap}
 use Rattle.page_model.specs.Behind as behind
 use Rattle.roff_lines.proofs.Fields.{settings_after-field, stops_after-field, is_interrupted-field, finished_lines-field}
 
@@ -74,7 +74,7 @@ is_interrupted-gap_ended f h =
 
 finished_lines-gap_ended_by : (none : Bool) (n : ℕ) (h : History)
     → finished_lines (if none then h else Gap n ∷ WordEnd ∷ h)
-    ≡ cons_option (if none then None else finished h WordEnd) (finished_lines h)
+    ≡ cons_option (if none then None else finished_in h WordEnd) (finished_lines h)
 finished_lines-gap_ended_by true n h = refl
 finished_lines-gap_ended_by false n h = refl
 
@@ -163,13 +163,13 @@ is_interrupted-behind (Set p) h field = refl
 -- the line that an event finishes behind what is told so
 abbrev pub finished_told : Event → Told → Option Finished
 finished_told Tab t = behind.finished_by_tab t
-finished_told WordEnd t = if is_some t.field then None else finished (so_far t) WordEnd
-finished_told LineEnd t = finished (so_far t) LineEnd
-finished_told Break t = finished (so_far t) Break
+finished_told WordEnd t = if is_some t.field then None else finished_in (so_far t) WordEnd
+finished_told LineEnd t = finished_in (so_far t) LineEnd
+finished_told Break t = finished_in (so_far t) Break
 finished_told (_) t = None
 
 -- it is the one of the history that is told so
-pub finished_told-is : (e : Event) (h : History) → behind.finished h e ≡ finished_told e (told h)
+pub finished_told-is : (e : Event) (h : History) → behind.finished h e ≡ finished_told e (told_plainly h)
 finished_told-is (Print g) h = refl
 finished_told-is Tab h = refl
 finished_told-is FieldEnd h = refl
@@ -191,7 +191,7 @@ finished_lines-behind Tab h None = finished_lines-tab_told (way_to_next (stops_a
 finished_lines-behind Tab h (Some f) =
     let ended = field_told (motion f) (without_gap f) h in
     let i = gap_ended f ended in
-    let line : Option Finished = if f.gap == 0 then None else finished ended WordEnd in
+    let line : Option Finished = if f.gap == 0 then None else finished_in ended WordEnd in
     finished_lines-tab_told (way_to_next (stops_after i) (input_place i)) i
     ∙ finished_lines-gap_ended_by (f.gap == 0) f.gap ended
     ∙ ap (cons_option line) (finished_lines-field (motion f) (without_gap f) h)
@@ -202,10 +202,10 @@ finished_lines-behind WordEnd h (Some f) = refl
 finished_lines-behind (Gap n) h None = refl
 finished_lines-behind (Gap n) h (Some f) = refl
 finished_lines-behind LineEnd h None = refl
-finished_lines-behind LineEnd h (Some f) = ap (cons_option (finished (field_told 0 f h) LineEnd)) (finished_lines-field 0 f h)
+finished_lines-behind LineEnd h (Some f) = ap (cons_option (finished_in (field_told 0 f h) LineEnd)) (finished_lines-field 0 f h)
 finished_lines-behind Count h field = refl
 finished_lines-behind Break h None = refl
-finished_lines-behind Break h (Some f) = ap (cons_option (finished (field_told 0 f h) Break)) (finished_lines-field 0 f h)
+finished_lines-behind Break h (Some f) = ap (cons_option (finished_in (field_told 0 f h) Break)) (finished_lines-field 0 f h)
 finished_lines-behind Interrupt h field = refl
 finished_lines-behind Resume h field = refl
 finished_lines-behind (Set p) h field = refl
@@ -268,53 +268,53 @@ with-interrupted Resume h i same = refl
 with-interrupted (Set p) h i same = same
 
 -- so what is in force is the same told without fields, up to the field that is open and with it
-pub settings_after-told : (h : History) → settings_after h ≡ settings_after (told h).events
+pub settings_after-told : (h : History) → settings_after h ≡ settings_after (told_plainly h).events
 settings_after-told [] = refl
 settings_after-told (e ∷ h) =
-    with-settings e h (told h).events (settings_after-told h)
-    ∙ sym (settings_after-behind e (told h).events (told h).field)
+    with-settings e h (told_plainly h).events (settings_after-told h)
+    ∙ sym (settings_after-behind e (told_plainly h).events (told_plainly h).field)
 
 pub settings_after-plain : (h : History) → settings_after h ≡ settings_after (plain h)
-settings_after-plain h = settings_after-told h ∙ sym (settings_after-so_far (told h).events (told h).field)
+settings_after-plain h = settings_after-told h ∙ sym (settings_after-so_far (told_plainly h).events (told_plainly h).field)
 
 -- so are the tab stops
-pub stops_after-told : (h : History) → stops_after h ≡ stops_after (told h).events
+pub stops_after-told : (h : History) → stops_after h ≡ stops_after (told_plainly h).events
 stops_after-told [] = refl
 stops_after-told (e ∷ h) =
-    with-stops e h (told h).events (stops_after-told h) ∙ sym (stops_after-behind e (told h).events (told h).field)
+    with-stops e h (told_plainly h).events (stops_after-told h) ∙ sym (stops_after-behind e (told_plainly h).events (told_plainly h).field)
 
 pub stops_after-plain : (h : History) → stops_after h ≡ stops_after (plain h)
-stops_after-plain h = stops_after-told h ∙ sym (stops_after-so_far (told h).events (told h).field)
+stops_after-plain h = stops_after-told h ∙ sym (stops_after-so_far (told_plainly h).events (told_plainly h).field)
 
 -- whether the line of the input is interrupted
-pub is_interrupted-told : (h : History) → is_interrupted h ≡ is_interrupted (told h).events
+pub is_interrupted-told : (h : History) → is_interrupted h ≡ is_interrupted (told_plainly h).events
 is_interrupted-told [] = refl
 is_interrupted-told (e ∷ h) =
-    with-interrupted e h (told h).events (is_interrupted-told h)
-    ∙ sym (is_interrupted-behind e (told h).events (told h).field)
+    with-interrupted e h (told_plainly h).events (is_interrupted-told h)
+    ∙ sym (is_interrupted-behind e (told_plainly h).events (told_plainly h).field)
 
 pub is_interrupted-plain : (h : History) → is_interrupted h ≡ is_interrupted (plain h)
-is_interrupted-plain h = is_interrupted-told h ∙ sym (is_interrupted-so_far (told h).events (told h).field)
+is_interrupted-plain h = is_interrupted-told h ∙ sym (is_interrupted-so_far (told_plainly h).events (told_plainly h).field)
 
 -- and the lines that are finished
-pub finished_lines-told : (h : History) → behind.finished_lines h ≡ finished_lines (told h).events
+pub finished_lines-told : (h : History) → behind.finished_lines h ≡ finished_lines (told_plainly h).events
 finished_lines-told [] = refl
 finished_lines-told (e ∷ h) =
     ap (λ o. cons_option o (behind.finished_lines h)) (finished_told-is e h)
-    ∙ ap (cons_option (finished_told e (told h))) (finished_lines-told h)
-    ∙ sym (finished_lines-behind e (told h).events (told h).field)
+    ∙ ap (cons_option (finished_told e (told_plainly h))) (finished_lines-told h)
+    ∙ sym (finished_lines-behind e (told_plainly h).events (told_plainly h).field)
 
 pub finished_lines-plain : (h : History) → behind.finished_lines h ≡ finished_lines (plain h)
-finished_lines-plain h = finished_lines-told h ∙ sym (finished_lines-so_far (told h).events (told h).field)
+finished_lines-plain h = finished_lines-told h ∙ sym (finished_lines-so_far (told_plainly h).events (told_plainly h).field)
 
 -- so is the last one
-pub last_text-told : (h : History) → behind.last_text h ≡ last_text (told h).events
+pub last_text-told : (h : History) → behind.last_text h ≡ last_text (told_plainly h).events
 last_text-told h = ap newest_text (finished_lines-told h)
 
 pub last_text-plain : (h : History) → behind.last_text h ≡ last_text (plain h)
 last_text-plain h = ap newest_text (finished_lines-plain h)
 
-pub last_width-told : (h : History) → behind.last_width h ≡ last_width (told h).events
+pub last_width-told : (h : History) → behind.last_width h ≡ last_width (told_plainly h).events
 last_width-told h = ap newest_width (finished_lines-told h)
 
 pub last_width-plain : (h : History) → behind.last_width h ≡ last_width (plain h)

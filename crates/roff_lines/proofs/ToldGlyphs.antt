@@ -12,7 +12,7 @@ use Rattle.page_model.specs.Events.{History}
 use Rattle.page_model.specs.Places.{moved}
 use Rattle.page_model.specs.Lines.{pending_length}
 use Rattle.page_model.specs.Telling.{bytes_told}
-use Rattle.roff_lines.specs.Env.Kept.{Kept, begun_blanks, glyph_room, with_glyph, with_glyphs}
+use Rattle.roff_lines.specs.Env.Kept.{Kept, begun_blanks, glyph_room, kept_with_glyph, with_glyphs}
 use Rattle.roff_lines.specs.Env.Stands.{StandsPlain}
 use Rattle.roff_lines.specs.Env.Tells.{TellsPlain}
 use Rattle.roff_lines.proofs.Gaps.{begun_blanks-twice}
@@ -29,7 +29,7 @@ pub text_width-one : (b : ℕ) → text_width (b ∷ []) ≡ byte_width b
 text_width-one b = omega (arith, sum_by-cons byte_width b [])
 
 -- such a byte is a glyph
-with_glyphs-one : (b : ℕ) (k : Kept) → 32 < b → with_glyph (Printed b) k ≡ with_glyphs (b ∷ []) k
+with_glyphs-one : (b : ℕ) (k : Kept) → 32 < b → kept_with_glyph (Printed b) k ≡ with_glyphs (b ∷ []) k
 with_glyphs-one b k above = rw (text_byte-above b above, text_width-one b) refl
 
 module _ (line_cap : ℕ) (h : History) (k : Kept) (s : StandsPlain line_cap h k) (b : ℕ) (above : 32 < b) where

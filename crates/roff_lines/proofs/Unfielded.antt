@@ -10,10 +10,10 @@ use Rattle.page_model.specs.declared.stop.StopKind.TheVariants.{Left as AtLeft}
 use Rattle.page_model.specs.TabStops.{Way, way_to_next}
 use Rattle.page_model.specs.Places.{input_place}
 use Rattle.page_model.specs.Fitting.{Word}
-use Rattle.page_model.specs.Lines.{finished}
+use Rattle.page_model.specs.Lines.{finished_in}
 use Rattle.page_model.specs.Words.{has_open_word}
 use Rattle.page_model.specs.Telling.{glyphs_told, words_told, bytes_told, text_line}
-use Rattle.page_model.specs.Fields.{Field, Told, is_in_field, plain, so_far, tab_told, told, told_behind, unfielded}
+use Rattle.page_model.specs.Fields.{Field, Told, is_in_field, plain, so_far, tab_told, told_plainly, told_behind, unfielded}
 use Rattle.page_model.specs.Behind as behind
 use Rattle.roff_lines.proofs.Fields.{has_open_word-field}
 use Rattle.roff_lines.proofs.Told.{finished_told, finished_told-is}
@@ -24,10 +24,10 @@ unfielded-so_far : (h : History) (field : Option Field) → is_some field ≡ fa
 unfielded-so_far h None none = refl
 unfielded-so_far h (Some f) none = cc
 
-pub told-unfielded : (h : History) → is_in_field h ≡ false → told h ≡ unfielded (plain h)
-told-unfielded h none = unfielded-so_far (told h).events (told h).field none
+pub told-unfielded : (h : History) → is_in_field h ≡ false → told_plainly h ≡ unfielded (plain h)
+told-unfielded h none = unfielded-so_far (told_plainly h).events (told_plainly h).field none
 
-pub plain-unfielded : (h : History) → is_in_field h ≡ false → plain h ≡ (told h).events
+pub plain-unfielded : (h : History) → is_in_field h ≡ false → plain h ≡ (told_plainly h).events
 plain-unfielded h none = sym (ap (λ t. t.events) (told-unfielded h none))
 
 -- in a field a word is open, and a glyph stands on the line
@@ -38,7 +38,7 @@ open-in-field h (Some f) none = let is = has_open_word-field 0 f h in cc
 
 -- so where no word is open, no field is
 pub is_in_field-closed : (h : History) → has_open_word (plain h) ≡ false → is_in_field h ≡ false
-is_in_field-closed h closed = open-in-field (told h).events (told h).field closed
+is_in_field-closed h closed = open-in-field (told_plainly h).events (told_plainly h).field closed
 
 -- an event that is told as it is where no field is open: neither a tab nor a field's end
 abbrev pub IsPlain : Event → Type 0
@@ -65,7 +65,7 @@ told-tab-way None h left = refl
 told-tab-way (Some w) h left = rw (left w refl) refl
 
 -- the line that an event finishes is that of the definition over plain histories
-finished_told-unfielded : (e : Event) (p : History) → finished_told e (unfielded p) ≡ finished p e
+finished_told-unfielded : (e : Event) (p : History) → finished_told e (unfielded p) ≡ finished_in p e
 finished_told-unfielded (Print g) p = refl
 finished_told-unfielded Tab p = refl
 finished_told-unfielded FieldEnd p = refl
@@ -79,18 +79,18 @@ finished_told-unfielded Resume p = refl
 finished_told-unfielded (Set c) p = refl
 
 -- a history h that is told as the plain history p
-module _ (h p : History) (is : told h ≡ unfielded p) where
+module _ (h p : History) (is : told_plainly h ≡ unfielded p) where
   -- with one event more
-  pub told-event_as : (e : Event) → IsPlain e → told (e ∷ h) ≡ unfielded (e ∷ p)
+  pub told-event_as : (e : Event) → IsPlain e → told_plainly (e ∷ h) ≡ unfielded (e ∷ p)
   told-event_as e plain_event = ap (told_behind e) is ∙ told_behind-plain e p plain_event
 
   -- with a tab, unless it opens a field
   pub told-tab_as : ((w : Way) → way_to_next (stops_after p) (input_place p) ≡ Some w → w.kind ≡ AtLeft)
-      → told (Tab ∷ h) ≡ unfielded (Tab ∷ p)
+      → told_plainly (Tab ∷ h) ≡ unfielded (Tab ∷ p)
   told-tab_as left = ap (told_behind Tab) is ∙ told-tab-way (way_to_next (stops_after p) (input_place p)) p left
 
   -- a field's end is none
-  pub told-field_end_as : told (FieldEnd ∷ h) ≡ unfielded p
+  pub told-field_end_as : told_plainly (FieldEnd ∷ h) ≡ unfielded p
   told-field_end_as = ap (told_behind FieldEnd) is
 
   -- all that happened is that
@@ -102,25 +102,25 @@ module _ (h p : History) (is : told h ≡ unfielded p) where
   is_in_field_as = ap (λ t. is_some t.field) is
 
   -- a line is finished, and a word is open, where the definitions over plain histories say so
-  pub finished_as : (e : Event) → behind.finished h e ≡ finished p e
+  pub finished_as : (e : Event) → behind.finished h e ≡ finished_in p e
   finished_as e = finished_told-is e h ∙ ap (finished_told e) is ∙ finished_told-unfielded e p
 
   pub has_open_word_as : behind.has_open_word h ≡ has_open_word p
   has_open_word_as = ap (λ t. not (is_some t.field) && has_open_word (so_far t)) is
 
 -- these glyphs behind it
-pub told-glyphs_as : (gs : List Glyph) (h p : History) → told h ≡ unfielded p
-    → told (map Print gs ++ h) ≡ unfielded (map Print gs ++ p)
+pub told-glyphs_as : (gs : List Glyph) (h p : History) → told_plainly h ≡ unfielded p
+    → told_plainly (map Print gs ++ h) ≡ unfielded (map Print gs ++ p)
 told-glyphs_as [] h p is = is
 told-glyphs_as (g ∷ gs) h p is = told-event_as (map Print gs ++ h) (map Print gs ++ p) (told-glyphs_as gs h p is) (Print g) tt
 
-pub told-glyphs_told_as : (gs : List Glyph) (h p : History) → told h ≡ unfielded p
-    → told (glyphs_told gs h) ≡ unfielded (glyphs_told gs p)
+pub told-glyphs_told_as : (gs : List Glyph) (h p : History) → told_plainly h ≡ unfielded p
+    → told_plainly (glyphs_told gs h) ≡ unfielded (glyphs_told gs p)
 told-glyphs_told_as gs h p is = told-glyphs_as (reverse gs) h p is
 
 -- these words
-pub told-words_as : (ws : List Word) (h p : History) → told h ≡ unfielded p
-    → told (words_told ws h) ≡ unfielded (words_told ws p)
+pub told-words_as : (ws : List Word) (h p : History) → told_plainly h ≡ unfielded p
+    → told_plainly (words_told ws h) ≡ unfielded (words_told ws p)
 told-words_as [] h p is = is
 told-words_as (w ∷ ws) h p is =
     let before = told-event_as (words_told ws h) (words_told ws p) (told-words_as ws h p is) (Gap w.gap) tt in
@@ -128,22 +128,22 @@ told-words_as (w ∷ ws) h p is =
     (told-glyphs_told_as w.glyphs (Gap w.gap ∷ words_told ws h) (Gap w.gap ∷ words_told ws p) before) WordEnd tt
 
 -- a byte
-told-byte_as : (blank : Bool) (b : ℕ) (h p : History) → told h ≡ unfielded p
-    → told (if blank then Gap 1 ∷ WordEnd ∷ h else Print (Printed b) ∷ h)
+told-byte_as : (blank : Bool) (b : ℕ) (h p : History) → told_plainly h ≡ unfielded p
+    → told_plainly (if blank then Gap 1 ∷ WordEnd ∷ h else Print (Printed b) ∷ h)
     ≡ unfielded (if blank then Gap 1 ∷ WordEnd ∷ p else Print (Printed b) ∷ p)
 told-byte_as true b h p is = told-event_as (WordEnd ∷ h) (WordEnd ∷ p) (told-event_as h p is WordEnd tt) (Gap 1) tt
 told-byte_as false b h p is = told-event_as h p is (Print (Printed b)) tt
 
 -- these bytes
-pub told-bytes_as : (bytes : List ℕ) (h p : History) → told h ≡ unfielded p
-    → told (bytes_told bytes h) ≡ unfielded (bytes_told bytes p)
+pub told-bytes_as : (bytes : List ℕ) (h p : History) → told_plainly h ≡ unfielded p
+    → told_plainly (bytes_told bytes h) ≡ unfielded (bytes_told bytes p)
 told-bytes_as [] h p is = is
 told-bytes_as (b ∷ bytes) h p is =
     told-bytes_as bytes (bytes_told (b ∷ []) h) (bytes_told (b ∷ []) p) (told-byte_as (b == 32) b h p is)
 
 -- a text line
-pub told-text_line_as : (bytes : List ℕ) (h p : History) → told h ≡ unfielded p
-    → told (text_line bytes h) ≡ unfielded (text_line bytes p)
+pub told-text_line_as : (bytes : List ℕ) (h p : History) → told_plainly h ≡ unfielded p
+    → told_plainly (text_line bytes h) ≡ unfielded (text_line bytes p)
 told-text_line_as bytes h p is =
     let i = bytes_told bytes h in
     let q = bytes_told bytes p in
@@ -152,24 +152,24 @@ told-text_line_as bytes h p is =
 
 -- a history behind which no field is open
 module _ (h : History) (none : is_in_field h ≡ false) where
-  pub told-event : (e : Event) → IsPlain e → told (e ∷ h) ≡ unfielded (e ∷ plain h)
+  pub told-event : (e : Event) → IsPlain e → told_plainly (e ∷ h) ≡ unfielded (e ∷ plain h)
   told-event = told-event_as h (plain h) (told-unfielded h none)
 
   pub plain-event : (e : Event) → IsPlain e → plain (e ∷ h) ≡ e ∷ plain h
   plain-event e is = ap so_far (told-event e is)
 
   pub told-tab : ((w : Way) → way_to_next (stops_after (plain h)) (input_place (plain h)) ≡ Some w → w.kind ≡ AtLeft)
-      → told (Tab ∷ h) ≡ unfielded (Tab ∷ plain h)
+      → told_plainly (Tab ∷ h) ≡ unfielded (Tab ∷ plain h)
   told-tab = told-tab_as h (plain h) (told-unfielded h none)
 
-  pub told-field_end : told (FieldEnd ∷ h) ≡ unfielded (plain h)
+  pub told-field_end : told_plainly (FieldEnd ∷ h) ≡ unfielded (plain h)
   told-field_end = told-field_end_as h (plain h) (told-unfielded h none)
 
-  pub finished-plain : (e : Event) → behind.finished h e ≡ finished (plain h) e
+  pub finished-plain : (e : Event) → behind.finished h e ≡ finished_in (plain h) e
   finished-plain = finished_as h (plain h) (told-unfielded h none)
 
   pub has_open_word-plain : behind.has_open_word h ≡ has_open_word (plain h)
   has_open_word-plain = has_open_word_as h (plain h) (told-unfielded h none)
 
-  pub told-bytes : (bytes : List ℕ) → told (bytes_told bytes h) ≡ unfielded (bytes_told bytes (plain h))
+  pub told-bytes : (bytes : List ℕ) → told_plainly (bytes_told bytes h) ≡ unfielded (bytes_told bytes (plain h))
   told-bytes bytes = told-bytes_as bytes h (plain h) (told-unfielded h none)

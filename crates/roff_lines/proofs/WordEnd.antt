@@ -5,7 +5,7 @@ use Rattle.page_model.specs.declared.event.Event.TheVariants.{WordEnd}
 use Rattle.page_model.specs.Events.{History}
 use Rattle.page_model.specs.Words.{has_open_word, open_word, temporary_indent, indent_by}
 use Rattle.page_model.specs.Fitting.{gap_text, begins_line}
-use Rattle.page_model.specs.Lines.{laid_out, finished, pending_line}
+use Rattle.page_model.specs.Lines.{laid_out, finished_in, pending_line}
 use Rattle.page_model.specs.LastLine.{last_text, last_width}
 use Rattle.roff_lines.specs.Env.Kept.{Kept, without_word, word_as_line, word_fits, pending_width, with_word_ended, finished_by_word}
 use Rattle.roff_lines.specs.Env.Stands.{StandsPlain}
@@ -15,7 +15,7 @@ use Rattle.roff_lines.proofs.Stands.{is_empty-pending_line, words-no_line, blank
 
 module _ (line_cap : ℕ) (h : History) (k : Kept) (s : StandsPlain line_cap h k) where
   -- the line that a word end finishes is the definition's
-  pub finished_by_word-stands : finished_by_word k ≡ finished h WordEnd
+  pub finished_by_word-stands : finished_by_word k ≡ finished_in h WordEnd
   finished_by_word-stands =
       elim (cases_Bool k.is_open) [
         | inl o ↦ elim (cases_Bool k.has_line) [

@@ -19,7 +19,7 @@ use Rattle.page_model.specs.Titles.{Title, title_text}
 use Rattle.page_model.specs.Stops.{Target, innermost, is_diverted, page_target, target}
 use Rattle.page_model.specs.Puts.{Put, appended, blank_lines, boxes_put, needed, puts, within_stop}
 use Rattle.page_model.specs.Turning.{behind_put, greatest_width, in_diversion, in_innermost, next_behind, no_space_behind, turned_unless, with_boxes, with_event, with_put}
-use Rattle.page_model.specs.Springs.{diversion_trap_passed, first_met, is_on_top, is_passed, passed_in, springs}
+use Rattle.page_model.specs.Springs.{diversion_trap_passed, first_met, is_on_top, is_passed, passed_in, springs_on_page}
 use Rattle.page_model.specs.Queries.{place_now, text_target}
 use Rattle.roff_pages.specs.Pages.Kept.{Kept}
 use Rattle.roff_pages.specs.Pages.Counted.{counted}
@@ -62,7 +62,7 @@ passed_by_test : (e : Bool) (on_page within : Option ShortName) → e ≡ false 
 passed_by_test true on_page within e = cc
 passed_by_test false on_page within e = refl
 
-pub springs_diverted : (x : Happening) (L : Layout) (boxes : List Box) → PutsDiverted x L boxes → springs x L ≡ sprung_diverted boxes L
+pub springs_diverted : (x : Happening) (L : Layout) (boxes : List Box) → PutsDiverted x L boxes → springs_on_page x L ≡ sprung_diverted boxes L
 springs_diverted x L boxes p =
     let M : Layout = with_diverted boxes L in
     let from = place_now L in

@@ -13,7 +13,7 @@ use Rattle.page_model.specs.Happenings.{Happening, is_eject}
 use Rattle.page_model.specs.Stops.{Target, is_diverted, page_target, place_of, target}
 use Rattle.page_model.specs.Puts.{Put, appended, boxes_put, puts}
 use Rattle.page_model.specs.Turning.{behind_put, in_innermost, next_behind, no_space_behind, turned_if_full, turned_unless, unput, with_boxes, with_event, with_put}
-use Rattle.page_model.specs.Springs.{first_met, is_on_top, is_passed, passed, passed_in, springs}
+use Rattle.page_model.specs.Springs.{first_met, is_on_top, is_passed, passed, passed_in, springs_on_page}
 use Rattle.page_model.specs.DeviceText.{box_line, device_lines, device_text}
 use Rattle.page_model.proofs.DeviceText.{either_none}
 use Rattle.roff_pages.specs.Pages.Kept.{Kept}
@@ -88,7 +88,7 @@ sprung_with x L M from boxes =
     else passed x from (from + length boxes) L
 
 springs_boxes : (x : Happening) (L : Layout) (boxes : List Box) (next : Option Num) (mode : Bool) → PutsBoxes x L boxes next mode
-    → springs x L ≡ sprung_by boxes (record L { next = next; no_space = mode })
+    → springs_on_page x L ≡ sprung_by boxes (record L { next = next; no_space = mode })
 springs_boxes x L boxes next mode p =
     let M : Layout = turned_if_full (with_lines boxes (record L { next = next; no_space = mode })) in
     let P = page_place L in
@@ -147,7 +147,7 @@ pub record PutsNothing (x : Happening) (L : Layout) : Type 0 where
 with_nothing : (x : Happening) (L : Layout) → PutsNothing x L → with_event x L ≡ L
 with_nothing x L p = ap (λ (q : Option Put). behind_put x q (appended x L) L) p.puts_is ∙ p.stays
 
-nothing_springs : (x : Happening) (L : Layout) → PutsNothing x L → None ≡ springs x L
+nothing_springs : (x : Happening) (L : Layout) → PutsNothing x L → None ≡ springs_on_page x L
 nothing_springs x L p =
     let P = (target x L).place in
     sym (ap (λ (M : Layout). sprung_with x L M P (appended x L)) (with_nothing x L p)
@@ -256,11 +256,11 @@ pub boxed : (L : Layout) (k mid new : Kept) (boxes : List Box) (lines : ℕ) (ne
     → ((N : Layout) (boxes : List Box) → StandsAs N mid → length boxes ≡ lines → name ≡ sprung_by boxes (record N { next = next; no_space = mode }))
     → new.written ≡ mid.written → Printed k mid out out_then (if_listed k.is_listed text)
     → Boxed (record L { next = next; no_space = mode }) boxes name k new out out_then
-boxed L k mid new boxes lines next mode name text out out_then s written long same stands springs kept p =
+boxed L k mid new boxes lines next mode name text out out_then s written long same stands springs_on_page kept p =
     let now : StandsAs L mid = subst (λ (k : Kept). StandsAs L k) (sym written) (written_standing L k mid.written s) in
     record {
       stands = stands L boxes now long;
-      springs = springs L boxes now long;
+      springs = springs_on_page L boxes now long;
       printed = subst (λ (bytes : List ℕ). Printed k new out out_then bytes)
           (rw (same, s.is_listed, s.offset) refl)
           (record { within = p.within; written = kept ∙ p.written; writes = p.writes });

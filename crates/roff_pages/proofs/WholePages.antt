@@ -12,7 +12,7 @@ use Rattle.page_model.specs.Happenings.{Happening, Does, Places, Titles, is_ejec
 use Rattle.page_model.specs.Stops.{Target, next_stop, page_target, target, is_diverted}
 use Rattle.page_model.specs.Puts.{Put, boxes_put, puts, appended, ejected_if}
 use Rattle.page_model.specs.Turning.{page_begun, turned, turned_if_full, turned_unless, with_boxes, next_behind, unput, without_put, behind_put, with_event}
-use Rattle.page_model.specs.Springs.{is_passed, is_on_top, first_met, springs, goes_on}
+use Rattle.page_model.specs.Springs.{is_passed, is_on_top, first_met, springs_on_page, goes_on}
 use Rattle.page_model.specs.DeviceText.{box_line, device_lines, device_text}
 use Rattle.roff_pages.specs.Reach.{texts}
 use Rattle.roff_pages.specs.WholePages.{page_boxes, ends_page, boxes_of_page, written_on_page, sizes_behind, page_sizes, keeps_length, keeps_page}
@@ -261,7 +261,7 @@ waits_if x true L waits = waits
 waits_if x false L waits = λ h. cc
 
 -- each eject waits
-event_waits : (e : LayoutEvent) (L : Layout) → goes_on (Does e) L ≡ true → is_some (springs (Does e) L) ≡ true
+event_waits : (e : LayoutEvent) (L : Layout) → goes_on (Does e) L ≡ true → is_some (springs_on_page (Does e) L) ≡ true
 event_waits (Eject asked) L h =
     let x = Does (Eject asked) in
     let N : Layout = with_boxes x (boxes_put (page_target L) (ejected_if true (page_target L))) (record L { next = next_behind x L.next }) in
@@ -284,7 +284,7 @@ event_waits EjectLast L h =
     (waits_full (nat_le L.length (length N.boxes)) L.is_closing L N _ _ refl (waits_here L)) h
 event_waits (_) L h = cc
 
-pub waits : (x : Happening) (L : Layout) → goes_on x L ≡ true → is_some (springs x L) ≡ true
+pub waits : (x : Happening) (L : Layout) → goes_on x L ≡ true → is_some (springs_on_page x L) ≡ true
 waits (Does e) L h = event_waits e L h
 waits (Places line) L h = cc
 waits (Titles t) L h = cc

@@ -5,7 +5,7 @@ use Rattle.page_model.specs.declared.trap.Trap.{Trap}
 use Rattle.page_model.specs.Layout.{Layout, first_layout}
 use Rattle.page_model.specs.Happenings.{Happening, Places, Titles}
 use Rattle.page_model.specs.Turning.{with_event}
-use Rattle.page_model.specs.Springs.{springs, goes_on}
+use Rattle.page_model.specs.Springs.{springs_on_page, goes_on}
 use Rattle.page_model.specs.DeviceText.{device_text}
 use Rattle.page_model.specs.DivertedText.{diverted_text}
 
@@ -29,7 +29,7 @@ diverted (x ∷ xs) L = diverted_text x L ++ diverted xs (with_event x L)
 
 abbrev pub sprung : List Happening → Layout → List (Option ShortName)
 sprung [] L = []
-sprung (x ∷ xs) L = springs x L ∷ sprung xs (with_event x L)
+sprung (x ∷ xs) L = springs_on_page x L ∷ sprung xs (with_event x L)
 
 -- which of them go on behind what they spring
 abbrev pub going_on : List Happening → Layout → List Bool

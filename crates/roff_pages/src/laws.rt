@@ -12,7 +12,7 @@ ghost use Rattle.page_model.specs.Stops.{place_of, stop_at, is_diverted};
 ghost use Rattle.page_model.specs.Columns.{printed};
 ghost use Rattle.page_model.specs.Puts.{puts, appended};
 ghost use Rattle.page_model.specs.Turning.{with_event};
-ghost use Rattle.page_model.specs.Springs.{springs, goes_on};
+ghost use Rattle.page_model.specs.Springs.{springs_on_page, goes_on};
 ghost use Rattle.page_model.specs.DeviceText.{device_lines};
 ghost use Rattle.page_model.specs.Queries.{takes_text};
 ghost use Rattle.roff_pages.specs.WholePages.{boxes_of_page, written_on_page, page_sizes};
@@ -51,7 +51,7 @@ pub fn full_pages()
 
 /// An eject that goes on has sprung something.
 pub fn eject_waits()
-    ensures { (x : Happening) (L : Layout) → goes_on x L ≡ true → is_some (springs x L) ≡ true }
+    ensures { (x : Happening) (L : Layout) → goes_on x L ≡ true → is_some (springs_on_page x L) ≡ true }
 {}
 
 /// Text has the same boxes on a page and in a diversion: each line and title one box of its text,

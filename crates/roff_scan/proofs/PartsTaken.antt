@@ -5,7 +5,7 @@ use Rattle.std.proofs.lemmas.List.Folds.{length-prefix_len}
 use Rattle.std.proofs.lemmas.List.Sums.{prefix_len-le-length}
 use Rattle.input_source.specs.Bytes.{blank, is_passed, is_text_byte}
 use Rattle.input_source.proofs.PlainBytes.{take_while-plain}
-use Rattle.input_arguments.specs.ArgumentTexts.Kept.{KeptArguments, TakesFront as HoldsFront}
+use Rattle.input_arguments.specs.ArgumentTexts.Kept.{KeptArguments, HoldsFront}
 use Rattle.input_escapes.specs.ConditionFronts.{TakesFront as ReadsCondition}
 use Rattle.input_escapes.specs.EscapeFronts.{ReadsFront}
 use Rattle.input_escapes.specs.EscapeTexts.{KeptEscapes}

@@ -20,7 +20,7 @@ use Rattle.cli_devices.specs.declared.watched.WatchedSink.{WatchedSink}
 use Rattle.cli_devices.proofs.Overflows.{overflow_or_not, kept-first, kept-all, given-longer}
 use Rattle.tbl_format.specs.declared.limits.TblLimits.{TblLimits}
 use Rattle.tbl_core.specs.Yields.{at_start, yields}
-use Rattle.tbl_run.specs.Outcome.{Outcome as TblOutcome}
+use Rattle.tbl_run.specs.Outcome.{TblOutcome}
 use Rattle.tbl_run.specs.Results.{tbl_messages_of, tbl_output_of, tbl_status_of}
 use Rattle.tbl_run.proofs.Outcomes.{each_outcome_gives as each_tbl_outcome_gives}
 use Rattle.roff_tools.specs.InMemory.{IsWholeResult, IsWholeTblResult, RanInMemory}

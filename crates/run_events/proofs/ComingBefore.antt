@@ -3,7 +3,7 @@ use Rattle.std.proofs.Common.{◌∙◌, ◌≡◌, ℕ, zero, suc, Bool, true, 
 use Rattle.std.specs.Prelude.{is_some}
 use Rattle.page_model.specs.Behind.{has_open_word}
 use Rattle.page_model.specs.Events.{History}
-use Rattle.page_model.specs.Fields.{Field, Told, is_in_field, so_far, told as told_plainly, told_behind}
+use Rattle.page_model.specs.Fields.{Field, Told, is_in_field, so_far, told_plainly, told_behind}
 use Rattle.page_model.specs.Words.{has_open_word as has_word_in}
 use Rattle.page_model.specs.declared.event.Event.TheVariants.{FieldEnd, WordEnd}
 use Rattle.page_model.specs.declared.layout_event.LayoutEvent.TheVariants.{Begin}

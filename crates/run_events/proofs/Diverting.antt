@@ -10,7 +10,7 @@ use Rattle.page_model.specs.Happenings.{Happening, Does}
 use Rattle.page_model.specs.Layout.{Box, Diversion, Empty, Layout}
 use Rattle.page_model.specs.Puts.{appended, blank_lines, boxes_put, needed, within_stop}
 use Rattle.page_model.specs.Queries.{text_target}
-use Rattle.page_model.specs.Springs.{springs}
+use Rattle.page_model.specs.Springs.{springs_on_page}
 use Rattle.page_model.specs.Stops.{Target, is_diverted}
 use Rattle.page_model.specs.Turning.{without_innermost}
 use Rattle.page_model.specs.Words.{is_empty}
@@ -47,7 +47,7 @@ untold_within x L none is reads =
 
 -- where nothing was put in a diversion nothing is due but what sprang
 pub put_nothing : (x : Happening) (text : Layout → DueText) (old new : Kept) (due_old due_new : Due) (out : Sunk) (name : Option ShortName) (r : Result (Option Sprung) Halt)
-    → Happens x old new → ((L : Layout) → StandsAs L old → name ≡ springs x L) → ((L : Layout) → StandsAs L old → is_diverted x L ≡ true)
+    → Happens x old new → ((L : Layout) → StandsAs L old → name ≡ springs_on_page x L) → ((L : Layout) → StandsAs L old → is_diverted x L ≡ true)
     → ((L : Layout) → StandsAs L old → text_due x L ≡ None)
     → ((L : Layout) → StandsAs L new → r ≡ halted_by (Ok name) L.is_over) → due_new ≡ noted_by (Ok name) due_old → StopsSprung r due_new
     → PutsOnPage x text old new due_old due_new out out r

@@ -24,7 +24,7 @@ use Rattle.page_model.specs.declared.layout_event.LayoutEvent.TheVariants.{Eject
 use Rattle.page_model.specs.Layout.{Layout}
 use Rattle.roff_lines.proofs.Standing.{finished-stands, left_stands}
 use Rattle.roff_pages.specs.Pages.Stands.{Happens, StandsAs}
-use Rattle.page_model.specs.Springs.{goes_on, springs as springs_on_page}
+use Rattle.page_model.specs.Springs.{goes_on, springs_on_page}
 use Rattle.page_model.specs.Turning.{with_event}
 use Rattle.run_state.specs.Composer.Due.{due_told}
 use Rattle.run_state.specs.Composer.Standing.{StandFor}

@@ -12,7 +12,7 @@ use Rattle.page_model.specs.Stops.{is_diverted}
 use Rattle.roff_pages.specs.Pages.Kept.{Kept}
 use Rattle.roff_pages.specs.Pages.Printing.{DidTo}
 use Rattle.roff_pages.specs.Pages.Stands.{StandsAs}
-use Rattle.page_model.specs.Springs.{springs as springs_on_page}
+use Rattle.page_model.specs.Springs.{springs_on_page}
 use Rattle.page_model.specs.Turning.{with_event}
 use Rattle.run_state.specs.Composer.Standing.{StandFor}
 use Rattle.run_state.specs.Environments.Standing.{StandBy}

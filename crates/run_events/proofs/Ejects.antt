@@ -8,7 +8,7 @@ use Rattle.page_model.specs.Happenings.{Happening, Does, is_eject_event}
 use Rattle.page_model.specs.Layout.{Box, Layout, page_place}
 use Rattle.page_model.specs.Puts.{boxes_put, ejected_if, puts}
 use Rattle.page_model.specs.Queries.{nl}
-use Rattle.page_model.specs.Springs.{first_met, goes_on, is_on_top, is_passed, springs}
+use Rattle.page_model.specs.Springs.{first_met, goes_on, is_on_top, is_passed, springs_on_page}
 use Rattle.page_model.specs.Stops.{page_target, place_of}
 use Rattle.page_model.specs.Turning.{behind_put, next_behind, page_begun, with_boxes, with_event}
 use Rattle.page_model.specs.declared.layout_event.LayoutEvent.{LayoutEvent}
@@ -23,7 +23,7 @@ use Rattle.run_events.specs.Formatter.Setting.{may_put}
 use Rattle.run_events.specs.Formatter.Sprung.{left_going_on}
 
 -- where nothing sprang nothing goes on
-pub nothing_left : (e : LayoutEvent) (L : Layout) → springs (Does e) L ≡ None → left_if (goes_on (Does e) L) e ≡ []
+pub nothing_left : (e : LayoutEvent) (L : Layout) → springs_on_page (Does e) L ≡ None → left_if (goes_on (Does e) L) e ≡ []
 nothing_left e L none = by (goes_on (Does e) L) refl
   where
     by : (b : Bool) → goes_on (Does e) L ≡ b → left_if b e ≡ []
@@ -106,7 +106,7 @@ still_if x true L name puts none = puts
 still_if x false L name puts none = none
 
 -- an event that sprang something goes on exactly where it is an eject, and the page that it ejects hasn't ended
-pub goes-still : (e : LayoutEvent) (L : Layout) (name : ShortName) → springs (Does e) L ≡ Some name → goes_on (Does e) L ≡ ejects_still e (with_event (Does e) L)
+pub goes-still : (e : LayoutEvent) (L : Layout) (name : ShortName) → springs_on_page (Does e) L ≡ Some name → goes_on (Does e) L ≡ ejects_still e (with_event (Does e) L)
 goes-still (Eject asked) L name is =
     let x = Does (Eject asked) in
     let boxes : List Box = boxes_put (page_target L) (ejected_if true (page_target L)) in

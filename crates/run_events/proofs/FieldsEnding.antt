@@ -5,7 +5,7 @@ use Rattle.roff_num.specs.declared.limit.Limit.TheVariants.{Line}
 use Rattle.roff_num.specs.declared.limits.Limits.{Limits}
 use Rattle.page_model.specs.Behind.{has_open_word, pending_length}
 use Rattle.page_model.specs.Events.{History}
-use Rattle.page_model.specs.Fields.{Told, is_in_field, so_far, told as told_plainly, told_behind}
+use Rattle.page_model.specs.Fields.{Told, is_in_field, so_far, told_plainly, told_behind}
 use Rattle.page_model.specs.Lines.{pending_length as length_in}
 use Rattle.page_model.specs.Words.{has_open_word as has_word_in}
 use Rattle.page_model.specs.declared.event.Event.TheVariants.{FieldEnd}

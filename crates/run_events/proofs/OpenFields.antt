@@ -3,7 +3,7 @@ use Rattle.std.proofs.Common.{◌≡◌, ℕ, not, ◌&&◌, Option, Some, None,
 use Rattle.std.specs.Prelude.{is_some}
 use Rattle.page_model.specs.Events.{History}
 use Rattle.page_model.specs.Words.{has_open_word as has_word_in}
-use Rattle.page_model.specs.Fields.{Field, is_in_field, so_far, told}
+use Rattle.page_model.specs.Fields.{Field, is_in_field, so_far, told_plainly}
 use Rattle.page_model.specs.Behind.{has_open_word}
 use Rattle.roff_lines.specs.Env.Kept.{Kept, KeptField}
 use Rattle.roff_lines.specs.Env.Stands.{Stands, StandsTold}
@@ -21,7 +21,7 @@ word_told line_cap h (Some f) k s = s.none_open
 
 module _ (line_cap : ℕ) (h : History) (k : Kept) (s : Stands line_cap h k) where
   pub is_in_field-stands : is_some k.field ≡ is_in_field h
-  is_in_field-stands = open_told line_cap (told h).events (told h).field k s
+  is_in_field-stands = open_told line_cap (told_plainly h).events (told_plainly h).field k s
 
   pub has_open_word-stands : k.is_open ≡ has_open_word h
-  has_open_word-stands = word_told line_cap (told h).events (told h).field k s
+  has_open_word-stands = word_told line_cap (told_plainly h).events (told_plainly h).field k s

@@ -14,7 +14,7 @@ use Rattle.run_state.specs.Composer.Due.{text_told}
 use Rattle.run_state.specs.declared.composer.Composer.{Composer as ComposerOf}
 use Rattle.run_state.specs.declared.due_text.Due.{Due}
 use Rattle.run_model.specs.Registers.{AllRegisters}
-use Rattle.page_model.specs.Springs.{diversion_trap_passed, first_met, is_passed, passed_in, springs}
+use Rattle.page_model.specs.Springs.{diversion_trap_passed, first_met, is_passed, passed_in, springs_on_page}
 use Rattle.page_model.specs.Stops.{innermost, page_target, place_of, stop_at}
 use Rattle.page_model.specs.Turning.{with_trap}
 use Rattle.page_model.specs.declared.layout_event.LayoutEvent.{LayoutEvent}
@@ -59,7 +59,7 @@ unsprung : (L : Layout) (over : Bool) (on_top : Option ShortName) → let place 
 unsprung L over on_top =
     none_there over (L.begun == L.begun) on_top _ (eq-eqb L.begun L.begun refl) (none_passed L.diversions (innermost L.diversions (page_target L)).place L)
 
-pub springs-none : (e : LayoutEvent) (L : Layout) → is_quiet e ≡ true → springs (Does e) L ≡ None
+pub springs-none : (e : LayoutEvent) (L : Layout) → is_quiet e ≡ true → springs_on_page (Does e) L ≡ None
 springs-none (ListPages first last) L is = unsprung L L.is_over _
 springs-none Begin L is = absurd (cc)
 springs-none Close L is = unsprung L L.is_over _
@@ -100,7 +100,7 @@ sets_quietly e old new due is other happens room =
 
 -- a page began, and sprang this, if anything
 pub begins_by : (old new : Kept) (due_old due_new : Due) (name : Option ShortName) → Happens (Does Begin) old new
-    → ((L : Layout) → StandsAs L old → name ≡ springs (Does Begin) L) → due_new ≡ noted name due_old → SetsOnPage Begin old new due_new (Ok (sprung_by name))
+    → ((L : Layout) → StandsAs L old → name ≡ springs_on_page (Does Begin) L) → due_new ≡ noted name due_old → SetsOnPage Begin old new due_new (Ok (sprung_by name))
 begins_by old new due_old due_new None happens sprang due = (happens, tt, record { untold = λ L stands. refl; springs = λ L stands. sym (sprang L stands) })
 begins_by old new due_old due_new (Some name) happens sprang due =
     let is : due_new.sprung ≡ Some name = ap (λ (d : Due). d.sprung) due in

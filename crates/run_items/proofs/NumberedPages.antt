@@ -19,7 +19,7 @@ use Rattle.run_state.specs.Composer.Standing.{StandFor}
 use Rattle.run_state.specs.declared.composer.Composer.{Composer as ComposerOf}
 use Rattle.run_model.specs.Output.{PageHistory, layout_of, written}
 use Rattle.run_model.specs.Registers.{is_page}
-use Rattle.run_model.specs.Registers.Capped.{admitted, after}
+use Rattle.run_model.specs.Registers.Capped.{change_admitted, after_change}
 use Rattle.run_model.specs.Requests.Effects.{page_numbered}
 use Rattle.run_model.specs.Requests.Numbering.{number_of_page}
 use Rattle.run_model.specs.Starts.{given_change, history_given}
@@ -68,11 +68,11 @@ StandFor-other name value old other l h stands = subst (λ (g : PageHistory). St
 -- an interpreter that gave it to its pages, and then to its reader
 pub Gives-both : (name : ℕ) (value : Num) (old mid : Interpreter) (reader : ReaderState) (result : Result (Unit {0}) Limit)
     → mid.reader ≡ old.reader → ((l : Limits) (h : PageHistory) → StandFor l h old.formatter.composer → StandFor l (history_given (name, value) h) mid.formatter.composer)
-    → result ≡ admitted (given_change name value) mid.reader.registers
-    → reader ≡ record mid.reader { registers = after (given_change name value) mid.reader.registers }
+    → result ≡ change_admitted (given_change name value) mid.reader.registers
+    → reader ≡ record mid.reader { registers = after_change (given_change name value) mid.reader.registers }
     → Gives name value old (record { reader = reader; formatter = mid.formatter }) result
 Gives-both name value old mid reader result same stands answer gave = record {
-  answer = answer ∙ ap (λ (r : ReaderState). admitted (given_change name value) r.registers) same;
-  reader = gave ∙ ap (λ (r : ReaderState). record r { registers = after (given_change name value) r.registers }) same;
+  answer = answer ∙ ap (λ (r : ReaderState). change_admitted (given_change name value) r.registers) same;
+  reader = gave ∙ ap (λ (r : ReaderState). record r { registers = after_change (given_change name value) r.registers }) same;
   stands = stands;
 }

@@ -16,7 +16,7 @@ use Rattle.input_escapes.specs.declared.open_escape.Found.TheVariants.{GoesOn, U
 use Rattle.input_escapes.specs.declared.open_escape.Surroundings.TheVariants.{Text as AboveText}
 use Rattle.run_model.proofs.InputCounts.{first_passed-few_names}
 use Rattle.run_model.proofs.TextBytes.{heard-text, is_other, kept-text}
-use Rattle.run_model.specs.Reading.{taking, title_read, undropped_taking}
+use Rattle.run_model.specs.Reading.{byte_taking, title_read, undropped_taking}
 use Rattle.run_model.specs.Reading.Units.{interrupted}
 use Rattle.run_model.specs.Reading.Found.{read_in}
 use Rattle.run_model.specs.Reading.Items.{PageInput, going_on}
@@ -71,7 +71,7 @@ bytes_for-plain k delimiter b plain =
 
 -- so it is read as a byte of the part
 pub plain-title : (k : Known) (i : PageInput) (delimiter b : ℕ) → i.escapes ≡ [] → is_plain delimiter b ≡ true
-    → taking k (InTitle delimiter) i b ≡ part_taking i delimiter (kept_byte k.registers.page_character b ∷ [])
+    → byte_taking k (InTitle delimiter) i b ≡ part_taking i delimiter (kept_byte k.registers.page_character b ∷ [])
 plain-title k i delimiter b none_half is =
     let plain : Plain delimiter b = plain-of delimiter b is in
     let text : is_text_byte b ≡ true = text-plain delimiter b plain in

@@ -4,7 +4,7 @@ use Rattle.std.specs.Prelude.{◌||◌, if◌then◌else◌}
 use Rattle.input_source.specs.Bytes.{newline}
 use Rattle.run_state.specs.declared.composer.Composer.{Composer as ComposerOf}
 use Rattle.page_model.specs.declared.event.Event.TheVariants.{Count, LineEnd, WordEnd}
-use Rattle.run_model.specs.Reading.{taking, undropped_taking}
+use Rattle.run_model.specs.Reading.{byte_taking, undropped_taking}
 use Rattle.run_model.specs.Reading.Items.{PageInput, PageUnread, meaning_events}
 use Rattle.run_model.specs.Reading.TextLines.{blank_line, text_taking}
 use Rattle.run_model.specs.PageEvents.{PageEvent}
@@ -42,7 +42,7 @@ newline-text line i glyph =
 -- and is read as
 takes-newline : (line : TextLine) (es : ComposerOf) (old new : ReaderState) (u : PageUnread) → line.has_glyph ≡ true → old.reading ≡ InText line
     → u.input.escapes ≡ [] → new ≡ record old { reading = LineStart }
-    → TakesAs (λ k. taking k old.reading u.input newline) es old new u u (Ok LineEnds)
+    → TakesAs (λ k. byte_taking k old.reading u.input newline) es old new u u (Ok LineEnds)
 takes-newline line es old new u glyph is none_half came =
     let place : LineState = InText line in
     TakesAs-undropped newline es old new u u (Ok LineEnds) refl
@@ -62,7 +62,7 @@ ends_front front count old new out out_new put_result result put_by put performe
   takes = λ line u err glyph none_half.
       let before : Interpreter = told_as old put.told (InText line) in
       let mid : Interpreter = told_as old put.told LineStart in
-      taking_done (λ k. taking k (InText line) u.input newline) before mid u u LineEnds
+      taking_done (λ k. byte_taking k (InText line) u.input newline) before mid u u LineEnds
       (takes-newline line put.told.composer before.reader mid.reader u glyph refl none_half refl) refl u.input.line refl new (sinks out err) (sinks out_new err) result
       (told_then_performed u.input.line [] ending mid new out out_new err err result (told_nothing err) performed);
 }

@@ -7,7 +7,7 @@ pub use Rattle.run_model.specs.Starts.{pages_given}
 pub use Rattle.run_model.specs.Messages.{message_line, message_lines, text_told, told_line}
 pub use Rattle.run_model.specs.Events.Lines.{closing_events}
 pub use Rattle.read_lines.specs.Reader.State.{fresh_reader}
-pub use Rattle.run_model.specs.Reading.{escape_ended, taking}
+pub use Rattle.run_model.specs.Reading.{escape_ended, byte_taking}
 pub use Rattle.run_model.specs.Reading.Ends.{end_taking}
 pub use Rattle.run_model.specs.declared.line_state.LineState.TheVariants.{LineStart}
 pub use Rattle.run_items.specs.Halting.{Halts}

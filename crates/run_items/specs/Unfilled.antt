@@ -1,7 +1,7 @@
 -- Text lines that stand in front up to their newlines, and are told and ended at once.
 use Rattle.std.specs.Prelude.{◌≡◌, ℕ, true, List, [], Option, Result}
 use Rattle.input_source.specs.Bytes.{newline}
-use Rattle.run_model.specs.Reading.{taking}
+use Rattle.run_model.specs.Reading.{byte_taking}
 use Rattle.run_model.specs.Reading.Items.{PageUnread}
 use Rattle.run_model.specs.declared.line_state.LineState.{LineState}
 use Rattle.run_model.specs.declared.line_state.LineState.TheVariants.{Text as InText}
@@ -24,4 +24,4 @@ pub record EndsFront (front : List ℕ) (count : ℕ) (old new : Interpreter) (o
   pub told : Formatter
   pub tells : TellsFront front count old.formatter told
   pub takes : (line : TextLine) (u : PageUnread) (err : Sunk) → line.has_glyph ≡ true → u.input.escapes ≡ []
-      → DoesTaking (λ k. taking k (InText line) u.input newline) [] (told_as old told (InText line)) new u u (sinks out_old err) (sinks out_new err) result
+      → DoesTaking (λ k. byte_taking k (InText line) u.input newline) [] (told_as old told (InText line)) new u u (sinks out_old err) (sinks out_new err) result

@@ -21,7 +21,7 @@ use Rattle.roff_num.specs.declared.short_name.ShortName.{ShortName}
 use Rattle.run_model.specs.declared.request.Called.{Called}
 use Rattle.run_model.specs.declared.request.Called.TheVariants.{Request as ARequest, Body as ABody, Nothing as Unknown}
 use Rattle.roff_num.specs.ShortNames.{name_at, name_bytes}
-use Rattle.run_model.specs.Reading.{undropped_taking, taking, escape_ended}
+use Rattle.run_model.specs.Reading.{undropped_taking, byte_taking, escape_ended}
 use Rattle.run_model.specs.Reading.Units.{interrupted}
 use Rattle.run_model.specs.Reading.Beginnings.{at_start}
 use Rattle.run_model.specs.Reading.ControlLines.{ends_name}
@@ -92,7 +92,7 @@ pub Keeps-interrupted : (reading : LineState) (i : PageInput) → KeepsTwoMore i
 Keeps-interrupted reading i = record { charge = refl; newlines = refl; line = refl; free = refl; few = λ room within few. few; escapes = omega arith }
 
 -- a byte
-pub Keeps-taking : (k : Known) (reading : LineState) (i : PageInput) (b : ℕ) → TwoMore i reading (taking k reading i b)
+pub Keeps-taking : (k : Known) (reading : LineState) (i : PageInput) (b : ℕ) → TwoMore i reading (byte_taking k reading i b)
 Keeps-taking k reading i b = Keeps-if _ i (is_dropped b) _ _ (Keeps-interrupted reading i) (Keeps-undropped_taking k reading i b)
 
 -- one turn fewer is to come

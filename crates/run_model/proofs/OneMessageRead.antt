@@ -16,7 +16,7 @@ use Rattle.input_escapes.specs.declared.open_escape.Surroundings.TheVariants.{Ar
 use Rattle.input_model.specs.Input.{beginning_line, choosing}
 use Rattle.input_model.specs.Input.Calls.{arguments_given, last_result, without_last}
 use Rattle.run_model.specs.Definitions.{end_mark, front_of, line_from}
-use Rattle.run_model.specs.Reading.{undropped_taking, taking, escape_ended, title_read}
+use Rattle.run_model.specs.Reading.{undropped_taking, byte_taking, escape_ended, title_read}
 use Rattle.run_model.specs.Reading.Arguments.{arguments_ended, line_ended, unit_found, reading_behind}
 use Rattle.run_model.specs.Reading.Beginnings.{at_start}
 use Rattle.run_model.specs.Reading.Collecting.{collected, unit_taking}
@@ -322,7 +322,7 @@ Brief-undropped_taking k (Collecting purpose) i b named = Brief-read k (Collecti
 Brief-undropped_taking k (Deciding keeps) i b named = Brief-read k (Deciding keeps) i b tt
 
 -- a byte
-pub Brief-taking : (k : Known) (reading : LineState) (i : PageInput) (b : ℕ) → NamesRequest reading → Brief (most_held i) (taking k reading i b)
+pub Brief-taking : (k : Known) (reading : LineState) (i : PageInput) (b : ℕ) → NamesRequest reading → Brief (most_held i) (byte_taking k reading i b)
 Brief-taking k reading i b named = Brief-if (is_dropped b) _ _ (tt, named, omega (arith, held-interrupted reading i)) (Brief-undropped_taking k reading i b named)
 
 -- the end of what is half read

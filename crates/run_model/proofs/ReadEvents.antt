@@ -20,7 +20,7 @@ use Rattle.input_model.specs.Input.Calls.{arguments_given, called_text, last_res
 use Rattle.input_model.specs.Input.Names.{body_named}
 use Rattle.input_escapes.specs.OpenEscape.{unit_bytes}
 use Rattle.run_model.specs.Definitions.{end_mark, front_of, line_from}
-use Rattle.run_model.specs.Reading.{undropped_taking, taking, escape_ended, title_read}
+use Rattle.run_model.specs.Reading.{undropped_taking, byte_taking, escape_ended, title_read}
 use Rattle.run_model.specs.Reading.Arguments.{arguments_ended, line_ended, unit_found, reading_behind}
 use Rattle.run_model.specs.Reading.Beginnings.{at_start}
 use Rattle.run_model.specs.Reading.Branches.{branch_taking, condition_begun, condition_found, decided, is_so, reads_else, skipping_taking, with_result_if}
@@ -323,7 +323,7 @@ Means-undropped_taking k (Collecting purpose) i b = Means-read k (Collecting pur
 Means-undropped_taking k (Deciding keeps) i b = Means-read k (Deciding keeps) i b
 
 -- a byte
-pub Means-taking : (k : Known) (reading : LineState) (i : PageInput) (b : ℕ) → Means i.ahead (taking k reading i b)
+pub Means-taking : (k : Known) (reading : LineState) (i : PageInput) (b : ℕ) → Means i.ahead (byte_taking k reading i b)
 Means-taking k reading i b = Means-if i.ahead (is_dropped b) _ _ (inl none, ahead-same (ahead-interrupted reading i)) (Means-undropped_taking k reading i b)
 
 -- the end of what is half read
@@ -360,8 +360,8 @@ Means-end_taking k (Collecting (Calling name)) i = Means-undropped_taking k (Col
 Means-end_taking k (Collecting (Telling aborts is_front)) i = Means-undropped_taking k (Collecting (Telling aborts is_front)) i newline
 
 -- so few of these events wait behind each that may spring a macro
-pub AreFewBehind-taking : (k : Known) (reading : LineState) (i : PageInput) (b : ℕ) → AreFewBehind (taking k reading i b).effect.events
-AreFewBehind-taking k reading i b = few-waiting (taking k reading i b).effect.events (few-wait _ _ (Means-taking k reading i b).0)
+pub AreFewBehind-taking : (k : Known) (reading : LineState) (i : PageInput) (b : ℕ) → AreFewBehind (byte_taking k reading i b).effect.events
+AreFewBehind-taking k reading i b = few-waiting (byte_taking k reading i b).effect.events (few-wait _ _ (Means-taking k reading i b).0)
 
 pub AreFewBehind-escape_ended : (k : Known) (reading : LineState) (i : PageInput) → AreFewBehind (escape_ended k reading i).effect.events
 AreFewBehind-escape_ended k reading i = few-waiting (escape_ended k reading i).effect.events (few-wait _ _ (Means-escape_ended k reading i).0)

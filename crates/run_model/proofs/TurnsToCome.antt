@@ -10,7 +10,7 @@ use Rattle.input_model.specs.Looking.{answer_behind}
 use Rattle.input_model.specs.Unread.{Unread, taking, taking_answer}
 use Rattle.input_model.specs.Shown.{Shown, ShowsByte, ShowsEnd, ShowsReturn, ShowsDo, ShowsNote, ShowsEnding, ShowsRefusal}
 use Rattle.input_escapes.specs.OpenEscape.{OpenEscape}
-use Rattle.run_model.specs.Reading.{escape_ended, taking as byte_taking}
+use Rattle.run_model.specs.Reading.{escape_ended, byte_taking}
 use Rattle.run_model.specs.Reading.Items.{PageInput}
 use Rattle.run_model.specs.Registers.{Known}
 use Rattle.run_model.specs.Requests.{PageEvent}

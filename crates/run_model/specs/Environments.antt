@@ -101,17 +101,17 @@ abbrev pub with_input_trap : Option InputTrap → Environments → Environments
 with_input_trap trap es = record es { in_force = record es.in_force { input_trap = trap } }
 
 -- the ring turned, so that the next one is in force
-abbrev pub turned : Environments → Environments
-turned es = record es { number = number_behind es.number; in_force = es.next; next = es.last; last = es.in_force }
+abbrev pub ring_turned : Environments → Environments
+ring_turned es = record es { number = number_behind es.number; in_force = es.next; next = es.last; last = es.in_force }
 
 -- the ring turned once more, unless this one is in force
-abbrev pub turned_unless : Bool → Environments → Environments
-turned_unless is_there es = if is_there then es else turned es
+abbrev pub ring_turned_unless : Bool → Environments → Environments
+ring_turned_unless is_there es = if is_there then es else ring_turned es
 
 -- the ring turned until this one is in force
 abbrev pub turned_to : EnvironmentNumber → Environments → Environments
 turned_to number es =
-    let once : Environments = turned_unless (is_same es.number number) es in turned_unless (is_same once.number number) once
+    let once : Environments = ring_turned_unless (is_same es.number number) es in ring_turned_unless (is_same once.number number) once
 
 -- `ev` with a number: the one in force is left for another
 abbrev pub switched_to : EnvironmentNumber → Environments → Environments

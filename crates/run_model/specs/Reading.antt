@@ -54,12 +54,12 @@ undropped_taking k (InTitle delimiter) i b = title_read k i delimiter b (is_empt
 undropped_taking k reading i b = read_in k reading i (byte_read (place_in k reading) i.escapes b)
 
 -- what a byte does where this is being read
-abbrev pub taking : Known → LineState → PageInput → ℕ → Taking
-taking k reading i b = if is_dropped b then going_on (interrupted reading i) reading else undropped_taking k reading i b
+abbrev pub byte_taking : Known → LineState → PageInput → ℕ → Taking
+byte_taking k reading i b = if is_dropped b then going_on (interrupted reading i) reading else undropped_taking k reading i b
 
 -- a byte changes nothing where this is read
 abbrev pub Passes : LineState → ℕ → Type 0
-Passes reading b = (k : Known) (i : PageInput) → taking k reading i b ≡ going_on i reading
+Passes reading b = (k : Known) (i : PageInput) → byte_taking k reading i b ≡ going_on i reading
 
 -- what is half read ends before what stays, or at the input's end
 abbrev pub escape_ended : Known → LineState → PageInput → Taking

@@ -18,7 +18,7 @@ use Rattle.input_model.specs.Arguments.{no_arguments}
 use Rattle.input_escapes.specs.OpenEscape.{OpenEscape}
 use Rattle.run_model.specs.Messages.{told_line}
 use Rattle.run_model.specs.Output.{layout_of, written}
-use Rattle.run_model.specs.Reading.{taking, escape_ended}
+use Rattle.run_model.specs.Reading.{byte_taking, escape_ended}
 use Rattle.run_model.specs.Reading.Units.{interrupted}
 use Rattle.run_model.specs.Reading.Calls.{last_called}
 use Rattle.run_model.specs.Reading.Ends.{end_taking, due, is_unfinished}
@@ -118,7 +118,7 @@ taken_as t s = meaning t.effect (record s { input = t.input; reading = t.reading
 
 -- a byte does what it does where it is read
 abbrev pub byte_taken : ℕ → State → State
-byte_taken b s = taken_as (taking (known s) s.reading s.input b) s
+byte_taken b s = taken_as (byte_taking (known s) s.reading s.input b) s
 
 -- what is half read ends before what stays
 abbrev pub escape_ends : State → State

@@ -13,7 +13,7 @@ use Rattle.page_model.specs.declared.layout_event.LayoutEvent.TheVariants.{Begin
 use Rattle.page_model.specs.Happenings.{Happening, Does}
 use Rattle.page_model.specs.Layout.{Layout}
 use Rattle.page_model.specs.Queries.{takes_text}
-use Rattle.page_model.specs.Springs.{goes_on, springs as springs_on_page}
+use Rattle.page_model.specs.Springs.{goes_on, springs_on_page}
 use Rattle.run_model.specs.Layouts.{happens, layout_of}
 use Rattle.run_model.specs.PageEvents.{PageEvent, PageHistory, PastEvent, Text, Page, Title}
 
@@ -91,14 +91,14 @@ springs h (Text Count) = trap_reached (environments h).in_force.input_trap
 springs h e = sprung_on (happens h e) (layout_of h)
 
 -- how an eject goes on behind a macro that it sprang; what isn't one stays
-abbrev pub going_on : LayoutEvent → LayoutEvent
-going_on (Eject asked) = EjectOn asked
-going_on (EjectTo asked number) = EjectOn asked
-going_on e = e
+abbrev pub eject_going_on : LayoutEvent → LayoutEvent
+eject_going_on (Eject asked) = EjectOn asked
+eject_going_on (EjectTo asked number) = EjectOn asked
+eject_going_on e = e
 
 -- an eject that goes on, if it does
 abbrev pub left_if : Bool → LayoutEvent → List PageEvent
-left_if goes_on e = if goes_on then Page (going_on e) ∷ [] else []
+left_if goes_on e = if goes_on then Page (eject_going_on e) ∷ [] else []
 
 -- what is left of an event once it happened: of an eject whose page hasn't ended with it, that it goes on
 abbrev pub left_of : PageHistory → PastEvent → List PageEvent

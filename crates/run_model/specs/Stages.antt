@@ -12,7 +12,7 @@ use Rattle.input_escapes.specs.declared.open_escape.Found.TheVariants.{GoesOn}
 use Rattle.input_escapes.specs.declared.open_escape.Surroundings.{Surroundings}
 use Rattle.roff_store.specs.Named.{Named}
 use Rattle.roff_store.specs.Texts.{Entry}
-use Rattle.run_model.specs.Reading.{taking}
+use Rattle.run_model.specs.Reading.{byte_taking}
 use Rattle.run_model.specs.Reading.Ends.{due}
 use Rattle.run_model.specs.Reading.Items.{PageInput, going_on}
 use Rattle.run_model.specs.Reading.TextLines.{most_leading}
@@ -39,42 +39,42 @@ stage_of reading i = record { reading = reading; escapes = i.escapes; arguments 
 -- a byte leads from one stage to another, whatever else is known
 abbrev pub Turns : Named Entry → Stage → ℕ → Stage → Type 0
 Turns names p b q =
-    (k : Known) (i : PageInput) → taking k p.reading (input_at names p i) b ≡ going_on (input_at names q i) q.reading
+    (k : Known) (i : PageInput) → byte_taking k p.reading (input_at names p i) b ≡ going_on (input_at names q i) q.reading
 
 -- where this is read, a newline changes nothing else, and a line begins behind it
 abbrev pub EndsByNewline : LineState → Type 0
-EndsByNewline reading = (k : Known) (i : PageInput) → taking k reading i newline ≡ going_on i LineStart
+EndsByNewline reading = (k : Known) (i : PageInput) → byte_taking k reading i newline ≡ going_on i LineStart
 
 -- a byte is held in the arguments of the line where nothing is half read, and this is read on
 abbrev pub Holds : LineState → ℕ → Type 0
-Holds reading b = (k : Known) (i : PageInput) → i.escapes ≡ [] → taking k reading i b ≡ going_on (holding (Byte b) i) reading
+Holds reading b = (k : Known) (i : PageInput) → i.escapes ≡ [] → byte_taking k reading i b ≡ going_on (holding (Byte b) i) reading
 
 -- the same where fewer than so many arguments are whole
 abbrev pub HoldsIfFewer : Option ℕ → LineState → ℕ → Type 0
 HoldsIfFewer most reading b =
     (k : Known) (i : PageInput) → i.escapes ≡ [] → AreFewer most i.arguments
-    → taking k reading i b ≡ going_on (holding (Byte b) i) reading
+    → byte_taking k reading i b ≡ going_on (holding (Byte b) i) reading
 
 -- a byte is put behind the newest text in the making where nothing is half read, and this is read on
 abbrev pub Adds : LineState → ℕ → Type 0
-Adds reading b = (k : Known) (i : PageInput) → i.escapes ≡ [] → taking k reading i b ≡ going_on (adding (b ∷ []) i) reading
+Adds reading b = (k : Known) (i : PageInput) → i.escapes ≡ [] → byte_taking k reading i b ≡ going_on (adding (b ∷ []) i) reading
 
 -- a byte changes nothing where nothing is half read, and this is read on
 abbrev pub Ignores : LineState → ℕ → Type 0
-Ignores reading b = (k : Known) (i : PageInput) → i.escapes ≡ [] → taking k reading i b ≡ going_on i reading
+Ignores reading b = (k : Known) (i : PageInput) → i.escapes ≡ [] → byte_taking k reading i b ≡ going_on i reading
 
 -- where this is read, bytes may change only what is half read: what gives nothing yet changes nothing else
 abbrev pub ReadsHalves : LineState → Type 0
 ReadsHalves reading =
     (k : Known) (i : PageInput) (b : ℕ) (next : List OpenEscape) → is_dropped b ≡ false
     → ((base : Surroundings) → byte_read base i.escapes b ≡ (GoesOn, next))
-    → taking k reading i b ≡ going_on (record i { escapes = next }) reading
+    → byte_taking k reading i b ≡ going_on (record i { escapes = next }) reading
 
 -- where this is read, bytes may change only what is half read, in which some are held
 abbrev pub TakesHalf : LineState → Type 0
 TakesHalf reading =
     (k : Known) (i : PageInput) (b : ℕ) (next : List OpenEscape) → TakesOn i.escapes b next
-    → taking k reading i b ≡ going_on (record i { escapes = next }) reading
+    → byte_taking k reading i b ≡ going_on (record i { escapes = next }) reading
 
 -- the bytes that are held at a stage, of arguments and of texts that are half read
 abbrev pub held_at : Stage → ℕ

@@ -4,7 +4,7 @@ use Rattle.page_model.specs.declared.event.Event.TheVariants.{Print, WordEnd, Ga
 use Rattle.page_model.specs.declared.glyph.Glyph.TheVariants.{Printed}
 use Rattle.input_source.specs.Bytes.{is_text_byte}
 use Rattle.run_model.specs.Environments.{PageHistory}
-use Rattle.run_model.specs.Reading.{taking}
+use Rattle.run_model.specs.Reading.{byte_taking}
 use Rattle.run_model.specs.Reading.Items.{PageInput, meaning_events}
 use Rattle.run_model.specs.Registers.{Known}
 use Rattle.run_model.specs.Requests.{PageEvent, Text}
@@ -16,7 +16,7 @@ byte_events b = if b == 32 then Text WordEnd ∷ Text (Gap 1) ∷ [] else Text (
 
 -- a byte means these where this is read and nothing is half read, and what is read stays
 abbrev pub Prints : LineState → ℕ → Type 0
-Prints reading b = (k : Known) (i : PageInput) → i.escapes ≡ [] → taking k reading i b ≡ meaning_events i reading (byte_events b)
+Prints reading b = (k : Known) (i : PageInput) → i.escapes ≡ [] → byte_taking k reading i b ≡ meaning_events i reading (byte_events b)
 
 -- each byte of plain text is told as it is, and leaves what is read as it is
 abbrev pub PrintsText : LineState → Type 0

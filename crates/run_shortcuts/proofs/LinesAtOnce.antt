@@ -9,7 +9,7 @@ use Rattle.roff_scan.specs.Unread.Lines.{StandsNewline}
 use Rattle.roff_scan.proofs.RunKinds.{no_newline_of}
 use Rattle.read_shortcuts.proofs.RunsRead.{first_of_front}
 use Rattle.run_model.proofs.TextBytes.{prints_text}
-use Rattle.run_model.specs.Reading.{taking}
+use Rattle.run_model.specs.Reading.{byte_taking}
 use Rattle.run_model.specs.Reading.Ends.{due}
 use Rattle.run_model.specs.Reading.Items.{PageUnread}
 use Rattle.run_model.specs.Run.{byte_taken}
@@ -105,7 +105,7 @@ module _ (gave gives : Tape → Type 0) (ready : List ℕ) (noted notes failed f
     (interpreter : Interpreter) (out_new : Sunk) (done : Result (Option Sprung) Halt) (ends : EndsFront front count old.interpreter interpreter out out_new done)
     (new : Coded) (behind : Seen) (result : Result (Unit {0}) Status)
     (acts : (told : Formatter) (line : TextLine)
-    → DoesTaking (λ k. taking k (InText line) after.input newline) [] (told_as old.interpreter told (InText line)) interpreter after after (sinks out err) (sinks out_new err) done
+    → DoesTaking (λ k. byte_taking k (InText line) after.input newline) [] (told_as old.interpreter told (InText line)) interpreter after after (sinks out err) (sinks out_new err) done
     → DoesItem after.input.line (byte_taken newline) (record old { interpreter = told_as old.interpreter told (InText line); unread = after }) new (seen failures out err) behind result) where
   abbrev bytes : List ℕ
   bytes = front_bytes count ready old.unread

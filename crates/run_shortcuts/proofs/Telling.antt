@@ -13,7 +13,7 @@ use Rattle.run_state.specs.Composer.Standing.{StandFor}
 use Rattle.run_state.specs.declared.composer.Composer.{Composer as ComposerOf}
 use Rattle.run_model.specs.Output.{PageHistory}
 use Rattle.run_model.specs.Reading.Items.{PageUnread}
-use Rattle.run_model.specs.Reading.{taking}
+use Rattle.run_model.specs.Reading.{byte_taking}
 use Rattle.run_model.specs.Reading.Ends.{due}
 use Rattle.run_model.specs.Reading.Items.{PageInput}
 use Rattle.run_model.specs.Registers.{AllRegisters}
@@ -52,7 +52,7 @@ use Rattle.run_model.specs.declared.line_state.LineState.TheVariants.{LineStart,
 
 -- where a line begins a byte doesn't leave it so
 unended-printed : (reading : LineState) → ((b : ℕ) → is_text_byte b ≡ true → Prints reading b)
-    → unended (taking (known_at [] no_registers first_input) reading first_input 97).reading ≡ unended reading
+    → unended (byte_taking (known_at [] no_registers first_input) reading first_input 97).reading ≡ unended reading
 unended-printed reading prints = ap (λ (t : Taking). unended t.reading) (prints 97 refl (known_at [] no_registers first_input) first_input refl)
 
 -- so bytes are told within a line, whose end takes as many turns whatever is interrupted

@@ -17,7 +17,7 @@ use Rattle.run_model.proofs.Leads.{Leads-refl, Leads-trans}
 use Rattle.run_model.proofs.PlainRuns.{behind_byte, behind_bytes, counted}
 use Rattle.run_model.specs.Environments.{PageHistory}
 use Rattle.run_model.specs.PageEvents.{PageEvent}
-use Rattle.run_model.specs.Reading.{taking}
+use Rattle.run_model.specs.Reading.{byte_taking}
 use Rattle.run_model.specs.Reading.Ends.{due}
 use Rattle.run_model.specs.Reading.Items.{PageInput, PageUnread, Taking}
 use Rattle.run_model.specs.Registers.{AllRegisters, TitleGets}
@@ -87,7 +87,7 @@ module _ (l : Limits) (delimiter : ℕ) (reading : LineState) (in_title : readin
       record {
         steps = 1;
         there = taken
-            ∙ ap (λ (r : LineState). made l before (taken_as (taking (known_at h rs input) r input b) (going tape input reading rs h messages phase closed []))) in_title
+            ∙ ap (λ (r : LineState). made l before (taken_as (byte_taking (known_at h rs input) r input b) (going tape input reading rs h messages phase closed []))) in_title
             ∙ ap (λ (t : Taking). made l before (taken_as t (going tape input reading rs h messages phase closed []))) (plain-title (known_at h rs input) input delimiter b none_half plain)
             ∙ ap (λ (said : List ℕ). made l before (here (InTitle delimiter) said)) (append-nil messages)
             ∙ ap (λ (r : LineState). made l before (here r messages)) (sym in_title)

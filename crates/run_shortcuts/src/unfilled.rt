@@ -10,7 +10,7 @@ ghost use Rattle.run_items.specs.Performing.{DoesTaking, sinks};
 ghost use Rattle.run_items.specs.Unfilled.{told_as};
 ghost use Rattle.run_items.specs.declared.interpreter.Interpreter.{Interpreter as InterpreterOf};
 ghost use Rattle.run_events.specs.declared.formatter.Formatter.{Formatter as FormatterOf};
-ghost use Rattle.run_model.specs.Reading.{taking};
+ghost use Rattle.run_model.specs.Reading.{byte_taking};
 ghost use Rattle.run_model.specs.Run.{byte_taken};
 ghost use Rattle.run_model.specs.declared.line_state.LineState.TheVariants.{Text as InText};
 ghost use Rattle.run_model.specs.declared.line_state.TextLine.{TextLine as TextLineOf};
@@ -84,7 +84,7 @@ fn go_on_behind<O: ByteSink, E: MessageSink>(
 ) -> Result<(), Status>
     ensures { (failures : ℕ) (was : InterpreterOf) (told : FormatterOf) (line : TextLineOf)
         (out_old : Sunk)
-        → DoesTaking (λ k. taking k (InText line) run.old.unread.input newline) []
+        → DoesTaking (λ k. byte_taking k (InText line) run.old.unread.input newline) []
         (told_as was told (InText line)) run.old.interpreter run.old.unread run.old.unread
         (sinks out_old (told_by E.MessageSink err.old))
         (sinks (O.sunk out.old) (told_by E.MessageSink err.old)) done

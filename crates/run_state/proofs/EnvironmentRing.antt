@@ -6,26 +6,26 @@ use Rattle.page_model.specs.declared.event.Event.TheVariants.{Count, Interrupt a
 use Rattle.run_model.specs.declared.environment_number.EnvironmentNumber.{EnvironmentNumber}
 use Rattle.run_model.specs.declared.event.InputTrap.{InputTrap}
 use Rattle.run_model.specs.declared.line_state.TextLine.{TextLine}
-use Rattle.run_model.specs.Environments.{Environments, counted_down, gone_back, is_same, switched_to, turned_to, turned_unless, with_event, with_interruption}
+use Rattle.run_model.specs.Environments.{Environments, counted_down, gone_back, is_same, switched_to, turned_to, ring_turned_unless, with_event, with_interruption}
 use Rattle.run_state.specs.Environments.Kept.{KeptNumbers}
 use Rattle.run_state.specs.Environments.Standing.{Becomes, StandBy}
 use Rattle.run_state.specs.declared.environments.Environments.{Environments as EnvironmentsOf}
 
 -- the code's ring turned once more, or not if the right one is in force
-pub Becomes-unless : (is_there so : Bool) (old new : EnvironmentsOf) → is_there ≡ so → Becomes (turned_unless so) old new → Becomes (turned_unless is_there) old new
-Becomes-unless is_there so old new is becomes = subst (λ (there : Bool). Becomes (turned_unless there) old new) (sym is) becomes
+pub Becomes-unless : (is_there so : Bool) (old new : EnvironmentsOf) → is_there ≡ so → Becomes (ring_turned_unless so) old new → Becomes (ring_turned_unless is_there) old new
+Becomes-unless is_there so old new is becomes = subst (λ (there : Bool). Becomes (ring_turned_unless there) old new) (sym is) becomes
 
 -- the code's ring turned to an environment, at most twice
 pub Becomes-turned_to : (number : EnvironmentNumber) (old once twice : EnvironmentsOf)
-    → Becomes (turned_unless (is_same old.number number)) old once
-    → Becomes (turned_unless (is_same once.number number)) once twice
+    → Becomes (ring_turned_unless (is_same old.number number)) old once
+    → Becomes (ring_turned_unless (is_same once.number number)) once twice
     → Becomes (turned_to number) old twice
 Becomes-turned_to number old once twice first second = record {
   becomes = λ l es stands.
-      let middle : Environments = turned_unless (is_same es.number number) es in
+      let middle : Environments = ring_turned_unless (is_same es.number number) es in
       let stands_once : StandBy l middle once =
-      subst (λ n. StandBy l (turned_unless (is_same n number) es) once) stands.number (first.becomes l es stands) in
-      subst (λ n. StandBy l (turned_unless (is_same n number) middle) twice) stands_once.number (second.becomes l middle stands_once);
+      subst (λ n. StandBy l (ring_turned_unless (is_same n number) es) once) stands.number (first.becomes l es stands) in
+      subst (λ n. StandBy l (ring_turned_unless (is_same n number) middle) twice) stands_once.number (second.becomes l middle stands_once);
 }
 
 -- the code's environments with these left

@@ -4,9 +4,9 @@ ghost use Rattle.std.specs.Prelude.{◌≡◌, ◌+◌, ◌<◌, ◌↔◌, [], 
 ghost use Rattle.std.specs.Prelude.{IsOkUnless, MatchOption, OnOk, Some};
 ghost use Rattle.page_model.specs.Words.{is_empty};
 ghost use Rattle.run_model.specs.Environments.{PageHistory, environments, fresh_environment};
-ghost use Rattle.run_model.specs.Environments.{gone_back, interrupted_line, switched_to, turned};
+ghost use Rattle.run_model.specs.Environments.{gone_back, interrupted_line, switched_to, ring_turned};
 ghost use Rattle.page_model.specs.declared.event.Event.TheVariants.{Count};
-ghost use Rattle.run_model.specs.Environments.{turned_to, turned_unless, with_event};
+ghost use Rattle.run_model.specs.Environments.{turned_to, ring_turned_unless, with_event};
 ghost use Rattle.run_model.specs.Environments.{with_input_trap};
 ghost use Rattle.run_model.specs.Environments.{counted_down, trap_reached, with_interruption};
 ghost use Rattle.run_model.specs.Springs.{springs};
@@ -275,7 +275,7 @@ impl Environments {
 
     /// Turns the ring once more, unless the right one is in force.
     fn turn_unless(&mut self, is_there: bool)
-        ensures { Becomes (turned_unless is_there) self.old self.new }
+        ensures { Becomes (ring_turned_unless is_there) self.old self.new }
     {
         if !is_there {
             self.turn();
@@ -284,7 +284,7 @@ impl Environments {
 
     /// Turns the ring, so that the next one is in force.
     fn turn(&mut self)
-        ensures { Becomes turned self.old self.new }
+        ensures { Becomes ring_turned self.old self.new }
     {
         mem::swap(&mut self.in_force, &mut self.next);
         mem::swap(&mut self.next, &mut self.last);

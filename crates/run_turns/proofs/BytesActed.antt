@@ -6,7 +6,7 @@ use Rattle.run_events.specs.declared.halt.Halt.{Halt}
 use Rattle.run_events.specs.declared.sprung.Sprung.{Sprung}
 use Rattle.run_model.proofs.Keeping.{Keeps-taking}
 use Rattle.run_model.proofs.ReadEvents.{AreFewBehind-taking}
-use Rattle.run_model.specs.Reading.{taking}
+use Rattle.run_model.specs.Reading.{byte_taking}
 use Rattle.run_model.specs.Reading.Items.{Taking}
 use Rattle.run_model.specs.Registers.{Known}
 use Rattle.run_model.specs.Run.{byte_taken}
@@ -23,7 +23,7 @@ use Rattle.run_turns.proofs.Acting.{halted_acts, taking_acts}
 module _ (byte line : ℕ) (old : Coded) where
   -- the taking of the byte
   abbrev byte_of : Known → Taking
-  byte_of k = taking k old.interpreter.reader.reading old.unread.input byte
+  byte_of k = byte_taking k old.interpreter.reader.reading old.unread.input byte
 
   -- it goes on behind the byte, and behind what that sprang
   pub byte_acts : {out_old err_old out_new err_new : Sunk} (mid new : Coded) (failures : ℕ) (sprung : Option Sprung) (behind : Seen) (r : Result (Unit {0}) Status)

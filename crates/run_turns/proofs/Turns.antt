@@ -16,7 +16,7 @@ use Rattle.run_model.specs.declared.status.Status.TheVariants.{Device, Limit as 
 use Rattle.run_model.specs.Messages.{message_line}
 use Rattle.run_model.specs.Output.{PageHistory}
 use Rattle.run_model.specs.Reading.Items.{PageUnread}
-use Rattle.run_model.specs.Reading.{taking as byte_taking}
+use Rattle.run_model.specs.Reading.{byte_taking}
 use Rattle.run_model.specs.Reading.Units.{interrupted}
 use Rattle.run_model.specs.Reading.Ends.{is_unfinished}
 use Rattle.run_model.specs.Reading.Items.{PageInput}

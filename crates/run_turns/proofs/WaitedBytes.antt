@@ -11,7 +11,7 @@ use Rattle.run_model.specs.PageEvents.{PageEvent}
 use Rattle.run_model.specs.declared.status.Status.{Status}
 use Rattle.run_model.specs.Reading.Items.{PageUnread}
 use Rattle.run_model.specs.Run.{State, byte_taken, known, read_waiting, item_read}
-use Rattle.run_model.specs.Reading.{taking as byte_taking}
+use Rattle.run_model.specs.Reading.{byte_taking}
 use Rattle.run_model.specs.Reading.Waiting.{waiting_in}
 use Rattle.run_turns.specs.declared.running.Running.{Running as Coded}
 use Rattle.run_items.specs.Outcome.{Seen, seen}

@@ -2,7 +2,7 @@
 use Rattle.std.proofs.Common.{◌≡◌, ℕ, zero, suc, ◌<◌, ◌≤◌, List, [], ◌∷◌, ◌++◌, length, inl, inr, refl, sym, ap, subst, ◌∙◌, arith}
 use Rattle.std.proofs.lemmas.Bool.{cases_lt}
 use Rattle.tbl_format.specs.Cells.{start_of}
-use Rattle.tbl_format.specs.Format.{columns_of, last_changed}
+use Rattle.tbl_format.specs.Format.{columns_of_keys, last_changed}
 use Rattle.tbl_format.specs.FormatLaws.{bars_among}
 use Rattle.tbl_format.specs.declared.format.FormatKey.{FormatKey}
 use Rattle.tbl_format.proofs.KeysWith.{length-last_changed, start_of-append, start_of-changed, start_of-last}
@@ -37,7 +37,7 @@ bars-append (q ∷ keys) k (suc cell) = bars-append keys k cell
 
 -- there are no more of them than are asked for, which is said of the columns behind which cells begin: those behind the last key
 pub last-held : (keys : List FormatKey) (last : ℕ) (most : ℕ → ℕ) → ((cell : ℕ) → bars_among keys last cell ≤ most (start_of keys cell))
-    → last ≤ most (columns_of keys)
+    → last ≤ most (columns_of_keys keys)
 last-held keys last most held =
     subst (λ (n : ℕ). last ≤ most n) (start_of-last keys) (omega (arith, held (length keys), bars-last keys last))
 
@@ -61,7 +61,7 @@ module _ (change : FormatKey → FormatKey) (same : (k : FormatKey) → (change 
   bars-changed (k ∷ q ∷ keys) last (suc cell) = bars-changed (q ∷ keys) last cell
 
   pub changed-most : (keys : List FormatKey) (last other : ℕ) (most : ℕ → ℕ) → ((cell : ℕ) → bars_among keys other cell ≤ most (start_of keys cell))
-      → last ≤ most (columns_of (last_changed change keys))
+      → last ≤ most (columns_of_keys (last_changed change keys))
       → (cell : ℕ) → bars_among (last_changed change keys) last cell ≤ most (start_of (last_changed change keys) cell)
   changed-most keys last other most held behind cell =
       let new = last_changed change keys in
@@ -73,7 +73,7 @@ module _ (change : FormatKey → FormatKey) (same : (k : FormatKey) → (change 
           | inl past ↦ omega (arith, bars, bars-past keys last cell past)
           | inr within ↦
               let at : cell ≡ length new = omega (arith, rest, within, len) in
-              let start : start_of new cell ≡ columns_of new = ap (start_of new) at ∙ start_of-last new in
+              let start : start_of new cell ≡ columns_of_keys new = ap (start_of new) at ∙ start_of-last new in
               let count : cell ≡ length keys = omega (arith, rest, within) in
               let is : bars_among keys last cell ≡ last = ap (bars_among keys last) count ∙ bars-last keys last in
               omega (arith, bars, is, behind, ap most start)
@@ -89,7 +89,7 @@ bars-more (k ∷ keys) bars last old new more is held zero = omega (arith, more 
 bars-more (k ∷ keys) bars last old new more is held (suc cell) =
     bars-more keys bars last (λ (n : ℕ). old (suc n)) (λ (n : ℕ). new (suc n)) (λ n. more (suc n)) is (λ n. held (suc n)) cell
 
-pub last-most : (keys : List FormatKey) (bars last : ℕ) (old new : ℕ → ℕ) → ((column : ℕ) → old column ≤ new column) → last ≤ new (columns_of keys)
+pub last-most : (keys : List FormatKey) (bars last : ℕ) (old new : ℕ → ℕ) → ((column : ℕ) → old column ≤ new column) → last ≤ new (columns_of_keys keys)
     → ((cell : ℕ) → bars_among keys bars cell ≤ old (start_of keys cell)) → (cell : ℕ) → bars_among keys last cell ≤ new (start_of keys cell)
 last-most keys bars last old new more is held =
     bars-more keys bars last (λ (cell : ℕ). old (start_of keys cell)) (λ (cell : ℕ). new (start_of keys cell)) (λ cell. more (start_of keys cell))

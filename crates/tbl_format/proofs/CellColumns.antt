@@ -3,7 +3,7 @@ use Rattle.std.proofs.Common.{◌≡◌, ℕ, zero, suc, ◌+◌, ◌-◌, ◌<�
 use Rattle.std.proofs.lemmas.List.{drop-drop, drop-map, length-map, take-map}
 use Rattle.std.specs.List.{slice_range}
 use Rattle.tbl_format.specs.Cells.{AreCells, by_cells, cell_count, end_of, start_of}
-use Rattle.tbl_format.specs.Format.{columns_of}
+use Rattle.tbl_format.specs.Format.{columns_of_keys}
 use Rattle.tbl_format.specs.declared.format.FormatKey.{FormatKey}
 
 -- how many columns there are up to the last of the cells of these keys, the first of which begins behind so many
@@ -22,11 +22,11 @@ start_behind from keys zero = from
 start_behind from keys (suc cell) = end_behind from keys cell
 
 -- the cells of a row are those behind no column
-columns_of-more : (from : ℕ) (k : FormatKey) (keys : List FormatKey) → columns_of (k ∷ keys) ≡ columns_behind from (k ∷ keys)
+columns_of-more : (from : ℕ) (k : FormatKey) (keys : List FormatKey) → columns_of_keys (k ∷ keys) ≡ columns_behind from (k ∷ keys)
 columns_of-more from k [] = refl
 columns_of-more from k (next ∷ keys) = columns_of-more k.end next keys
 
-pub columns_of-behind : (keys : List FormatKey) → columns_of keys ≡ columns_behind 0 keys
+pub columns_of-behind : (keys : List FormatKey) → columns_of_keys keys ≡ columns_behind 0 keys
 columns_of-behind [] = refl
 columns_of-behind (k ∷ keys) = columns_of-more 0 k keys
 
@@ -36,7 +36,7 @@ end_of-more from k [] (suc cell) = omega arith
 end_of-more from k (next ∷ keys) zero = refl
 end_of-more from k (next ∷ keys) (suc cell) =
     let past : suc cell + 1 - length (k ∷ next ∷ keys) ≡ cell + 1 - length (next ∷ keys) = omega arith in
-    ap (λ (n : ℕ). get_or (map (λ (q : FormatKey). q.end) (next ∷ keys)) cell (columns_of (next ∷ keys) + n)) past
+    ap (λ (n : ℕ). get_or (map (λ (q : FormatKey). q.end) (next ∷ keys)) cell (columns_of_keys (next ∷ keys) + n)) past
     ∙ end_of-more k.end next keys cell
 
 pub end_of-behind : (keys : List FormatKey) (cell : ℕ) → end_of keys cell ≡ end_behind 0 keys cell
@@ -62,7 +62,7 @@ few-behind : (from : ℕ) (keys : List FormatKey) → AreCells from keys → fro
 few-behind from [] cells = omega arith
 few-behind from (k ∷ keys) cells = omega (arith, cells.0, few-behind k.end keys cells.1)
 
-pub cells-few : (keys : List FormatKey) → AreCells 0 keys → length keys ≤ columns_of keys
+pub cells-few : (keys : List FormatKey) → AreCells 0 keys → length keys ≤ columns_of_keys keys
 cells-few keys cells = omega (arith, columns_of-behind keys, few-behind 0 keys cells)
 
 -- a cell has a column at least, and the table has its columns
@@ -85,7 +85,7 @@ within-behind columns from (k ∷ keys) (suc cell) cells short some =
     let next = within-behind columns k.end keys cell cells.1 short (omega (arith, some)) in
     record { order = omega (arith, next.order, start_behind-next from k keys cell); within = next.within }
 
-pub cell-within : (keys : List FormatKey) (columns cell : ℕ) → AreCells 0 keys → columns_of keys ≤ columns → cell < cell_count keys columns
+pub cell-within : (keys : List FormatKey) (columns cell : ℕ) → AreCells 0 keys → columns_of_keys keys ≤ columns → cell < cell_count keys columns
     → (start_of keys cell < end_of keys cell) × (end_of keys cell ≤ columns)
 cell-within keys columns cell cells short some =
     let all = columns_of-behind keys in
@@ -104,7 +104,7 @@ ones-behind from (k ∷ keys) (suc cell) cells ones =
     let next = ones-behind k.end keys cell cells.1 (omega (arith, ones, few, cells.0)) in
     omega (arith, start_behind-next from k keys cell, next, ones, few, cells.0)
 
-pub start_of-ones : (keys : List FormatKey) (cell : ℕ) → AreCells 0 keys → columns_of keys ≡ length keys → start_of keys cell ≡ cell
+pub start_of-ones : (keys : List FormatKey) (cell : ℕ) → AreCells 0 keys → columns_of_keys keys ≡ length keys → start_of keys cell ≡ cell
 start_of-ones keys cell cells ones =
     omega (arith, start_of-behind keys cell, ones-behind 0 keys cell cells (omega (arith, columns_of-behind keys, ones)))
 
@@ -115,7 +115,7 @@ length-behind from [] xs cells = omega (arith, length-map xs (λ x. x ∷ []))
 length-behind from (k ∷ keys) xs cells =
     omega (arith, cells.0, length-drop (k.end - from) xs, few-behind k.end keys cells.1, length-behind k.end keys (drop (k.end - from) xs) cells.1)
 
-pub length-by_cells : {A : Type 0} (keys : List FormatKey) (columns : List A) → AreCells 0 keys → columns_of keys ≤ length columns
+pub length-by_cells : {A : Type 0} (keys : List FormatKey) (columns : List A) → AreCells 0 keys → columns_of_keys keys ≤ length columns
     → length (by_cells 0 keys columns) ≡ cell_count keys (length columns)
 length-by_cells keys columns cells short = omega (arith, columns_of-behind keys, length-behind 0 keys columns cells)
 
@@ -149,7 +149,7 @@ module _ {A : Type 0} (columns : List A) where
       ∙ ap (λ (xs : List A). slice_range columns (start_behind k.end keys cell) last ∷ drop (suc cell) (by_cells k.end keys xs)) (sym next)
       ∙ ap (λ (n : ℕ). slice_range columns n last ∷ drop (suc cell) (by_cells k.end keys (drop (k.end - from) (drop from columns)))) (sym (start_behind-next from k keys cell))
 
-  pub by_cells-at : (keys : List FormatKey) (cell : ℕ) → AreCells 0 keys → columns_of keys ≤ length columns → cell < cell_count keys (length columns)
+  pub by_cells-at : (keys : List FormatKey) (cell : ℕ) → AreCells 0 keys → columns_of_keys keys ≤ length columns → cell < cell_count keys (length columns)
       → drop cell (by_cells 0 keys columns) ≡ slice_range columns (start_of keys cell) (end_of keys cell) ∷ drop (suc cell) (by_cells 0 keys columns)
   by_cells-at keys cell cells short some =
       let all = columns_of-behind keys in

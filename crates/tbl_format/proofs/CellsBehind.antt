@@ -3,7 +3,7 @@ use Rattle.std.proofs.Common.{◌≡◌, ℕ, zero, suc, ◌+◌, ◌-◌, ◌<�
 use Rattle.std.proofs.lemmas.Bool.{cases_lt}
 use Rattle.std.proofs.lemmas.Bool.Decides.{nat_tests}
 use Rattle.tbl_format.specs.Cells.{AreCells, cell_behind, cell_from, end_of, start_of}
-use Rattle.tbl_format.specs.Format.{columns_of}
+use Rattle.tbl_format.specs.Format.{columns_of_keys}
 use Rattle.tbl_format.specs.declared.format.FormatKey.{FormatKey}
 use Rattle.tbl_format.proofs.CellColumns.{columns_behind, columns_of-behind, end_behind, end_of-behind, start_behind, start_behind-next, start_behind-none, start_of-behind}
 
@@ -43,7 +43,7 @@ past-behind from [] cell past = omega (arith, start_behind-none from cell)
 past-behind from (k ∷ keys) zero past = absurd (omega (arith, past))
 past-behind from (k ∷ keys) (suc cell) past = omega (arith, start_behind-next from k keys cell, past-behind k.end keys cell (omega (arith, past)))
 
-pub start_of-past : (keys : List FormatKey) (cell : ℕ) → length keys ≤ cell → start_of keys cell ≡ columns_of keys + (cell - length keys)
+pub start_of-past : (keys : List FormatKey) (cell : ℕ) → length keys ≤ cell → start_of keys cell ≡ columns_of_keys keys + (cell - length keys)
 start_of-past keys cell past = omega (arith, start_of-behind keys cell, columns_of-behind keys, past-behind 0 keys cell past)
 
 -- a cell begins where that of the key in front of it ends

@@ -1,7 +1,7 @@
 -- The rows of formats, as they lie among their keys.
 use Rattle.std.proofs.Common.{◌≡◌, ℕ, zero, suc, ◌+◌, ◌-◌, ◌<◌, ◌≤◌, Bool, true, false, ◌&&◌, max, not, nat_lt, List, [], ◌∷◌, ◌++◌, length, take, drop, set, get_or, refl, sym, ap, subst, ◌∙◌, arith, length-append, length-drop, if◌then◌else◌}
 use Rattle.std.proofs.lemmas.List.{drop-append-le, drop_all, take-append-drop, take-append-le, take_all}
-use Rattle.tbl_format.specs.Format.{Format, FormatRow, asking, asking_for_bars, at_fault, columns_of, fault_if, further, has_some, is_spanned, keys_with, last_changed, most_bars, nothing_asked, plain_key, with_asked, with_columns, with_end, with_last, with_whole, widened}
+use Rattle.tbl_format.specs.Format.{Format, FormatRow, asking, asking_for_bars, at_fault, columns_of_keys, fault_if, further, has_some, is_spanned, keys_with, last_changed, most_bars, nothing_asked, plain_key, with_asked, with_columns, with_end, with_last, with_whole, widened}
 use Rattle.tbl_format.specs.FormatRows.{key_count, keys_of, rows_kept, rows_with}
 use Rattle.roff_num.specs.Lists.{last_end}
 use Rattle.tbl_format.specs.Parts.{EndWithin}
@@ -117,7 +117,7 @@ asking-set change asked (suc at) d some inside =
     asking-at change asked at d (omega (arith, inside)) ∙ ap (λ (n : ℕ). set asked n (change (get_or asked n d))) same
 
 -- and so do bars
-pub bars-asked : (f : Format) (columns : ℕ) (new d : Asked) → columns ≡ columns_of f.row → 0 < columns → columns ≤ length f.asked
+pub bars-asked : (f : Format) (columns : ℕ) (new d : Asked) → columns ≡ columns_of_keys f.row → 0 < columns → columns ≤ length f.asked
     → new ≡ most_bars f.bars (get_or f.asked (columns - 1) d) → record f { asked = set f.asked (columns - 1) new } ≡ asking_for_bars f
 bars-asked f columns new d columns_is some within new_is =
     ap (λ (a : Asked). record f { asked = set f.asked (columns - 1) a }) new_is
@@ -219,7 +219,7 @@ module _ (change : FormatKey → FormatKey) (ends : List ℕ) where
 
 -- the last key of the row begun is the last of all
 pub columns-last : (keys : List FormatKey) (from at : ℕ) (d : FormatKey) → from < length keys → at ≡ length keys - 1
-    → columns_of (drop from keys) ≡ (get_or keys at d).end
+    → columns_of_keys (drop from keys) ≡ (get_or keys at d).end
 columns-last keys from at d some at_is =
     let has = has_last-some keys (omega (arith, some)) in
     let len = length-append has.front (has.last ∷ []) in
@@ -228,8 +228,8 @@ columns-last keys from at d some at_is =
     let within : from ≤ length has.front = omega (arith, some, all, len) in
     let last = ap (λ (n : ℕ). (get_or keys n d).end) at_last ∙ ap (λ (xs : List FormatKey). (get_or xs (length has.front) d).end) has.is
     ∙ ap (λ (k : FormatKey). k.end) (get-last has.front has.last d) in
-    ap (λ (xs : List FormatKey). columns_of (drop from xs)) has.is
-    ∙ ap columns_of (drop-append-le from has.front (has.last ∷ []) within)
+    ap (λ (xs : List FormatKey). columns_of_keys (drop from xs)) has.is
+    ∙ ap columns_of_keys (drop-append-le from has.front (has.last ∷ []) within)
     ∙ columns_of-append (drop from has.front) has.last ∙ sym last
 
 module _ (keys : List FormatKey) (ends row_bars : List ℕ) (first : ℕ) (asked : List Asked) (front bars : ℕ) (place : FormatPlace) where
@@ -276,7 +276,7 @@ module _ (keys : List FormatKey) (ends row_bars : List ℕ) (first : ℕ) (asked
         ap (λ (rs : List FormatRow). let h : Format = record { earlier = take first rs; rows = drop first rs; row = drop (last_end 0 ends) (keys ++ k ∷ []); bars = bars; asked = asked; front = front; place = place } in h) (rows-key keys ends row_bars within k)
         ∙ ap (λ (r : List FormatKey). record this { row = r }) (row-key keys ends within k)
 
-    pub format-cell : (key : Key) (k : FormatKey) → k ≡ plain_key bars key (columns_of this.row) → (is_spanned key && has_some this.row) ≡ false
+    pub format-cell : (key : Key) (k : FormatKey) → k ≡ plain_key bars key (columns_of_keys this.row) → (is_spanned key && has_some this.row) ≡ false
         → format_of (keys ++ k ∷ []) ends row_bars first asked front bars place ≡ record this { row = keys_with key bars this.row }
     format-cell key k k_is own =
         format-key k

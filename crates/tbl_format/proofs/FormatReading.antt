@@ -4,7 +4,7 @@ use Rattle.std.proofs.lemmas.Bool.{cases_lt}
 use Rattle.std.proofs.lemmas.Bool.Decides.{nat_tests}
 use Rattle.std.proofs.lemmas.List.{length-take-le, take_more}
 use Rattle.input_source.specs.Bytes.{newline}
-use Rattle.tbl_format.specs.Format.{Format, FormatRow, asked_by, asking_for_bars, at_fault, columns_of, done, fault_if, format_byte, format_byte_at, format_read, has_some, is_misplaced, looked_again, most_bars, read_behind, said_by, stepped, with_any_key, with_asked, with_columns, with_key, with_whole}
+use Rattle.tbl_format.specs.Format.{Format, FormatRow, asked_by, asking_for_bars, at_fault, columns_of_keys, done, fault_if, format_byte, format_byte_at, format_read, has_some, is_misplaced, looked_again, most_bars, read_behind, said_by, stepped, with_any_key, with_asked, with_columns, with_key, with_whole}
 use Rattle.tbl_format.specs.FormatRows.{key_count, keys_of}
 use Rattle.tbl_format.specs.FormatSteps.{step}
 use Rattle.tbl_format.specs.KeyCounts.{Counts, StandsOnLine}
@@ -58,7 +58,7 @@ Same-whole true u f = record { keys = omega (arith, keys_of-append f.rows (recor
 Same-whole false u f = Same-fault u f f (record { keys = refl; columns = refl })
 
 Same-asking : (t : Bool) (f : Format) → Same f (if t then with_asked (most_bars f.bars) f else record f { front = max f.front f.bars })
-Same-asking true f = record { keys = refl; columns = length-asking (most_bars f.bars) (columns_of f.row) f.asked }
+Same-asking true f = record { keys = refl; columns = length-asking (most_bars f.bars) (columns_of_keys f.row) f.asked }
 Same-asking false f = record { keys = refl; columns = refl }
 
 Same-bar : (t : Bool) (f : Format) → Same f (if t then asking_for_bars (record f { bars = f.bars + 1 }) else at_fault f)
@@ -85,17 +85,17 @@ Grows-key : (f : Format) (key : Key) → Grows f (with_key key f)
 Grows-key f key =
     Grows-fault (is_misplaced key f) f (with_any_key key f) (record {
       keys = omega (arith, length-with key f.bars f.row);
-      least = columns-least f.asked (columns_of f.row);
-      most = columns-most f.asked (columns_of f.row);
+      least = columns-least f.asked (columns_of_keys f.row);
+      most = columns-most f.asked (columns_of_keys f.row);
     })
 
 Grows-done : (does : Does) (f : Format) → Grows f (done does f)
 Grows-done Nothing f = Grows-refl f
 Grows-done (AddKey key) f = Grows-key f key
 Grows-done AddBar f = Grows-same f _ (Same-bar (nat_lt f.bars 2) f)
-Grows-done (Separate n) f = Grows-same f _ (record { keys = refl; columns = length-asking (asked_by (Separate n)) (columns_of f.row) f.asked })
-Grows-done (Widen n) f = Grows-same f _ (record { keys = refl; columns = length-asking (asked_by (Widen n)) (columns_of f.row) f.asked })
-Grows-done Equalize f = Grows-same f _ (record { keys = refl; columns = length-asking (asked_by Equalize) (columns_of f.row) f.asked })
+Grows-done (Separate n) f = Grows-same f _ (record { keys = refl; columns = length-asking (asked_by (Separate n)) (columns_of_keys f.row) f.asked })
+Grows-done (Widen n) f = Grows-same f _ (record { keys = refl; columns = length-asking (asked_by (Widen n)) (columns_of_keys f.row) f.asked })
+Grows-done Equalize f = Grows-same f _ (record { keys = refl; columns = length-asking (asked_by Equalize) (columns_of_keys f.row) f.asked })
 Grows-done DropWidth f = Grows-same f _ (record { keys = omega (arith, length-last_changed (said_by DropWidth) f.row); columns = refl })
 Grows-done (Stand standing) f = Grows-same f _ (record { keys = omega (arith, length-last_changed (said_by (Stand standing)) f.row); columns = refl })
 Grows-done (LeaveOut letter) f = Grows-refl f
@@ -108,9 +108,9 @@ Same-done : (does : Does) (f : Format) → EndsNoKey true does → Same f (done 
 Same-done Nothing f is_none = record { keys = refl; columns = refl }
 Same-done (AddKey key) f is_none = absurd is_none
 Same-done AddBar f is_none = Same-bar (nat_lt f.bars 2) f
-Same-done (Separate n) f is_none = record { keys = refl; columns = length-asking (asked_by (Separate n)) (columns_of f.row) f.asked }
-Same-done (Widen n) f is_none = record { keys = refl; columns = length-asking (asked_by (Widen n)) (columns_of f.row) f.asked }
-Same-done Equalize f is_none = record { keys = refl; columns = length-asking (asked_by Equalize) (columns_of f.row) f.asked }
+Same-done (Separate n) f is_none = record { keys = refl; columns = length-asking (asked_by (Separate n)) (columns_of_keys f.row) f.asked }
+Same-done (Widen n) f is_none = record { keys = refl; columns = length-asking (asked_by (Widen n)) (columns_of_keys f.row) f.asked }
+Same-done Equalize f is_none = record { keys = refl; columns = length-asking (asked_by Equalize) (columns_of_keys f.row) f.asked }
 Same-done DropWidth f is_none = record { keys = omega (arith, length-last_changed (said_by DropWidth) f.row); columns = refl }
 Same-done (Stand standing) f is_none = record { keys = omega (arith, length-last_changed (said_by (Stand standing)) f.row); columns = refl }
 Same-done (LeaveOut letter) f is_none = record { keys = refl; columns = refl }

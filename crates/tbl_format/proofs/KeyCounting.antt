@@ -2,7 +2,7 @@
 use Rattle.std.proofs.Common.{◌≡◌, ℕ, zero, suc, ◌+◌, ◌<◌, ◌≤◌, max, Bool, true, false, List, [], ◌∷◌, length, replicate, nat_lt, refl, sym, ap, subst, ◌∙◌, arith, if◌then◌else◌}
 use Rattle.std.proofs.lemmas.Bool.Decides.{nat_tests}
 use Rattle.std.proofs.lemmas.List.{length-replicate}
-use Rattle.tbl_format.specs.Format.{Format, FormatRow, asking, asking_for_bars, at_fault, columns_of, fault_if, has_some, most_bars, nothing_asked, plain_key, with_any_key, with_asked, with_bar, with_columns, with_last}
+use Rattle.tbl_format.specs.Format.{Format, FormatRow, asking, asking_for_bars, at_fault, columns_of_keys, fault_if, has_some, most_bars, nothing_asked, plain_key, with_any_key, with_asked, with_bar, with_columns, with_last}
 use Rattle.tbl_format.specs.KeyCounts.{Counts}
 use Rattle.tbl_format.specs.declared.format.Asked.{Asked}
 use Rattle.tbl_format.specs.declared.format.FormatKey.{FormatKey}
@@ -62,7 +62,7 @@ Counts-key f c key most few most_is counts =
       begun = has_some-with key f.bars f.row ∙ sym some;
       row = omega (arith, counts.row, columns_of-with key f.bars f.row);
       bars = refl;
-      columns = omega (arith, most_is, counts.row, counts.columns, length-with_columns f.asked (columns_of f.row) (omega (arith, few, counts.row, counts.columns)));
+      columns = omega (arith, most_is, counts.row, counts.columns, length-with_columns f.asked (columns_of_keys f.row) (omega (arith, few, counts.row, counts.columns)));
     }
 
 -- what is asked of a column, or said of a key
@@ -74,7 +74,7 @@ counts_asked change f c counts = record {
   begun = counts.begun;
   row = counts.row;
   bars = counts.bars;
-  columns = length-asking change (columns_of f.row) f.asked ∙ counts.columns;
+  columns = length-asking change (columns_of_keys f.row) f.asked ∙ counts.columns;
 }
 
 pub counts_said : (change : FormatKey → FormatKey) → ((k : FormatKey) → (change k).end ≡ k.end) → (f : Format) (c : KeyCount)
@@ -141,7 +141,7 @@ has_some-keys : (columns : ℕ) → has_some (some_keys columns) ≡ nat_lt 0 co
 has_some-keys zero = let test : nat_lt 0 0 ≡ false = grind (arith, nat_tests) in sym test
 has_some-keys (suc columns) = let test : nat_lt 0 (suc columns) ≡ true = grind (arith, nat_tests) in sym test
 
-columns_of-keys : (columns : ℕ) → columns_of (some_keys columns) ≡ columns
+columns_of-keys : (columns : ℕ) → columns_of_keys (some_keys columns) ≡ columns
 columns_of-keys zero = refl
 columns_of-keys (suc columns) = omega arith
 

@@ -1,29 +1,29 @@
 -- The keys of a row where the last of them changes, or where the row has a column more.
 use Rattle.std.proofs.Common.{◌≡◌, ℕ, zero, suc, ◌+◌, ◌<◌, ◌≤◌, Bool, true, false, ◌&&◌, List, [], ◌∷◌, ◌++◌, length, refl, sym, ap, ◌∙◌, arith, length-append, if◌then◌else◌}
 use Rattle.tbl_format.specs.Cells.{AreCells, start_of}
-use Rattle.tbl_format.specs.Format.{columns_of, has_some, is_spanned, keys_with, last_changed, plain_key, widened}
+use Rattle.tbl_format.specs.Format.{columns_of_keys, has_some, is_spanned, keys_with, last_changed, plain_key, widened}
 use Rattle.tbl_format.specs.declared.format.FormatKey.{FormatKey}
 use Rattle.tbl_format.specs.declared.format.Key.{Key}
 use Rattle.tbl_format.proofs.CellColumns.{cells-few, columns_behind, columns_of-behind, end_behind, start_behind, start_behind-next, start_of-behind}
 
 -- keys that have columns are some, and cells that have none are none
-pub has_some-columns : (keys : List FormatKey) → 0 < columns_of keys → has_some keys ≡ true
+pub has_some-columns : (keys : List FormatKey) → 0 < columns_of_keys keys → has_some keys ≡ true
 has_some-columns [] some = absurd (omega (arith, some))
 has_some-columns (k ∷ keys) some = refl
 
-pub has_none-columns : (keys : List FormatKey) → AreCells 0 keys → columns_of keys ≤ 0 → has_some keys ≡ false
+pub has_none-columns : (keys : List FormatKey) → AreCells 0 keys → columns_of_keys keys ≤ 0 → has_some keys ≡ false
 has_none-columns [] cells none = refl
 has_none-columns (k ∷ keys) cells none = absurd (omega (arith, none, cells-few (k ∷ keys) cells))
 
-pub length-columns : (keys : List FormatKey) → 0 < columns_of keys → 0 < length keys
+pub length-columns : (keys : List FormatKey) → 0 < columns_of_keys keys → 0 < length keys
 length-columns [] some = absurd (omega (arith, some))
 length-columns (k ∷ keys) some = omega arith
 
-pub columns-some : (keys : List FormatKey) → AreCells 0 keys → has_some keys ≡ true → 0 < columns_of keys
+pub columns-some : (keys : List FormatKey) → AreCells 0 keys → has_some keys ≡ true → 0 < columns_of_keys keys
 columns-some [] cells some = absurd cc
 columns-some (k ∷ keys) cells some = omega (arith, cells-few (k ∷ keys) cells)
 
-pub columns-none : (keys : List FormatKey) → has_some keys ≡ false → columns_of keys ≡ 0
+pub columns-none : (keys : List FormatKey) → has_some keys ≡ false → columns_of_keys keys ≡ 0
 columns-none [] none = refl
 columns-none (k ∷ keys) none = absurd cc
 
@@ -50,7 +50,7 @@ module _ (change : FormatKey → FormatKey) (more : ℕ) (ends : (k : FormatKey)
   cells-behind from (k ∷ []) cells = (omega (arith, ends k, cells.0), tt)
   cells-behind from (k ∷ next ∷ keys) cells = (cells.0, cells-behind k.end (next ∷ keys) cells.1)
 
-  pub columns_of-changed : (keys : List FormatKey) → has_some keys ≡ true → columns_of (last_changed change keys) ≡ columns_of keys + more
+  pub columns_of-changed : (keys : List FormatKey) → has_some keys ≡ true → columns_of_keys (last_changed change keys) ≡ columns_of_keys keys + more
   columns_of-changed [] some = absurd cc
   columns_of-changed (k ∷ keys) some =
       omega (arith, columns_of-behind (last_changed change (k ∷ keys)), behind-changed 0 k keys, columns_of-behind (k ∷ keys))
@@ -60,7 +60,7 @@ module _ (change : FormatKey → FormatKey) (more : ℕ) (ends : (k : FormatKey)
 
 -- in the same column
 pub columns_of-kept : (change : FormatKey → FormatKey) → ((k : FormatKey) → (change k).end ≡ k.end) → (keys : List FormatKey)
-    → columns_of (last_changed change keys) ≡ columns_of keys
+    → columns_of_keys (last_changed change keys) ≡ columns_of_keys keys
 columns_of-kept change same [] = refl
 columns_of-kept change same (k ∷ keys) = omega (arith, columns_of-changed change 0 (λ q. omega (arith, same q)) (k ∷ keys) refl)
 
@@ -95,14 +95,14 @@ behind-append : (from : ℕ) (keys : List FormatKey) (k : FormatKey) → columns
 behind-append from [] k = refl
 behind-append from (q ∷ keys) k = behind-append q.end keys k
 
-pub columns_of-append : (keys : List FormatKey) (k : FormatKey) → columns_of (keys ++ k ∷ []) ≡ k.end
+pub columns_of-append : (keys : List FormatKey) (k : FormatKey) → columns_of_keys (keys ++ k ∷ []) ≡ k.end
 columns_of-append keys k = columns_of-behind (keys ++ k ∷ []) ∙ behind-append 0 keys k
 
 cells-append-behind : (from : ℕ) (keys : List FormatKey) (k : FormatKey) → columns_behind from keys < k.end → AreCells from keys → AreCells from (keys ++ k ∷ [])
 cells-append-behind from [] k more cells = (more, tt)
 cells-append-behind from (q ∷ keys) k more cells = (cells.0, cells-append-behind q.end keys k more cells.1)
 
-pub cells-append : (keys : List FormatKey) (k : FormatKey) → columns_of keys < k.end → AreCells 0 keys → AreCells 0 (keys ++ k ∷ [])
+pub cells-append : (keys : List FormatKey) (k : FormatKey) → columns_of_keys keys < k.end → AreCells 0 keys → AreCells 0 (keys ++ k ∷ [])
 cells-append keys k more cells = cells-append-behind 0 keys k (omega (arith, more, columns_of-behind keys)) cells
 
 end_behind-append : (from : ℕ) (keys : List FormatKey) (k : FormatKey) (cell : ℕ) → cell < length keys
@@ -125,24 +125,24 @@ start_behind-last : (from : ℕ) (keys : List FormatKey) → start_behind from k
 start_behind-last from [] = refl
 start_behind-last from (k ∷ keys) = start_behind-next from k keys (length keys) ∙ start_behind-last k.end keys
 
-pub start_of-last : (keys : List FormatKey) → start_of keys (length keys) ≡ columns_of keys
+pub start_of-last : (keys : List FormatKey) → start_of keys (length keys) ≡ columns_of_keys keys
 start_of-last keys = start_of-behind keys (length keys) ∙ start_behind-last 0 keys ∙ sym (columns_of-behind keys)
 
 -- a column more: the last cell is wider, or there is one cell more
 module _ (P : List FormatKey → Type 0) (key : Key) (bars : ℕ) where
   either-cell : (t : Bool) (keys : List FormatKey) → (has_some keys ≡ true → P (last_changed widened keys))
-      → P (keys ++ plain_key bars key (columns_of keys) ∷ [])
-      → P (if t && has_some keys then last_changed widened keys else keys ++ plain_key bars key (columns_of keys) ∷ [])
+      → P (keys ++ plain_key bars key (columns_of_keys keys) ∷ [])
+      → P (if t && has_some keys then last_changed widened keys else keys ++ plain_key bars key (columns_of_keys keys) ∷ [])
   either-cell true [] wide more = more
   either-cell true (k ∷ keys) wide more = wide refl
   either-cell false keys wide more = more
 
   pub either-with : (keys : List FormatKey) → (has_some keys ≡ true → P (last_changed widened keys))
-      → P (keys ++ plain_key bars key (columns_of keys) ∷ []) → P (keys_with key bars keys)
+      → P (keys ++ plain_key bars key (columns_of_keys keys) ∷ []) → P (keys_with key bars keys)
   either-with keys wide more = either-cell (is_spanned key) keys wide more
 
 -- a key that has a cell of its own: no `s`, or the first of its row
-pub own-first : (t : Bool) (keys : List FormatKey) → AreCells 0 keys → columns_of keys ≤ 0 → (t && has_some keys) ≡ false
+pub own-first : (t : Bool) (keys : List FormatKey) → AreCells 0 keys → columns_of_keys keys ≤ 0 → (t && has_some keys) ≡ false
 own-first true keys cells none = has_none-columns keys cells none
 own-first false keys cells none = refl
 
@@ -152,23 +152,23 @@ own-other t keys other = ap (λ (u : Bool). u && has_some keys) other
 module _ (key : Key) (bars : ℕ) (keys : List FormatKey) where
   pub keys_with-wide : is_spanned key ≡ true → has_some keys ≡ true → keys_with key bars keys ≡ last_changed widened keys
   keys_with-wide spans some =
-      ap (λ (t : Bool). if t && has_some keys then last_changed widened keys else keys ++ plain_key bars key (columns_of keys) ∷ []) spans
-      ∙ ap (λ (t : Bool). if t then last_changed widened keys else keys ++ plain_key bars key (columns_of keys) ∷ []) some
+      ap (λ (t : Bool). if t && has_some keys then last_changed widened keys else keys ++ plain_key bars key (columns_of_keys keys) ∷ []) spans
+      ∙ ap (λ (t : Bool). if t then last_changed widened keys else keys ++ plain_key bars key (columns_of_keys keys) ∷ []) some
 
-  pub keys_with-own : (is_spanned key && has_some keys) ≡ false → keys_with key bars keys ≡ keys ++ plain_key bars key (columns_of keys) ∷ []
-  keys_with-own own = ap (λ (t : Bool). if t then last_changed widened keys else keys ++ plain_key bars key (columns_of keys) ∷ []) own
+  pub keys_with-own : (is_spanned key && has_some keys) ≡ false → keys_with key bars keys ≡ keys ++ plain_key bars key (columns_of_keys keys) ∷ []
+  keys_with-own own = ap (λ (t : Bool). if t then last_changed widened keys else keys ++ plain_key bars key (columns_of_keys keys) ∷ []) own
 
   abbrev next_key : FormatKey
-  next_key = plain_key bars key (columns_of keys)
+  next_key = plain_key bars key (columns_of_keys keys)
 
   pub has_some-with : has_some (keys_with key bars keys) ≡ true
   has_some-with =
       either-with (λ (ks : List FormatKey). has_some ks ≡ true) key bars keys
       (λ some. has_some-last_changed widened keys ∙ some) (has_some-last keys next_key)
 
-  pub columns_of-with : columns_of (keys_with key bars keys) ≡ columns_of keys + 1
+  pub columns_of-with : columns_of_keys (keys_with key bars keys) ≡ columns_of_keys keys + 1
   columns_of-with =
-      either-with (λ (ks : List FormatKey). columns_of ks ≡ columns_of keys + 1) key bars keys
+      either-with (λ (ks : List FormatKey). columns_of_keys ks ≡ columns_of_keys keys + 1) key bars keys
       (λ some. columns_of-changed widened 1 (λ k. refl) keys some) (columns_of-append keys next_key)
 
   pub length-with : length (keys_with key bars keys) ≤ length keys + 1

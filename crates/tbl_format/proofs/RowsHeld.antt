@@ -1,7 +1,7 @@
 -- The rows of formats have no more columns and bars than are asked for.
 use Rattle.std.proofs.Common.{◌≡◌, ℕ, zero, suc, ◌+◌, ◌<◌, ◌≤◌, max, Bool, true, false, not, List, [], ◌∷◌, ◌++◌, length, get_or, map, nat_lt, refl, sym, subst, arith, append_assoc, append-nil, if◌then◌else◌}
 use Rattle.std.specs.List.{AllByRecursion}
-use Rattle.tbl_format.specs.Format.{Format, FormatRow, asked_by, asking, asking_for_bars, at_fault, columns_of, done, fault_if, format_byte, format_byte_at, further, has_some, is_misplaced, looked_again, most_bars, plain_key, read_behind, said_by, stepped, with_any_key, with_asked, with_columns, with_last, with_whole, widened}
+use Rattle.tbl_format.specs.Format.{Format, FormatRow, asked_by, asking, asking_for_bars, at_fault, columns_of_keys, done, fault_if, format_byte, format_byte_at, further, has_some, is_misplaced, looked_again, most_bars, plain_key, read_behind, said_by, stepped, with_any_key, with_asked, with_columns, with_last, with_whole, widened}
 use Rattle.tbl_format.specs.Cells.{start_of}
 use Rattle.tbl_format.specs.FormatLaws.{AreHeld, Further, IsHeld, IsRead, Line, NoByte, RowHeld, most_beside}
 use Rattle.tbl_format.specs.FormatLaws.{bars_among}
@@ -67,7 +67,7 @@ columns-most front asked count (suc column) = omega (arith, columns-same asked c
 
 held-key : (key : Key) (f : Format) → Held f → Held (with_any_key key f)
 held-key key f held =
-    let count = columns_of f.row in
+    let count = columns_of_keys f.row in
     let k = plain_key f.bars key count in
     let others = with_columns f.asked count in
     let columns = length-with_columns f.asked count held.row.short in
@@ -118,7 +118,7 @@ front-most front n asked (suc column) = omega arith
 held-asking : (t : Bool) (n : ℕ) (f : Format) → has_some f.row ≡ t → Held f
     → Held (if t then with_asked (most_bars n) (record f { bars = n }) else record f { bars = n; front = max f.front n })
 held-asking true n f some held =
-    let count = columns_of f.row in
+    let count = columns_of_keys f.row in
     let others = asking (most_bars n) count f.asked in
     let columns = length-asking (most_bars n) count f.asked in
     let most = asked-most f.front n count f.asked in
@@ -167,7 +167,7 @@ module _ (change : Asked → Asked) (same : (a : Asked) → (change a).bars ≡ 
 
   held-asked : (f : Format) → Held f → Held (with_asked change f)
   held-asked f held =
-      let count = columns_of f.row in
+      let count = columns_of_keys f.row in
       let more : AsksMore f.front f.front f.asked (asking change count f.asked) =
       record { columns = omega (arith, length-asking change count f.asked); most = change-most f.front count f.asked } in
       record {

@@ -3,7 +3,7 @@ use Rattle.std.proofs.Common.{◌≡◌, ℕ, ◌+◌, ◌<◌, ◌≤◌, true,
 use Rattle.std.proofs.lemmas.Bool.Decides.{nat_tests}
 use Rattle.std.specs.List.{AllByRecursion, slice_range}
 use Rattle.tbl_format.specs.Cells.{AreCells}
-use Rattle.tbl_format.specs.Format.{columns_of, has_some, last_changed, said_by, widened}
+use Rattle.tbl_format.specs.Format.{columns_of_keys, has_some, last_changed, said_by, widened}
 use Rattle.tbl_format.specs.FormatRows.{AreWithin}
 use Rattle.roff_num.specs.Lists.{last_end}
 use Rattle.roff_num.specs.Lists.{parts_ending}
@@ -33,14 +33,14 @@ within-said change same columns keys within = record {
   short = omega (arith, within.short, columns_of-kept change same keys);
 }
 
-pub within-wide : (columns : ℕ) (keys : List FormatKey) → 0 < columns_of keys → columns_of keys < columns → AreWithin columns keys
+pub within-wide : (columns : ℕ) (keys : List FormatKey) → 0 < columns_of_keys keys → columns_of_keys keys < columns → AreWithin columns keys
     → AreWithin columns (last_changed widened keys)
 within-wide columns keys some more within = record {
   cells = cells-changed widened 1 (λ k. refl) keys within.cells;
   short = omega (arith, more, columns_of-changed widened 1 (λ k. refl) keys (has_some-columns keys some));
 }
 
-pub within-append : (columns : ℕ) (keys : List FormatKey) (k : FormatKey) → columns_of keys < k.end → k.end ≤ columns → AreWithin columns keys
+pub within-append : (columns : ℕ) (keys : List FormatKey) (k : FormatKey) → columns_of_keys keys < k.end → k.end ≤ columns → AreWithin columns keys
     → AreWithin columns (keys ++ k ∷ [])
 within-append columns keys k more short within = record {
   cells = cells-append keys k more within.cells;
@@ -62,7 +62,7 @@ said_by-end EndRow k = refl
 said_by-end EndFormat k = refl
 
 -- whether a row is begun, by its columns
-pub has_some-begun : (keys : List FormatKey) (columns : ℕ) → AreCells 0 keys → columns ≡ columns_of keys → has_some keys ≡ nat_lt 0 columns
+pub has_some-begun : (keys : List FormatKey) (columns : ℕ) → AreCells 0 keys → columns ≡ columns_of_keys keys → has_some keys ≡ nat_lt 0 columns
 has_some-begun [] columns cells is = let test : nat_lt 0 columns ≡ false = grind (arith, nat_tests) in sym test
 has_some-begun (k ∷ keys) columns cells is =
     let some : 0 < columns = omega (arith, is, columns-some (k ∷ keys) cells refl) in

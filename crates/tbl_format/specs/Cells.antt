@@ -1,11 +1,11 @@
 -- The cells of a row of a format, and the columns that they have (Lesk, "Tbl": Format).
 use Rattle.std.specs.Prelude.{ℕ, zero, suc, nat_lt, ◌+◌, ◌-◌, ◌<◌, ◌==◌, Option, None, Some, if◌then◌else◌, List, [], ◌∷◌, length, map, take, drop, get_or, ⊤}
-use Rattle.tbl_format.specs.Format.{columns_of}
+use Rattle.tbl_format.specs.Format.{columns_of_keys}
 use Rattle.tbl_format.specs.declared.format.FormatKey.{FormatKey}
 
 -- up to which column a cell of these keys goes, and behind which it begins: behind the last key each cell has one column
 abbrev pub end_of : List FormatKey → ℕ → ℕ
-end_of keys cell = get_or (map (λ k. k.end) keys) cell (columns_of keys + (cell + 1 - length keys))
+end_of keys cell = get_or (map (λ k. k.end) keys) cell (columns_of_keys keys + (cell + 1 - length keys))
 
 abbrev pub start_of : List FormatKey → ℕ → ℕ
 start_of keys zero = 0
@@ -13,7 +13,7 @@ start_of keys (suc cell) = end_of keys cell
 
 -- how many cells the keys of a row have in a table of so many columns
 abbrev pub cell_count : List FormatKey → ℕ → ℕ
-cell_count keys columns = length keys + (columns - columns_of keys)
+cell_count keys columns = length keys + (columns - columns_of_keys keys)
 
 -- the cell that begins behind so many columns, if one does, where the first of these keys has a cell with a number that begins behind some
 abbrev pub cell_from : ℕ → ℕ → List FormatKey → ℕ → Option ℕ

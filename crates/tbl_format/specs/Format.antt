@@ -55,10 +55,10 @@ abbrev pub plain_key : ℕ → Key → ℕ → FormatKey
 plain_key bars key column = record { bars = bars; key = key; end = column + 1; standing = Middle; has_no_width = false }
 
 -- how many columns the cells of these keys have
-abbrev pub columns_of : List FormatKey → ℕ
-columns_of [] = 0
-columns_of (k ∷ []) = k.end
-columns_of (k ∷ next ∷ keys) = columns_of (next ∷ keys)
+abbrev pub columns_of_keys : List FormatKey → ℕ
+columns_of_keys [] = 0
+columns_of_keys (k ∷ []) = k.end
+columns_of_keys (k ∷ next ∷ keys) = columns_of_keys (next ∷ keys)
 
 -- the key of a cell of several columns: a number there is a text in the middle, an alphabetic text one at the left
 abbrev pub spanning : Key → Key
@@ -99,10 +99,10 @@ is_spanned key = false
 
 abbrev pub keys_with : Key → ℕ → List FormatKey → List FormatKey
 keys_with key bars keys =
-    if is_spanned key && has_some keys then last_changed widened keys else keys ++ plain_key bars key (columns_of keys) ∷ []
+    if is_spanned key && has_some keys then last_changed widened keys else keys ++ plain_key bars key (columns_of_keys keys) ∷ []
 
 abbrev pub with_any_key : Key → Format → Format
-with_any_key key f = record f { row = keys_with key f.bars f.row; bars = 0; asked = with_columns f.asked (columns_of f.row) }
+with_any_key key f = record f { row = keys_with key f.bars f.row; bars = 0; asked = with_columns f.asked (columns_of_keys f.row) }
 
 abbrev pub with_key : Key → Format → Format
 with_key key f = fault_if (is_misplaced key f) (with_any_key key f)
@@ -115,7 +115,7 @@ asking change (suc zero) (a ∷ asked) = change a ∷ asked
 asking change (suc (suc columns)) (a ∷ asked) = a ∷ asking change (suc columns) asked
 
 abbrev pub with_asked : (Asked → Asked) → Format → Format
-with_asked change f = record f { asked = asking change (columns_of f.row) f.asked }
+with_asked change f = record f { asked = asking change (columns_of_keys f.row) f.asked }
 
 -- bars at the end of the row begun ask for room: behind its last column, or in front of the first column
 abbrev pub most_bars : ℕ → Asked → Asked

@@ -2,7 +2,7 @@
 use Rattle.std.specs.Prelude.{ℕ, zero, suc, ◌≤◌, List, [], ◌∷◌, get_or, length, map}
 use Rattle.std.specs.List.{AllByRecursion}
 use Rattle.tbl_format.specs.Cells.{AreCells, start_of}
-use Rattle.tbl_format.specs.Format.{Format, FormatRow, columns_of, format_read, further, no_format}
+use Rattle.tbl_format.specs.Format.{Format, FormatRow, columns_of_keys, format_read, further, no_format}
 use Rattle.tbl_format.specs.RowsServed.{all_rows}
 use Rattle.tbl_format.specs.declared.format.Asked.{Asked}
 use Rattle.tbl_format.specs.declared.format.FormatKey.{FormatKey}
@@ -29,7 +29,7 @@ most_beside front asked (suc column) = get_or (map (λ (a : Asked). a.bars) aske
 -- than are asked for
 pub record IsHeld (front : ℕ) (asked : List Asked) (keys : List FormatKey) (bars : ℕ) : Type 0 where
   pub cells : AreCells 0 keys
-  pub short : columns_of keys ≤ length asked
+  pub short : columns_of_keys keys ≤ length asked
   pub most : (cell : ℕ) → bars_among keys bars cell ≤ most_beside front asked (start_of keys cell)
 
 -- all rows of the formats are held

@@ -2,7 +2,7 @@
 use Rattle.std.specs.Prelude.{◌≡◌, ℕ, ◌+◌, ◌<◌, ◌≤◌, List, [], ◌∷◌, length, take, drop, vec_capacity}
 use Rattle.std.specs.List.{AllByRecursion}
 use Rattle.tbl_format.specs.Cells.{AreCells}
-use Rattle.tbl_format.specs.Format.{Format, FormatRow, columns_of}
+use Rattle.tbl_format.specs.Format.{Format, FormatRow, columns_of_keys}
 use Rattle.roff_num.specs.Lists.{last_end}
 use Rattle.tbl_format.specs.Parts.{EndWithin}
 use Rattle.roff_num.specs.Lists.{parts_ending}
@@ -56,7 +56,7 @@ kept_by a = record {
 -- the cells of a row have no more columns than the table
 pub record AreWithin (columns : ℕ) (keys : List FormatKey) : Type 0 where
   pub cells : AreCells 0 keys
-  pub short : columns_of keys ≤ columns
+  pub short : columns_of_keys keys ≤ columns
 
 -- the room is reserved, no row that is whole is empty, and none has more columns than there are
 pub record IsSound (a : Inside) : Type 0 where

@@ -1,6 +1,6 @@
 -- What counts of the keys of a format, as far as it was read.
 use Rattle.std.specs.Prelude.{◌≡◌, ◌≤◌, ◌+◌, ℕ, length, nat_lt}
-use Rattle.tbl_format.specs.Format.{Format, columns_of, has_some}
+use Rattle.tbl_format.specs.Format.{Format, columns_of_keys, has_some}
 use Rattle.tbl_format.specs.declared.format.FormatPlace.{FormatPlace}
 use Rattle.tbl_format.specs.declared.format.FormatPlace.TheVariants.{AtEnd, AtFault, InRows}
 use Rattle.tbl_format.specs.declared.format.RowPart.{RowPart}
@@ -13,7 +13,7 @@ pub record Counts (f : Format) (c : KeyCount) : Type 0 where
   pub is_further : has_some f.earlier ≡ c.is_further
   pub has_row : has_some f.rows ≡ c.has_row
   pub begun : has_some f.row ≡ nat_lt 0 c.row
-  pub row : columns_of f.row ≡ c.row
+  pub row : columns_of_keys f.row ≡ c.row
   pub bars : f.bars ≡ c.bars
   pub columns : length f.asked ≡ c.columns
 

@@ -3,13 +3,13 @@
 ghost use Rattle.std.specs.Prelude.{◌≡◌, ℕ, ◌+◌, ◌<◌, ◌≤◌, ◌^◌, length};
 ghost use Rattle.tbl_format.specs.Cells.{same_cell, AreCells, cell_behind, cell_count, end_of};
 ghost use Rattle.tbl_format.specs.Cells.{start_of};
-ghost use Rattle.tbl_format.specs.Format.{columns_of};
+ghost use Rattle.tbl_format.specs.Format.{columns_of_keys};
 
 use crate::format::FormatKey;
 
 /// How many columns the cells of these keys have.
 pub fn columns_of(keys: &[FormatKey]) -> usize
-    ensures value { result ≡ columns_of keys.now }
+    ensures value { result ≡ columns_of_keys keys.now }
     ensures most { result < 2 ^ 32 }
 {
     match keys.last() {

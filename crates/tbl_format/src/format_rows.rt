@@ -49,7 +49,7 @@ impl FormatRows {
     ghost use Rattle.tbl_format.specs.Format.{asking_for_bars, done, fault_if, stepped};
     ghost use Rattle.tbl_format.specs.Format.{with_any_key, with_asked};
     ghost use Rattle.tbl_format.specs.Format.{with_bar, with_end, with_key, with_last, with_whole};
-    ghost use Rattle.tbl_format.specs.Format.{columns_of, keys_with};
+    ghost use Rattle.tbl_format.specs.Format.{columns_of_keys, keys_with};
     ghost use Rattle.tbl_format.specs.FormatRows.{keeping, key_count};
 
     /// No byte of a format, with room for so many keys and columns.
@@ -192,7 +192,7 @@ impl FormatRows {
     /// of this key.
     fn push_cell(&mut self, key: Key, columns: usize)
         requires keys { key_count self.old.format < self.old.key_room }
-        requires columns { columns ≡ columns_of self.old.format.row }
+        requires columns { columns ≡ columns_of_keys self.old.format.row }
         requires within { columns < length self.old.format.asked }
         ensures { self.new ≡ keeping self.old (record self.old.format {
           row = keys_with key self.old.format.bars self.old.format.row;

@@ -3,7 +3,7 @@ use Rattle.std.proofs.Common.{◌≡◌, ℕ, ◌-◌, ◌&&◌, ◌==◌, Bool,
 use Rattle.std.proofs.lemmas.Bool.Decides.{nat_tests}
 use Rattle.std.specs.List.{AllByRecursion, list_all}
 use Rattle.std.specs.Prelude.{is_some}
-use Rattle.tbl_format.specs.Format.{FormatRow, columns_of}
+use Rattle.tbl_format.specs.Format.{FormatRow, columns_of_keys}
 use Rattle.tbl_format.specs.declared.format.FormatKey.{FormatKey}
 use Rattle.tbl_kept.specs.Rows.{Command, ElementLaid, IsRuleRow, KeptElement, Row, Rule, rows_in_front}
 use Rattle.tbl_kept.proofs.RowsUnfilled.{each-drop, each-take}
@@ -19,10 +19,10 @@ second true b is = is
 second false b is = absurd (cc)
 
 -- each key of such a row has one column
-ones : (format : FormatRow) → IsRuleRow format → columns_of format.keys ≡ length format.keys
+ones : (format : FormatRow) → IsRuleRow format → columns_of_keys format.keys ≡ length format.keys
 ones format is =
-    let same : (columns_of format.keys == length format.keys) ≡ true =
-    second (list_all (λ (k : FormatKey). is_some (rule_sign k.key)) format.keys) (columns_of format.keys == length format.keys) is in
+    let same : (columns_of_keys format.keys == length format.keys) ≡ true =
+    second (list_all (λ (k : FormatKey). is_some (rule_sign k.key)) format.keys) (columns_of_keys format.keys == length format.keys) is in
     grind (arith, nat_tests)
 
 module _ (s : Sheet) where

@@ -3,7 +3,7 @@ use Rattle.std.proofs.Common.{◌≡◌, ℕ, zero, suc, ◌+◌, ◌-◌, ◌==
 use Rattle.std.specs.Prelude.{Option, None, Some}
 use Rattle.std.specs.List.{AllByRecursion}
 use Rattle.tbl_format.proofs.Elements.{each-append}
-use Rattle.tbl_format.specs.Format.{FormatRow, columns_of}
+use Rattle.tbl_format.specs.Format.{FormatRow, columns_of_keys}
 use Rattle.tbl_format.specs.declared.format.FormatKey.{FormatKey}
 use Rattle.tbl_layout.specs.Columns.{bars_end}
 use Rattle.tbl_layout.specs.Entries.{Above, Block, Command, Content, Element, Repeated, Row, Rule, Ruled, Short, Text, field_at}
@@ -236,7 +236,7 @@ next-wide : (columns : ℕ) (keys : List FormatKey) (above : List Left) (heights
     → AllHaveWidth elements → AreWide (cells_next columns keys above heights elements)
 next-wide columns keys above heights [] wide have = nothing-wide columns 0
 next-wide columns keys above heights (Row rules format fields ∷ elements) wide have =
-    let own = columns_of format.keys in
+    let own = columns_of_keys format.keys in
     stopped-wide columns format.keys elements 0 (cells_from keys above heights elements format fields 0 (all_keys columns format))
     (cells-wide keys above heights elements format fields 0 (all_keys columns format) wide
     (width-all format.keys (columns - own) format.bars own have.0))

@@ -6,7 +6,7 @@ use Rattle.std.proofs.lemmas.Bool.{cases_lt, eq-eqb, ne_eqb}
 use Rattle.std.proofs.lemmas.List.{drop-drop, drop_all, drop_more}
 use Rattle.tbl_format.proofs.CellColumns.{columns_behind, columns_of-behind}
 use Rattle.tbl_format.specs.Cells.{AreCells}
-use Rattle.tbl_format.specs.Format.{columns_of}
+use Rattle.tbl_format.specs.Format.{columns_of_keys}
 use Rattle.tbl_format.specs.declared.format.Asked.{Asked}
 use Rattle.tbl_format.specs.declared.format.FormatKey.{FormatKey}
 use Rattle.tbl_format.specs.declared.format.Key.{Key}
@@ -132,5 +132,5 @@ ones-wide from (k ∷ keys) (e ∷ entries) cells ones =
     ++ wide_entries stands_of k.end keys entries) (eq-eqb (k.end - from) 1 one)
     ∙ ones-wide k.end keys entries cells.1 (omega (arith, ones, order, cells.0))
 
-pub none-wide : (keys : List FormatKey) (entries : List Entry) → AreCells 0 keys → columns_of keys ≡ length keys → wide_entries stands_of 0 keys entries ≡ []
+pub none-wide : (keys : List FormatKey) (entries : List Entry) → AreCells 0 keys → columns_of_keys keys ≡ length keys → wide_entries stands_of 0 keys entries ≡ []
 none-wide keys entries cells ones = ones-wide 0 keys entries cells (omega (arith, columns_of-behind keys, ones))

@@ -1,7 +1,7 @@
 -- The cells with which a row begins fit their columns, where its fields do.
 use Rattle.std.proofs.Common.{◌≡◌, ℕ, zero, suc, ◌+◌, ◌-◌, List, [], ◌∷◌, ◌++◌, length, drop, get_or, sym, ap, subst, ◌∙◌, arith}
 use Rattle.std.proofs.lemmas.List.{drop-drop, get_or-drop}
-use Rattle.tbl_format.specs.Format.{FormatRow, columns_of}
+use Rattle.tbl_format.specs.Format.{FormatRow, columns_of_keys}
 use Rattle.tbl_format.specs.FormatRows.{AreWithin}
 use Rattle.tbl_format.specs.declared.format.FormatKey.{FormatKey}
 use Rattle.tbl_format.specs.declared.format.Key.{Key}
@@ -60,6 +60,6 @@ pub cells-begin : (columns : List Column) (format : FormatRow) (fields : List Co
     → FieldsFit format.keys fields (cells_of format.keys columns)
     → CellsFit (alone_from 0 0 (all_keys (length columns) format) fields) (cells_of (all_keys (length columns) format) columns)
 cells-begin columns format fields within fit =
-    let own = columns_of format.keys in
+    let own = columns_of_keys format.keys in
     subst (CellsFit (alone_from 0 0 (all_keys (length columns) format) fields)) (sym (cells-all columns format within))
     (keys-fit fields format.keys (length columns - own) format.bars own 0 (cells_of format.keys columns) fit)

@@ -1,7 +1,7 @@
 -- Cells that cover the columns of a table and fit them do so behind a line, too.
 use Rattle.std.proofs.Common.{◌≡◌, ℕ, ◌-◌, ◌≤◌, Bool, true, false, ◌==◌, List, [], ◌∷◌, drop, map, refl, sym, ap, subst, ◌∙◌, arith, if◌then◌else◌}
 use Rattle.tbl_format.specs.Cells.{AreCells}
-use Rattle.tbl_format.specs.Format.{columns_of}
+use Rattle.tbl_format.specs.Format.{columns_of_keys}
 use Rattle.tbl_format.specs.declared.format.FormatKey.{FormatKey}
 use Rattle.tbl_layout.specs.Entries.{Above, Block, Content, Repeated, Ruled, Short, Text}
 use Rattle.tbl_layout.specs.Spans.{cells_of}
@@ -32,7 +32,7 @@ module _ (f : Left → Left) (same : (c : Left) → (f c).key ≡ c.key) (fits :
   cover-same s cells cover =
       let keys = keys-same cells in record {
         order = subst (AreCells 0) (sym keys) cover.order;
-        all = ap columns_of keys ∙ cover.all;
+        all = ap columns_of_keys keys ∙ cover.all;
         fit = subst (λ (ks : List FormatKey). CellsFit (map f cells) (cells_of ks s.columns)) (sym keys)
             (fit-same cells (cells_of (keys_of cells) s.columns) cover.fit);
       }

@@ -5,7 +5,7 @@ use Rattle.std.specs.List.{AllByRecursion}
 use Rattle.std.proofs.lemmas.List.{drop-drop, get_or_past}
 use Rattle.tbl_format.proofs.CellColumns.{columns_behind, columns_of-behind}
 use Rattle.tbl_format.specs.Cells.{AreCells, by_cells}
-use Rattle.tbl_format.specs.Format.{columns_of as format_columns}
+use Rattle.tbl_format.specs.Format.{columns_of_keys}
 use Rattle.tbl_format.specs.declared.format.FormatKey.{FormatKey}
 use Rattle.tbl_laws.proofs.RowRuns.{keys-filled}
 use Rattle.tbl_laws.specs.PiecesApart.{BeginsBehind, CellsCover, columns_of_cells, shown_in_row}
@@ -209,7 +209,7 @@ pub free-to-stop : (s : Sheet) (cells : List Left) → StandInOrder s.bars s.wid
 free-to-stop s cells order cover shows stop =
     let same = keys-filled cells (columns_of_cells s cells) in
     let keys = keys_of cells in
-    let all : format_columns keys ≡ length s.columns = sym (ap format_columns same) ∙ cover.all in
+    let all : columns_of_keys keys ≡ length s.columns = sym (ap columns_of_keys same) ∙ cover.all in
     free-from s order cells 0 s.columns
     (record { order = subst (AreCells 0) same cover.order; all = omega (arith, all, columns_of-behind keys) })
     (record { same = λ m. let at : m ≡ 0 + m = omega arith in ap (λ (n : ℕ). drop n s.columns) at; size = omega arith }) shows stop

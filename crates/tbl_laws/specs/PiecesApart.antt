@@ -1,7 +1,7 @@
 -- Where the pieces of a line stand: each at its own columns of the page (Lesk, "Tbl": Formatting).
 use Rattle.std.specs.Prelude.{◌≡◌, ℕ, suc, ◌+◌, ◌-◌, ◌<◌, ◌≤◌, false, true, List, [], ◌∷◌, ◌++◌, drop, length, map, if◌then◌else◌, ⊤}
 use Rattle.tbl_format.specs.Cells.{AreCells}
-use Rattle.tbl_format.specs.Format.{columns_of as format_columns}
+use Rattle.tbl_format.specs.Format.{columns_of_keys}
 use Rattle.tbl_layout.specs.Entries.{Run, columns_of}
 use Rattle.tbl_layout.specs.EntriesFit.{FieldFits}
 use Rattle.tbl_layout.specs.LayoutLaws.{first_start, last_behind, last_end}
@@ -127,7 +127,7 @@ BarsPlaced from (own ∷ cells) columns =
 -- the cells of a row have all columns of the table, and fit them
 pub record CellsCover (s : Sheet) (cells : List Left) : Type 0 where
   pub order : AreCells 0 (map (λ c. c.key) cells)
-  pub all : format_columns (map (λ c. c.key) cells) ≡ length s.columns
+  pub all : columns_of_keys (map (λ c. c.key) cells) ≡ length s.columns
   pub fit : CellsFit cells (columns_of_cells s cells)
 
 -- and there are places for the bars in front of each of them, and behind the last

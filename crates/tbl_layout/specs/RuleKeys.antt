@@ -1,7 +1,7 @@
 -- Keys of a format that say what their fields are, whatever stands in them: rule keys and `^` (Lesk, "Tbl": Format).
 use Rattle.std.specs.Prelude.{ℕ, suc, Bool, ◌&&◌, ◌==◌, List, [], ◌∷◌, length, Option, None, Some, is_some, if◌then◌else◌}
 use Rattle.std.specs.List.{list_all}
-use Rattle.tbl_format.specs.Format.{FormatRow, columns_of}
+use Rattle.tbl_format.specs.Format.{FormatRow, columns_of_keys}
 use Rattle.tbl_format.specs.declared.format.FormatKey.{FormatKey}
 use Rattle.tbl_format.specs.declared.format.Key.{Key}
 use Rattle.tbl_format.specs.declared.format.Key.TheVariants.{Above, DoubleRule, Rule}
@@ -18,7 +18,7 @@ rule_sign key = None
 
 -- whether all keys of a row are rule keys, `s` among them not
 abbrev pub is_rule_row : FormatRow → Bool
-is_rule_row format = list_all (λ k. is_some (rule_sign k.key)) format.keys && columns_of format.keys == length format.keys
+is_rule_row format = list_all (λ k. is_some (rule_sign k.key)) format.keys && columns_of_keys format.keys == length format.keys
 
 -- how many of these rows of a format, from the first on, are rows of rule keys alone, which take no row of the data: its last row
 -- takes one, whatever its keys are

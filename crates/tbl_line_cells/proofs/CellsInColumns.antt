@@ -3,7 +3,7 @@ use Rattle.std.proofs.Common.{◌≡◌, ℕ, zero, suc, ◌+◌, ◌-◌, ◌<�
 use Rattle.std.specs.List.{slice_range}
 use Rattle.std.proofs.lemmas.List.{length-map}
 use Rattle.tbl_format.specs.Cells.{end_of, start_of}
-use Rattle.tbl_format.specs.Format.{columns_of}
+use Rattle.tbl_format.specs.Format.{columns_of_keys}
 use Rattle.tbl_format.specs.FormatRows.{AreWithin}
 use Rattle.tbl_format.specs.declared.format.FormatKey.{FormatKey}
 use Rattle.tbl_format.specs.declared.format.Key.TheVariants.{Left}
@@ -48,7 +48,7 @@ module _ (cells : List CellLeft) (columns : List Column) (x : CellLeft) (within 
   all = cells_of (keys_in cells) columns
 
   abbrev last : ℕ → ℕ
-  last n = columns_of (keys_in cells) + (n + 1 - length (keys_in cells))
+  last n = columns_of_keys (keys_in cells) + (n + 1 - length (keys_in cells))
 
   many : length cells ≤ length all
   many = omega (arith, length-cells_of (keys_in cells) columns within, length-map cells (λ (c : CellLeft). c.key))

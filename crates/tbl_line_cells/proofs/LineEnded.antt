@@ -2,7 +2,7 @@
 use Rattle.std.proofs.Common.{◌≡◌, ℕ, List, sym, ap, subst, ◌∙◌, arith}
 use Rattle.std.specs.Prelude.{vec_capacity}
 use Rattle.tbl_lines.specs.CellsLeft.{Left}
-use Rattle.tbl_line_cells.specs.LinesDrawn.{CutOn, HasRoom, IsNoRow, KeptLine, as_row, kept_line}
+use Rattle.tbl_line_cells.specs.LinesDrawn.{CutOn, LineHasRoom, IsNoRow, KeptLine, as_row, kept_line}
 use Rattle.tbl_line_cells.specs.declared.line_cells.LineCells.{LineCells}
 
 -- cells and what is cut of them change, and then cells alone
@@ -23,7 +23,7 @@ ended s t u first cells cut second more =
       cut_capacity = ap (λ (x : LineCells). vec_capacity x.cut) second ∙ cut;
     }
 
-pub room-ended : (room : ℕ) (s t : LineCells) → Ended s t → HasRoom room s → HasRoom room t
+pub room-ended : (room : ℕ) (s t : LineCells) → Ended s t → LineHasRoom room s → LineHasRoom room t
 room-ended room s t ended has = record {
   signs = omega (arith, ap (λ (x : LineCells). vec_capacity x.signs) ended.line, has.signs);
   cells = omega (arith, ended.capacity, has.cells);

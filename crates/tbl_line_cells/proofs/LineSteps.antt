@@ -1,7 +1,7 @@
 -- What laying a column leaves of a line as it was, and how much it adds.
 use Rattle.std.proofs.Common.{◌≡◌, ℕ, suc, ◌+◌, ◌≤◌, ◌<◌, sym, ap, ◌∙◌, arith}
 use Rattle.std.specs.Prelude.{vec_capacity}
-use Rattle.tbl_line_cells.specs.LinesDrawn.{HasRoom}
+use Rattle.tbl_line_cells.specs.LinesDrawn.{LineHasRoom}
 use Rattle.tbl_line_cells.specs.declared.line_cells.LineCells.{LineCells}
 use Rattle.tbl_line_cells.proofs.CellsOver.{split}
 
@@ -31,7 +31,7 @@ line-behind f s t first second =
 
 -- then there is as much room as before
 pub room-by : (room : ℕ) (s t : LineCells) → t ≡ record s { cells = t.cells; has_running = t.has_running; fronts = t.fronts }
-    → vec_capacity t.cells ≡ vec_capacity s.cells → vec_capacity t.fronts ≡ vec_capacity s.fronts → HasRoom room s → HasRoom room t
+    → vec_capacity t.cells ≡ vec_capacity s.cells → vec_capacity t.fronts ≡ vec_capacity s.fronts → LineHasRoom room s → LineHasRoom room t
 room-by room s t is cells fronts has = record {
   signs = omega (arith, ap (λ (x : LineCells). vec_capacity x.signs) is, has.signs);
   cells = omega (arith, cells, has.cells);
@@ -43,7 +43,7 @@ room-by room s t is cells fronts has = record {
   places = omega (arith, ap (λ (x : LineCells). vec_capacity x.places) is, has.places);
 }
 
-pub less-room : (count room : ℕ) (s : LineCells) → count ≤ room → HasRoom room s → HasRoom count s
+pub less-room : (count room : ℕ) (s : LineCells) → count ≤ room → LineHasRoom room s → LineHasRoom count s
 less-room count room s few has = record {
   signs = omega (arith, few, has.signs);
   cells = omega (arith, few, has.cells);

@@ -1,7 +1,7 @@
 -- What stays where cells of a line are laid, and how much room there is.
 use Rattle.std.proofs.Common.{◌≡◌, ℕ, ◌≤◌, ap, ◌∙◌, arith}
 use Rattle.std.specs.Prelude.{vec_capacity}
-use Rattle.tbl_line_cells.specs.LinesDrawn.{HasRoom, IsNoRow, KeepsRow, kept_line}
+use Rattle.tbl_line_cells.specs.LinesDrawn.{LineHasRoom, IsNoRow, KeepsRow, kept_line}
 use Rattle.tbl_line_cells.specs.declared.line_cells.LineCells.{LineCells}
 
 pub keeps-front : (old new : LineCells) → new ≡ record old { fronts = new.fronts } → vec_capacity new.fronts ≡ vec_capacity old.fronts
@@ -59,7 +59,7 @@ keeps-then old mid new first next = record {
   places = next.places ∙ first.places;
 }
 
-pub room-kept : (room : ℕ) (old new : LineCells) → KeepsRow old new → HasRoom room old → HasRoom room new
+pub room-kept : (room : ℕ) (old new : LineCells) → KeepsRow old new → LineHasRoom room old → LineHasRoom room new
 room-kept room old new keeps has = record {
   signs = omega (arith, has.signs, ap vec_capacity keeps.signs);
   cells = omega (arith, has.cells, keeps.cells);
@@ -71,7 +71,7 @@ room-kept room old new keeps has = record {
   places = omega (arith, has.places, ap vec_capacity keeps.places);
 }
 
-pub room-less : (room less : ℕ) (c : LineCells) → less ≤ room → HasRoom room c → HasRoom less c
+pub room-less : (room less : ℕ) (c : LineCells) → less ≤ room → LineHasRoom room c → LineHasRoom less c
 room-less room less c few has = record {
   signs = omega (arith, few, has.signs);
   cells = omega (arith, few, has.cells);

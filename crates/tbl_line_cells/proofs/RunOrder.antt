@@ -3,7 +3,7 @@ use Rattle.std.proofs.Common.{◌≡◌, ℕ, zero, suc, ◌+◌, ◌-◌, ◌<�
 use Rattle.std.specs.List.{AllByRecursion}
 use Rattle.std.proofs.lemmas.Bool.{eqb-true}
 use Rattle.tbl_format.specs.Cells.{AreCells}
-use Rattle.tbl_format.specs.Format.{columns_of}
+use Rattle.tbl_format.specs.Format.{columns_of_keys}
 use Rattle.tbl_format.specs.declared.format.FormatKey.{FormatKey}
 use Rattle.tbl_layout.specs.Columns.{place_of_rule, widest_entry}
 use Rattle.tbl_layout.specs.DataLines.{sign_byte}
@@ -90,18 +90,18 @@ order-row boxing count from (own ∷ next ∷ lefts) (c ∷ d ∷ columns) rise 
     (row_shown boxing (next ∷ lefts) (d ∷ columns)) rise.0 all.0
     (order-row boxing count own.key.end (next ∷ lefts) (d ∷ columns) rise.1 all.1)
 
-first-most : (own : Left) (lefts : List Left) (from : ℕ) → AreCells from (keys_left (own ∷ lefts)) → own.key.end ≤ columns_of (keys_left (own ∷ lefts))
+first-most : (own : Left) (lefts : List Left) (from : ℕ) → AreCells from (keys_left (own ∷ lefts)) → own.key.end ≤ columns_of_keys (keys_left (own ∷ lefts))
 first-most own [] from rise = omega arith
 first-most own (next ∷ lefts) from rise = omega (arith, first-most next lefts own.key.end rise.1, rise.1.0)
 
-all-within : (count from : ℕ) (lefts : List Left) → AreCells from (keys_left lefts) → columns_of (keys_left lefts) ≤ count → AllWithin count lefts
+all-within : (count from : ℕ) (lefts : List Left) → AreCells from (keys_left lefts) → columns_of_keys (keys_left lefts) ≤ count → AllWithin count lefts
 all-within count from [] rise few = tt
 all-within count from (own ∷ []) rise few = (few, tt)
 all-within count from (own ∷ next ∷ lefts) rise few =
     (omega (arith, first-most own (next ∷ lefts) from rise, few), all-within count own.key.end (next ∷ lefts) rise.1 few)
 
 pub row-order : (boxing : Boxing) (count : ℕ) (lefts : List Left) (columns : List Column) → AreCells 0 (keys_left lefts)
-    → columns_of (keys_left lefts) ≤ count → RunInOrder count 0 (row_shown boxing lefts columns)
+    → columns_of_keys (keys_left lefts) ≤ count → RunInOrder count 0 (row_shown boxing lefts columns)
 row-order boxing count lefts columns rise few = order-row boxing count 0 lefts columns rise (all-within count 0 lefts rise few)
 
 -- and along a line of rules

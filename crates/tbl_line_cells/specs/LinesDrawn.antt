@@ -54,7 +54,7 @@ kept_line c = record {
 }
 
 -- there is room for so many columns
-pub record HasRoom (room : ℕ) (c : LineCells) : Type 0 where
+pub record LineHasRoom (room : ℕ) (c : LineCells) : Type 0 where
   pub signs : room ≤ vec_capacity c.signs
   pub cells : room ≤ vec_capacity c.cells
   pub cut : room ≤ vec_capacity c.cut

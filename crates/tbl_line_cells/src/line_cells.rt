@@ -15,7 +15,7 @@ ghost use Rattle.tbl_lines.specs.RowsWalked.{AreNarrow, HasBars, IsNarrow};
 ghost use Rattle.tbl_line_cells.specs.LaidCells.{DrawsByte, EndsItself, IsDrawn, IsLaidCell};
 ghost use Rattle.tbl_line_cells.specs.LaidCells.{IsShown, drawn_in, on_line};
 ghost use Rattle.tbl_line_cells.specs.LaidCells.{place_among, row_column};
-ghost use Rattle.tbl_line_cells.specs.LinesDrawn.{CutMore, CutOn, CutSoFar, Draws, HasRoom};
+ghost use Rattle.tbl_line_cells.specs.LinesDrawn.{CutMore, CutOn, CutSoFar, Draws, LineHasRoom};
 ghost use Rattle.tbl_line_cells.specs.LinesDrawn.{IsNoRow};
 ghost use Rattle.tbl_line_cells.specs.LinesDrawn.{InFront, IsNoted, LineIsLaid, RunInOrder};
 ghost use Rattle.tbl_line_cells.specs.LinesDrawn.{SoFar, passes_room, shown_in};
@@ -58,7 +58,7 @@ impl LineCells {
     /// Room for a table of so many columns.
     pub fn new(alloc: Global, columns: usize) -> Result<Self, AllocError>
         requires { columns < 2 ^ 63 }
-        ensures { IfOk result (λ line. HasRoom columns line) }
+        ensures { IfOk result (λ line. LineHasRoom columns line) }
     {
         Ok(LineCells {
             signs: Vec::with_capacity(alloc, columns)?,
@@ -78,7 +78,7 @@ impl LineCells {
     pub fn clear_rule(&mut self)
         ensures line { self.new ≡ record self.old { signs = self.new.signs } }
         ensures none { self.new.signs.items ≡ [] }
-        ensures room { (room : ℕ) → HasRoom room self.old → HasRoom room self.new }
+        ensures room { (room : ℕ) → LineHasRoom room self.old → LineHasRoom room self.new }
     {
         self.signs.clear();
     }
@@ -93,7 +93,7 @@ impl LineCells {
         ensures fronts { self.new.fronts.items ≡ [] }
         ensures row { IsNoRow (kept_line self.new) }
         ensures nothing { (bytes : List ℕ) → SoFar bytes (kept_line self.new) [] [] }
-        ensures room { (room : ℕ) → HasRoom room self.old → HasRoom room self.new }
+        ensures room { (room : ℕ) → LineHasRoom room self.old → LineHasRoom room self.new }
     {
         self.cells.clear();
         self.has_running = false;
@@ -315,7 +315,7 @@ impl LineCells {
     /// The line as a row: each cell has one column there.
     pub fn finish(&mut self)
         requires row { IsNoRow (kept_line self.old) }
-        requires room { HasRoom (length self.old.cells.items) self.old }
+        requires room { LineHasRoom (length self.old.cells.items) self.old }
         requires few { length self.old.cells.items < 2 ^ 32 }
         ensures draws { (bytes : List ℕ) (bars : Bars) (width : ℕ) (done : List Shown)
             (fronts : List Cell) → CutSoFar bytes (kept_line self.old) done fronts
@@ -325,7 +325,7 @@ impl LineCells {
         ensures signs { self.new.signs ≡ self.old.signs }
         ensures row { kept_line self.new ≡ as_row (kept_line self.old) }
         ensures count { length self.new.entries.items ≡ length self.old.cells.items }
-        ensures room { (room : ℕ) → HasRoom room self.old → HasRoom room self.new }
+        ensures room { (room : ℕ) → LineHasRoom room self.old → LineHasRoom room self.new }
     {
         for at in 0..self.cells.len() {
             let cell = self.cells[at];

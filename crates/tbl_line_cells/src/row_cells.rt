@@ -15,7 +15,7 @@ ghost use Rattle.tbl_lines.specs.RowsLeft.{cell_of_front};
 ghost use Rattle.tbl_lines.specs.RowsWalked.{AreNarrow, HasBars, IsNarrow};
 ghost use Rattle.tbl_line_cells.specs.KeptCells.{AllLeft, AreKept, IsLeft};
 ghost use Rattle.tbl_line_cells.specs.LaidCells.{on_line};
-ghost use Rattle.tbl_line_cells.specs.LinesDrawn.{CutOn, Draws, HasRoom, KeepsRow};
+ghost use Rattle.tbl_line_cells.specs.LinesDrawn.{CutOn, Draws, LineHasRoom, KeepsRow};
 ghost use Rattle.tbl_line_cells.specs.LinesDrawn.{RowIsLaid, SoFar};
 ghost use Rattle.tbl_line_cells.specs.LinesDrawn.{kept_line};
 ghost use Rattle.tbl_line_cells.specs.LinesDrawn.{keys_in};
@@ -50,7 +50,7 @@ impl LineCells {
         requires few { length columns.now < 2 ^ 32 }
         requires wide { width < 2 ^ 32 }
         requires kept { AreKept bytes.now cells.now }
-        requires room { HasRoom (length columns.now) self.old }
+        requires room { LineHasRoom (length columns.now) self.old }
         ensures draws { (lefts : List Left) → AllLeft bytes.now cells.now lefts
             → Draws bytes.now bars width (kept_line self.new)
             (row_line (record { bars = bars; width = width; columns = columns.now }) last_bars
@@ -62,7 +62,7 @@ impl LineCells {
         ensures escapes { escapes.new.room ≡ escapes.old.room }
         ensures few { length self.new.entries.items ≤ length columns.now }
         ensures signs { self.new.signs ≡ self.old.signs }
-        ensures room { (room : ℕ) → HasRoom room self.old → HasRoom room self.new }
+        ensures room { (room : ℕ) → LineHasRoom room self.old → LineHasRoom room self.new }
     {
         self.clear();
         self.lay_all(cells, last_bars, columns, bars.boxing, width);
@@ -85,7 +85,7 @@ impl LineCells {
         requires narrow { AreNarrow columns.now }
         requires empty { self.old.cells.items ≡ [] }
         requires no_front { self.old.fronts.items ≡ [] }
-        requires room { HasRoom (length columns.now) self.old }
+        requires room { LineHasRoom (length columns.now) self.old }
         ensures so_far { (bytes : List ℕ) (bars : Bars) (lefts : List Left) → bars.boxing ≡ boxing
             → AllLeft bytes cells.now lefts → SoFar bytes (kept_line self.old) [] []
             → RowIsLaid bytes (record { bars = bars; width = width; columns = columns.now })
@@ -110,7 +110,7 @@ impl LineCells {
         requires narrow { AreNarrow columns.now }
         requires empty { self.old.cells.items ≡ [] }
         requires one { length self.old.fronts.items ≡ 1 }
-        requires room { HasRoom (length columns.now) self.old }
+        requires room { LineHasRoom (length columns.now) self.old }
         ensures narrow { IsNarrow result }
         ensures last { drop (length cells.now - 1) (cells_of (keys_in cells.now) columns.now)
             ≡ result ∷ drop (length cells.now) (cells_of (keys_of cells.now) columns.now) }

@@ -11,7 +11,7 @@ ghost use Rattle.tbl_lines.specs.LinesLeft.{bars_met, if_drawn, over_at, over_sh
 ghost use Rattle.tbl_lines.specs.LinesLeft.{overs, rule_cut, rule_line_left};
 ghost use Rattle.tbl_lines.specs.PictureLines.{Cell, RuleLine, Sheet};
 ghost use Rattle.tbl_lines.specs.RowsWalked.{AreNarrow, IsNarrow};
-ghost use Rattle.tbl_line_cells.specs.LinesDrawn.{CutOn, Draws, HasRoom, KeepsRow, SoFar};
+ghost use Rattle.tbl_line_cells.specs.LinesDrawn.{CutOn, Draws, LineHasRoom, KeepsRow, SoFar};
 ghost use Rattle.tbl_line_cells.specs.LinesDrawn.{kept_line};
 ghost use Rattle.tbl_line_cells.specs.LinesDrawn.{keys_in};
 ghost use Rattle.tbl_line_cells.specs.RulesDrawn.{Cover, HasColumn, LaidTo, RuleGiven, RuleIsGiven};
@@ -49,7 +49,7 @@ impl LineCells {
         requires counts { length counts.now ≡ length columns.now + 1 }
         requires narrow { AreNarrow columns.now }
         requires wide { width < 2 ^ 32 }
-        requires room { HasRoom (length columns.now) self.old }
+        requires room { LineHasRoom (length columns.now) self.old }
         requires given { RuleIsGiven bytes.now cells.now self.old.signs.items counts.now
             columns.now is_whole }
         ensures draws { (lefts : List Left) (bars : Bars) (line : RuleLine)
@@ -67,7 +67,7 @@ impl LineCells {
             CutOn (length columns.now) (kept_line self.new) (rule_cut s line lefts above below) }
         ensures escapes { escapes.new.room ≡ escapes.old.room }
         ensures few { length self.new.entries.items ≤ length columns.now }
-        ensures room { (room : ℕ) → HasRoom room self.old → HasRoom room self.new }
+        ensures room { (room : ℕ) → LineHasRoom room self.old → LineHasRoom room self.new }
     {
         self.clear();
         self.lay_ruled(cells, counts, columns, is_whole, width);
@@ -94,7 +94,7 @@ impl LineCells {
         requires wide { width < 2 ^ 32 }
         requires empty { self.old.cells.items ≡ [] }
         requires no_front { self.old.fronts.items ≡ [] }
-        requires room { HasRoom (length columns.now) self.old }
+        requires room { LineHasRoom (length columns.now) self.old }
         ensures laid { (bytes : List ℕ) (lefts : List Left) (bars : Bars) (line : RuleLine)
             (above below : Beside) → is_whole ≡ is_whole_line line
             → RuleGiven bytes cells.now self.old.signs.items counts.now columns.now lefts bars

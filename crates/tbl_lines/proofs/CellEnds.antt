@@ -3,7 +3,7 @@ use Rattle.std.proofs.Common.{◌≡◌, ℕ, zero, suc, ◌+◌, ◌-◌, ◌�
 use Rattle.std.proofs.lemmas.Bool.{eqb-true}
 use Rattle.std.proofs.lemmas.List.{get_or_past, length-map, map-append}
 use Rattle.tbl_format.specs.Cells.{end_of, if_ends, same_cell}
-use Rattle.tbl_format.specs.Format.{FormatRow, columns_of}
+use Rattle.tbl_format.specs.Format.{FormatRow, columns_of_keys}
 use Rattle.tbl_format.specs.declared.format.FormatKey.{FormatKey}
 use Rattle.tbl_layout.specs.Entries.{Above, Block, Command, Content, Element, Repeated, Row, Rule, Ruled, Short, Text}
 use Rattle.tbl_lines.specs.CellsLeft.{Left, all_keys, all_stopped, behind_line, cell_by, cells_from, cells_next, gone_on, goes_on, keys_behind, rest_by}
@@ -123,18 +123,18 @@ own-ends : (all front keys : List FormatKey) (cell : ℕ) → all ≡ front ++ k
 own-ends all front [] cell is at = tt
 own-ends all front (k ∷ keys) cell is at =
     let here : end_of all cell ≡ k.end =
-    ap (λ (ks : List FormatKey). get_or (map (λ k. k.end) ks) cell (columns_of all + (cell + 1 - length all))) is ∙ get-at front k keys cell _ at in (
+    ap (λ (ks : List FormatKey). get_or (map (λ k. k.end) ks) cell (columns_of_keys all + (cell + 1 - length all))) is ∙ get-at front k keys cell _ at in (
       sym here,
       own-ends all (front ++ k ∷ []) keys (suc cell) (is ∙ sym (append_assoc front (k ∷ []) keys))
           (omega (arith, at, length-append front (k ∷ []))),
     )
 
-behind-ends : (keys : List FormatKey) (count bars column cell : ℕ) → length keys ≤ cell → column ≡ columns_of keys + (cell - length keys)
+behind-ends : (keys : List FormatKey) (count bars column cell : ℕ) → length keys ≤ cell → column ≡ columns_of_keys keys + (cell - length keys)
     → EndsFrom keys cell (map (λ k. k.end) (keys_behind count bars column))
 behind-ends keys zero bars column cell past_keys is = tt
 behind-ends keys (suc count) bars column cell past_keys is =
     let ends = map (λ (k : FormatKey). k.end) keys in
-    let here : end_of keys cell ≡ columns_of keys + (cell + 1 - length keys) =
+    let here : end_of keys cell ≡ columns_of_keys keys + (cell + 1 - length keys) =
     get_or_past ends cell _ (omega (arith, past_keys, length-map keys (λ (k : FormatKey). k.end))) in
     (omega (arith, here, is, past_keys), behind-ends keys count 0 (suc column) (suc cell) (omega (arith, past_keys)) (omega (arith, is, past_keys)))
 
@@ -147,7 +147,7 @@ ends-append keys cell (end ∷ front) more n is ends further = (ends.0, ends-app
 pub all-ends : (columns : ℕ) (format : FormatRow) → EndsFrom format.keys 0 (map (λ k. k.end) (all_keys columns format))
 all-ends columns format =
     let keys = format.keys in
-    let own = columns_of keys in
+    let own = columns_of_keys keys in
     let others = keys_behind (columns - own) format.bars own in
     subst (λ (ends : List ℕ). EndsFrom keys 0 ends) (sym (map-append (λ (k : FormatKey). k.end) keys others))
     (ends-append keys 0 (map (λ (k : FormatKey). k.end) keys) (map (λ (k : FormatKey). k.end) others) (length keys)

@@ -3,7 +3,7 @@ use Rattle.std.proofs.Common.{◌≡◌, ℕ, zero, suc, ◌+◌, ◌-◌, ◌<�
 use Rattle.std.proofs.lemmas.Bool.{ltb-false, ltb-true}
 use Rattle.std.proofs.lemmas.List.{append-nil}
 use Rattle.tbl_format.specs.Cells.{AreCells, by_cells}
-use Rattle.tbl_format.specs.Format.{FormatRow, columns_of}
+use Rattle.tbl_format.specs.Format.{FormatRow, columns_of_keys}
 use Rattle.tbl_format.specs.FormatRows.{AreWithin}
 use Rattle.tbl_format.specs.declared.format.FormatKey.{FormatKey}
 use Rattle.tbl_format.specs.declared.format.Key.{Key}
@@ -53,7 +53,7 @@ pub cells-all : (columns : List Column) (format : FormatRow) → AreWithin (leng
     → cells_of (all_keys (length columns) format) columns ≡ cells_of format.keys columns
 cells-all columns format lie =
     let own = columns_of-behind format.keys in
-    let m = length columns - columns_of format.keys in
+    let m = length columns - columns_of_keys format.keys in
     ap (λ (n : ℕ). map as_one (by_cells 0 (format.keys ++ keys_behind m format.bars n) columns)) own
     ∙ ap (map as_one) (all-behind 0 format.keys m format.bars columns lie.cells (omega (arith, own, lie.short)))
 
@@ -64,13 +64,13 @@ length-behind (suc m) bars column = ap suc (length-behind m 0 (suc column))
 length-all : (columns : List Column) (format : FormatRow) → AreWithin (length columns) format.keys
     → length (cells_of (all_keys (length columns) format) columns) ≡ length (all_keys (length columns) format)
 length-all columns format lie =
-    let m = length columns - columns_of format.keys in
+    let m = length columns - columns_of_keys format.keys in
     ap length (cells-all columns format lie)
     ∙ length-cells_of format.keys columns lie
     ∙ omega (
       arith,
-      length-append format.keys (keys_behind m format.bars (columns_of format.keys)),
-      length-behind m format.bars (columns_of format.keys),
+      length-append format.keys (keys_behind m format.bars (columns_of_keys format.keys)),
+      length-behind m format.bars (columns_of_keys format.keys),
     )
 
 -- they say the same of each cell
@@ -155,12 +155,12 @@ module _ (s : Sheet) (format : FormatRow) (fields : List Content) (lie : AreWith
 
   pub full-bars : (cell : ℕ) → bars_of full cell ≡ bars_of format cell
   full-bars cell =
-      bars-by (nat_lt (columns_of format.keys) count) format.keys (count - columns_of format.keys) format.bars (columns_of format.keys) cell
-      (λ is. omega (arith, ltb-true (columns_of format.keys) count is))
-      (λ is. omega (arith, ltb-false (columns_of format.keys) count is))
+      bars-by (nat_lt (columns_of_keys format.keys) count) format.keys (count - columns_of_keys format.keys) format.bars (columns_of_keys format.keys) cell
+      (λ is. omega (arith, ltb-true (columns_of_keys format.keys) count is))
+      (λ is. omega (arith, ltb-false (columns_of_keys format.keys) count is))
 
   full-keys : (cell : ℕ) → key_at full cell ≡ key_at format cell
-  full-keys cell = key-all format.keys (count - columns_of format.keys) format.bars (columns_of format.keys) cell
+  full-keys cell = key-all format.keys (count - columns_of_keys format.keys) format.bars (columns_of_keys format.keys) cell
 
   full-cells : row_cells s full fields ≡ row_cells s format fields
   full-cells =
@@ -186,7 +186,7 @@ module _ (s : Sheet) (format : FormatRow) (fields : List Content) (lie : AreWith
         ap length (cells-all s.columns format lie),
         length-all s.columns format lie,
         length-cells_of format.keys s.columns lie,
-        ap columns_of (no-keys format.keys (keys_behind (count - columns_of format.keys) format.bars (columns_of format.keys)) is),
+        ap columns_of_keys (no-keys format.keys (keys_behind (count - columns_of_keys format.keys) format.bars (columns_of_keys format.keys)) is),
       )) where
         no-keys : (xs ys : List FormatKey) → xs ++ ys ≡ [] → xs ≡ []
         no-keys [] ys is = refl
@@ -198,7 +198,7 @@ module _ (s : Sheet) (format : FormatRow) (fields : List Content) (lie : AreWith
   pub row-alone : HaveWidth format.keys → (lines line : ℕ) → row_lines s (bars_at_end count format) lines (alone_from line 0 (all_keys count format) fields)
       ≡ lines_from line lines (row_cells s format fields)
   row-alone plain lines line =
-      by-keys (all_keys count format) (width-all format.keys (count - columns_of format.keys) format.bars (columns_of format.keys) plain) refl lines line ∙ ap (lines_from line lines) full-cells
+      by-keys (all_keys count format) (width-all format.keys (count - columns_of_keys format.keys) format.bars (columns_of_keys format.keys) plain) refl lines line ∙ ap (lines_from line lines) full-cells
 
 -- the cells of a row of which none goes on with one above, and none of the next row with one of its own
 alone-begun : (k : FormatKey) (f : Content) (height : ℕ) → begun k f height 0 ≡ alone_at 0 k f

@@ -3,7 +3,7 @@ use Rattle.std.proofs.Common.{◌≡◌, ℕ, zero, suc, ◌+◌, ◌-◌, ◌<�
 use Rattle.std.specs.Prelude.{is_some}
 use Rattle.std.proofs.lemmas.Bool.{cases_order, eq-eqb, le-ltb, lt-ltb, ltb-false, ne_eqb}
 use Rattle.tbl_format.specs.Cells.{cell_behind, cell_count, cell_from}
-use Rattle.tbl_format.specs.Format.{FormatRow, columns_of}
+use Rattle.tbl_format.specs.Format.{FormatRow, columns_of_keys}
 use Rattle.tbl_format.specs.FormatRows.{AreWithin}
 use Rattle.tbl_format.specs.declared.format.FormatKey.{FormatKey}
 use Rattle.tbl_format.proofs.CellColumns.{columns_behind, columns_of-behind}
@@ -66,7 +66,7 @@ same-behind number from (k ∷ keys) m bars column =
 
 cell_behind-all : (count : ℕ) (format : FormatRow) (column : ℕ) → cell_behind (all_keys count format) column ≡ cell_behind format.keys column
 cell_behind-all count format column =
-    let m = count - columns_of format.keys in
+    let m = count - columns_of_keys format.keys in
     ap (λ (n : ℕ). cell_behind (format.keys ++ keys_behind m format.bars n) column) (columns_of-behind format.keys)
     ∙ same-behind 0 0 format.keys m format.bars column
 
@@ -177,9 +177,9 @@ module _ (s : Sheet) (format : FormatRow) (fields : List Content) (lie : AreWith
 
   many : length keys ≡ cell_count format.keys count
   many =
-      let m = count - columns_of format.keys in
-      length-append format.keys (keys_behind m format.bars (columns_of format.keys))
-      ∙ ap (λ (n : ℕ). length format.keys + n) (length-behind m format.bars (columns_of format.keys))
+      let m = count - columns_of_keys format.keys in
+      length-append format.keys (keys_behind m format.bars (columns_of_keys format.keys))
+      ∙ ap (λ (n : ℕ). length format.keys + n) (length-behind m format.bars (columns_of_keys format.keys))
 
   has-keys : 0 < length keys
   has-keys = omega (arith, many, some-keys format.keys count some)

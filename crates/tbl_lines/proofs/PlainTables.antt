@@ -4,7 +4,7 @@ use Rattle.std.specs.Prelude.{is_some, unwrap_or}
 use Rattle.std.proofs.lemmas.Bool.{cases_eq, eq-eqb, ne_eqb}
 use Rattle.std.specs.List.{AllByRecursion}
 use Rattle.input_source.specs.Bytes.{newline}
-use Rattle.tbl_format.specs.Format.{FormatRow, columns_of}
+use Rattle.tbl_format.specs.Format.{FormatRow, columns_of_keys}
 use Rattle.tbl_format.specs.FormatRows.{AreWithin}
 use Rattle.tbl_format.specs.declared.format.FormatKey.{FormatKey}
 use Rattle.tbl_layout.specs.Entries.{Command, Content, Element, Row, Rule}
@@ -105,7 +105,7 @@ module _ (s : Sheet) where
   next-alone [] rows alone keys above heights = refl
   next-alone (Row rules format fields ∷ elements) rows alone keys above heights =
       let own = all_keys count format in
-      let width = width-all format.keys (count - columns_of format.keys) format.bars (columns_of format.keys) alone.0.plain in
+      let width = width-all format.keys (count - columns_of_keys format.keys) format.bars (columns_of_keys format.keys) alone.0.plain in
       ap (λ (cells : List Left). all_stopped count format.keys elements 0 cells)
       (cells-alone keys above heights elements format fields (above-none format fields alone.0.none keys)
       (λ cell. over-none elements (drop 1 rows) alone.1 format.keys cell 0 (drop 1 heights)) 0 own)

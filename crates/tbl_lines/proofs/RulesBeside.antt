@@ -3,7 +3,7 @@ use Rattle.std.proofs.Common.{◌≡◌, ℕ, zero, suc, Bool, true, ◌==◌, L
 use Rattle.std.specs.List.{list_all}
 use Rattle.std.specs.Prelude.{is_some}
 use Rattle.std.proofs.lemmas.Bool.{and_parts}
-use Rattle.tbl_format.specs.Format.{FormatRow, columns_of}
+use Rattle.tbl_format.specs.Format.{FormatRow, columns_of_keys}
 use Rattle.tbl_format.specs.declared.format.FormatKey.{FormatKey}
 use Rattle.tbl_format.specs.declared.format.Key.TheVariants.{Left}
 use Rattle.tbl_layout.specs.RuleKeys.{is_rule_row, rule_sign}
@@ -35,5 +35,5 @@ pub ruled-beside : (format : FormatRow) (column count : ℕ) (c d : Column) → 
     → places_mark (sign_over (OfKeys format) column) (sign_in_front (OfKeys format) (suc column)) count c d
     ≡ places_mark (sign_over (OfKeys format) column) (sign_over (OfKeys format) (suc column)) count c d
 ruled-beside format column count c d is =
-    let all = (and_parts (are_rules format.keys) (columns_of format.keys == length format.keys) is).0 in
+    let all = (and_parts (are_rules format.keys) (columns_of_keys format.keys == length format.keys) is).0 in
     beside-by (sign_over (OfKeys format) column) (sign_over (OfKeys format) (suc column)) count c d (unruled-behind format.keys column all)

@@ -1,7 +1,7 @@
 -- What is left of the cells of a table, from line to line of its picture (Lesk, "Tbl": Format).
 use Rattle.std.specs.Prelude.{ℕ, zero, suc, nat_lt, ◌+◌, ◌-◌, ◌/◌, ◌==◌, ◌&&◌, min, not, Bool, false, List, [], ◌∷◌, ◌++◌, drop, get_or, length, map, Option, None, Some, is_some, unwrap_or, if◌then◌else◌}
 use Rattle.tbl_format.specs.Cells.{end_of}
-use Rattle.tbl_format.specs.Format.{FormatRow, columns_of, plain_key}
+use Rattle.tbl_format.specs.Format.{FormatRow, columns_of_keys, plain_key}
 use Rattle.tbl_format.specs.declared.format.FormatKey.{FormatKey}
 use Rattle.tbl_format.specs.declared.format.Key.TheVariants.{Left as LeftKey}
 use Rattle.tbl_format.specs.declared.format.Standing.{Standing}
@@ -41,10 +41,10 @@ keys_behind zero bars column = []
 keys_behind (suc count) bars column = plain_key bars LeftKey column ∷ keys_behind count 0 (suc column)
 
 abbrev pub all_keys : ℕ → FormatRow → List FormatKey
-all_keys columns format = let own = columns_of format.keys in format.keys ++ keys_behind (columns - own) format.bars own
+all_keys columns format = let own = columns_of_keys format.keys in format.keys ++ keys_behind (columns - own) format.bars own
 
 abbrev pub bars_at_end : ℕ → FormatRow → ℕ
-bars_at_end columns format = if nat_lt (columns_of format.keys) columns then 0 else format.bars
+bars_at_end columns format = if nat_lt (columns_of_keys format.keys) columns then 0 else format.bars
 
 -- how many lines of the picture a cell of a row of these keys has below that, where so many lines of rules stand in front of these
 -- elements, whose rows have these heights

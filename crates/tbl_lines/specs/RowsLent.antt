@@ -2,7 +2,7 @@
 use Rattle.std.specs.Prelude.{◌≡◌, ℕ, ◌<◌, ◌≤◌, true, List, [], length, map, nat_lt, Option, None, Some, if◌then◌else◌}
 use Rattle.std.specs.List.{AllByRecursion}
 use Rattle.std.specs.Option.{MatchOption, option_map}
-use Rattle.tbl_format.specs.Format.{FormatRow, columns_of}
+use Rattle.tbl_format.specs.Format.{FormatRow, columns_of_keys}
 use Rattle.tbl_format.specs.FormatRows.{AreWithin}
 use Rattle.tbl_format.specs.RowsServed.{row_at}
 use Rattle.tbl_layout.specs.Spans.{cells_of}
@@ -56,7 +56,7 @@ pub record LiesInColumns (row : RowLent) : Type 0 where
   pub cells : AreWithin (length row.columns.now) row.keys.now
   pub narrow : AreNarrow row.columns.now
   pub few : length row.columns.now < 4294967296
-  pub plain : row.is_plain ≡ true → columns_of row.keys.now ≡ length row.keys.now
+  pub plain : row.is_plain ≡ true → columns_of_keys row.keys.now ≡ length row.keys.now
   pub fronts : MatchOption row.fronts (Unit {0}) (λ fronts. AreFronts (lent_columns row) fronts.now)
 
 abbrev pub lent_row : RowLent → WalkedRow

@@ -14,7 +14,7 @@ use Rattle.tbl_core.specs.Yields.{At, at_start}
 use Rattle.tbl_format.specs.declared.limits.TblLimits.{TblLimits}
 use Rattle.tbl_options.specs.declared.message.Message.TheVariants.{WriteFailed}
 use Rattle.tbl_run.specs.Coming.{HasCome}
-use Rattle.tbl_run.specs.Outcome.{Completes, MessagesFail, Outcome, OutputFails, PutsTables}
+use Rattle.tbl_run.specs.Outcome.{Completes, MessagesFail, TblOutcome, OutputFails, PutsTables}
 use Rattle.tbl_run.specs.Run.{State, Written, done_with, initial, step, steps}
 use Rattle.tbl_run.specs.declared.run.Counts.{Counts}
 use Rattle.tbl_run.specs.Turns.{Adds, EndsItself, ErrFails, FailsAdding, GoesOn, OutFails}
@@ -173,7 +173,7 @@ module _ {first old new : Tape → Type 0} (l : TblLimits) (line_length : ℕ) (
     outcome : (a ≡ Ends Failed → Rises start.failures behind.failures)
         → (EndsItself l line a come.written status now.out behind.out now.err behind.err ⊎ OutFails l line a come.written status now.out behind.out now.err behind.err
         ⊎ ErrFails l line a come.written status now.out behind.out now.err behind.err)
-        → Outcome l line_length whole left status start behind
+        → TblOutcome l line_length whole left status start behind
     outcome rises (inl ends) = inl (ended rises ends)
     outcome rises (inr (inl fails)) = inr (inl (out_failed fails))
     outcome rises (inr (inr fails)) = inr (inr (err_failed fails))

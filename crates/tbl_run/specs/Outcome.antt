@@ -59,8 +59,8 @@ pub record MessagesFail (l : TblLimits) (line_length : ℕ) (t left : Tape) (sta
   pub output_stays : now.out.failures ≡ before.out.failures
 
 -- a run over a tape, of which this is left, comes to one of these
-abbrev pub Outcome : TblLimits → ℕ → Tape → Tape → Status → Seen → Seen → Type 0
-Outcome l line_length t left status before now =
+abbrev pub TblOutcome : TblLimits → ℕ → Tape → Tape → Status → Seen → Seen → Type 0
+TblOutcome l line_length t left status before now =
     Completes l line_length t left status before now
     ⊎ OutputFails l line_length t left status before now
     ⊎ MessagesFail l line_length t left status before now
@@ -70,4 +70,4 @@ Outcome l line_length t left status before now =
 pub record PutsTables (l : TblLimits) (line_length : ℕ) (status : Status) (old new : Tape → Type 0) (before now : Seen) : Type 0 where
   pub taken : List Item
   pub took : Took old new taken
-  pub outcome : (left : Tape) → new left → Outcome l line_length (items_then taken left) left status before now
+  pub outcome : (left : Tape) → new left → TblOutcome l line_length (items_then taken left) left status before now

@@ -9,7 +9,7 @@ use Rattle.run_model.specs.declared.status.Status.TheVariants.{Device}
 use Rattle.input_source.specs.Tape.{Tape}
 use Rattle.tbl_format.specs.declared.limits.TblLimits.{TblLimits}
 use Rattle.tbl_core.specs.Yields.{at_start, yields}
-use Rattle.tbl_run.specs.Outcome.{Comes, Outcome}
+use Rattle.tbl_run.specs.Outcome.{Comes, TblOutcome}
 use Rattle.tbl_run.specs.Run.{State, initial, step}
 
 -- so many steps, or fewer where the run has ended before
@@ -62,4 +62,4 @@ pub record Gives (l : TblLimits) (line_length : ℕ) (t left : Tape) (status : S
 abbrev pub EachOutcomeGives : Type 0
 EachOutcomeGives =
     (l : TblLimits) (line_length : ℕ) (t left : Tape) (status : Status) (before now : Seen)
-    → Outcome l line_length t left status before now → Gives l line_length t left status before now
+    → TblOutcome l line_length t left status before now → Gives l line_length t left status before now

@@ -9,7 +9,7 @@ use Rattle.tbl_format.proofs.RowsWithin.{has_some-begun}
 use Rattle.std.specs.List.{slice_range}
 use Rattle.input_source.specs.Bytes.{newline}
 use Rattle.tbl_table.specs.Begun.{begun_in, count_of, head_begun}
-use Rattle.tbl_format.specs.Format.{Format, columns_of as row_columns, format_byte, format_read, has_some, no_format}
+use Rattle.tbl_format.specs.Format.{Format, columns_of_keys, format_byte, format_read, has_some, no_format}
 use Rattle.tbl_format.specs.FormatLaws.{IsRead, Line, NoByte}
 use Rattle.tbl_format.specs.KeyCounts.{Counts}
 use Rattle.tbl_options.specs.Options.{bracketed, options_end, options_end_from, semicolon}
@@ -26,7 +26,7 @@ counts f made = record {
   place = refl;
   is_further = refl;
   has_row = refl;
-  begun = has_some-begun f.row (row_columns f.row) (read-held f made).row.cells refl;
+  begun = has_some-begun f.row (columns_of_keys f.row) (read-held f made).row.cells refl;
   row = refl;
   bars = refl;
   columns = refl;
@@ -39,8 +39,8 @@ count_is f c is =
     ∙ ap (λ (is_further : Bool). k f.place is_further c.has_row c.row c.bars c.columns) (sym is.is_further)
     ∙ ap (λ (has_row : Bool). k f.place (has_some f.earlier) has_row c.row c.bars c.columns) (sym is.has_row)
     ∙ ap (λ (row : ℕ). k f.place (has_some f.earlier) (has_some f.rows) row c.bars c.columns) (sym is.row)
-    ∙ ap (λ (bars : ℕ). k f.place (has_some f.earlier) (has_some f.rows) (row_columns f.row) bars c.columns) (sym is.bars)
-    ∙ ap (λ (columns : ℕ). k f.place (has_some f.earlier) (has_some f.rows) (row_columns f.row) f.bars columns) (sym is.columns)
+    ∙ ap (λ (bars : ℕ). k f.place (has_some f.earlier) (has_some f.rows) (columns_of_keys f.row) bars c.columns) (sym is.bars)
+    ∙ ap (λ (columns : ℕ). k f.place (has_some f.earlier) (has_some f.rows) (columns_of_keys f.row) f.bars columns) (sym is.columns)
 
 -- behind one byte more of a line
 abbrev pub CountsOn : KeyCount → KeyCount → List ℕ → ℕ → Type 0

@@ -1,6 +1,6 @@
 -- Formats as they are read further: rows that are whole stay, and one that has ended has a row.
 use Rattle.std.proofs.Common.{◌≡◌, ℕ, zero, suc, ◌+◌, ◌<◌, ◌≤◌, max, Bool, true, false, not, List, [], ◌∷◌, ◌++◌, length, refl, sym, ap, ◌∙◌, arith, append-nil, append_assoc, length-append, nat_lt, if◌then◌else◌}
-use Rattle.tbl_format.specs.Format.{Format, FormatRow, asking_for_bars, at_fault, asked_by, columns_of, done, fault_if, format_byte, format_byte_at, format_read, has_some, is_misplaced, last_changed, looked_again, most_bars, read_behind, said_by, stepped, with_any_key, with_asked, with_columns, with_last, with_whole}
+use Rattle.tbl_format.specs.Format.{Format, FormatRow, asking_for_bars, at_fault, asked_by, columns_of_keys, done, fault_if, format_byte, format_byte_at, format_read, has_some, is_misplaced, last_changed, looked_again, most_bars, read_behind, said_by, stepped, with_any_key, with_asked, with_columns, with_last, with_whole}
 use Rattle.tbl_format.specs.FormatRows.{keys_of}
 use Rattle.tbl_format.specs.FormatSteps.{step}
 use Rattle.tbl_format.specs.declared.format.Asked.{Asked}
@@ -38,7 +38,7 @@ length-last change (key ∷ []) = refl
 length-last change (key ∷ next ∷ row) = ap (λ (n : ℕ). suc n) (length-last change (next ∷ row))
 
 asked-wide : (change : Asked → Asked) (f : Format) → HasColumns f → HasColumns (with_asked change f)
-asked-wide change f wide some = omega (arith, wide some, length-asking change (columns_of f.row) f.asked)
+asked-wide change f wide some = omega (arith, wide some, length-asking change (columns_of_keys f.row) f.asked)
 
 last-wide : (change : FormatKey → FormatKey) (f : Format) → HasColumns f → HasColumns (with_last change f)
 last-wide change f wide some = wide (omega (arith, some, length-last change f.row))
@@ -86,7 +86,7 @@ Extends-bar false f = same-rows f (at_fault f) refl refl (λ wide. wide)
 
 Extends-done : (does : Does) (f : Format) → Extends f (done does f)
 Extends-done Nothing f = same-rows f f refl refl (λ wide. wide)
-Extends-done (AddKey key) f = Extends-fault (is_misplaced key f) f (with_any_key key f) (same-rows f (with_any_key key f) refl refl (λ wide some. some-columns f.asked (columns_of f.row)))
+Extends-done (AddKey key) f = Extends-fault (is_misplaced key f) f (with_any_key key f) (same-rows f (with_any_key key f) refl refl (λ wide some. some-columns f.asked (columns_of_keys f.row)))
 Extends-done AddBar f = Extends-bar (nat_lt f.bars 2) f
 Extends-done (Separate n) f = same-rows f (done (Separate n) f) refl refl (asked-wide (asked_by (Separate n)) f)
 Extends-done (Widen n) f = same-rows f (done (Widen n) f) refl refl (asked-wide (asked_by (Widen n)) f)

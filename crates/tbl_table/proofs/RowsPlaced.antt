@@ -6,7 +6,7 @@ use Rattle.std.proofs.lemmas.Bool.{cases_lt}
 use Rattle.std.proofs.lemmas.Bool.Decides.{nat_tests}
 use Rattle.std.proofs.lemmas.List.{length-map}
 use Rattle.tbl_format.specs.Cells.{cell_behind, cell_from, start_of}
-use Rattle.tbl_format.specs.Format.{FormatRow, columns_of}
+use Rattle.tbl_format.specs.Format.{FormatRow, columns_of_keys}
 use Rattle.tbl_format.specs.FormatLaws.{RowHeld, most_beside}
 use Rattle.tbl_format.specs.FormatLaws.{bars_among}
 use Rattle.tbl_format.specs.declared.format.Asked.{Asked}
@@ -85,7 +85,7 @@ module _ (front : ℕ) (asked : List Asked) (columns : List Column) (same : bars
         elim (cases_lt (length keys) (suc column)) [
           | inl few ↦ omega (arith, few-bars keys format.bars (suc column) few)
           | inr past ↦
-              let ones : columns_of keys ≡ length keys = omega (arith, past, many, held.short, cells-few keys held.cells) in
+              let ones : columns_of_keys keys ≡ length keys = omega (arith, past, many, held.short, cells-few keys held.cells) in
               few-behind column (suc column) (start_of-ones keys (suc column) held.cells ones)
         ]
 

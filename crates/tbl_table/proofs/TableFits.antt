@@ -8,7 +8,7 @@ use Rattle.tbl_data.specs.TableData.{FormatFits}
 use Rattle.tbl_data.specs.declared.phase.Phase.{Phase}
 use Rattle.tbl_data.specs.declared.phase.Phase.TheVariants.{AtHead, Bad, InData, InFormat}
 use Rattle.tbl_data.specs.declared.table_data.TableData.{TableData}
-use Rattle.tbl_format.specs.Format.{Format, columns_of}
+use Rattle.tbl_format.specs.Format.{Format, columns_of_keys}
 use Rattle.tbl_format.specs.FormatLaws.{NoByte}
 use Rattle.tbl_format.specs.KeyCounts.{StandsOnLine}
 use Rattle.tbl_options.specs.Notes.{NotesWithin}
@@ -43,7 +43,7 @@ FewKeys-more most more len longer (Keys start count) le on few = record {
 }
 FewKeys-more most more len longer Nothing le on few = tt
 
-pub few-start : (most : ℕ) (phase : Phase) (f : Format) → columns_of f.row ≤ length f.asked → length f.asked ≤ most → StandsOnLine 0 f.place
+pub few-start : (most : ℕ) (phase : Phase) (f : Format) → columns_of_keys f.row ≤ length f.asked → length f.asked ≤ most → StandsOnLine 0 f.place
     → FewKeys most 0 (begun_in phase f [])
 few-start most AtHead f row few stands = tt
 few-start most InFormat f row few stands = record { starts = omega arith; is = record { row = row; place = stands }; few = few }

@@ -1,6 +1,6 @@
 -- What is known of a line of the options or the format before it has ended.
 use Rattle.std.specs.Prelude.{ℕ, suc, ◌-◌, ◌≤◌, false, List, length, drop, fold, Option, None, Some}
-use Rattle.tbl_format.specs.Format.{Format, columns_of, format_read, has_some, no_format}
+use Rattle.tbl_format.specs.Format.{Format, columns_of_keys, format_read, has_some, no_format}
 use Rattle.tbl_format.specs.KeyCounts.{IsCount}
 use Rattle.tbl_options.specs.Options.{bracketed, options_end}
 use Rattle.tbl_table.specs.declared.begun.Begun.{Begun}
@@ -15,7 +15,7 @@ count_of f = record {
   place = f.place;
   is_further = has_some f.earlier;
   has_row = has_some f.rows;
-  row = columns_of f.row;
+  row = columns_of_keys f.row;
   bars = f.bars;
   columns = length f.asked;
 }

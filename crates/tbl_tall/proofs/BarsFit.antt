@@ -5,7 +5,7 @@ use Rattle.std.proofs.lemmas.Bool.{cases_lt, eq-eqb, ne_eqb}
 use Rattle.std.proofs.lemmas.Bool.Decides.{nat_tests}
 use Rattle.std.proofs.lemmas.List.{length-map}
 use Rattle.tbl_format.specs.Cells.{AreCells, cell_behind, cell_from}
-use Rattle.tbl_format.specs.Format.{FormatRow, columns_of}
+use Rattle.tbl_format.specs.Format.{FormatRow, columns_of_keys}
 use Rattle.tbl_format.specs.declared.format.FormatKey.{FormatKey}
 use Rattle.tbl_format.proofs.CellColumns.{columns_behind, columns_of-behind, start_behind, start_behind-next, start_behind-none, start_of-behind, start_of-ones}
 use Rattle.tbl_format.specs.FormatRows.{AreWithin}
@@ -231,7 +231,7 @@ last-few false n = omega arith
 -- those of a row
 module _ (s : Sheet) (format : FormatRow) (cells : List Left) (places : HasPlaces s.bars.front s.columns format)
     (keys : HaveKeys cells (all_keys (length s.columns) format)) (are : AreCells 0 (map (λ (c : Left). c.key) cells))
-    (many : columns_of (map (λ (c : Left). c.key) cells) ≡ length s.columns) (within : AreWithin (length s.columns) format.keys) where
+    (many : columns_of_keys (map (λ (c : Left). c.key) cells) ≡ length s.columns) (within : AreWithin (length s.columns) format.keys) where
   abbrev boxing : Boxing
   boxing = s.bars.boxing
 
@@ -243,7 +243,7 @@ module _ (s : Sheet) (format : FormatRow) (cells : List Left) (places : HasPlace
 
   bars-few : (i : ℕ) → get_or (map (λ (c : Left). c.key.bars) cells) i 0 ≤ bars_of format i
   bars-few i =
-      let own = columns_of format.keys in
+      let own = columns_of_keys format.keys in
       omega (arith, ap (λ (bs : List ℕ). get_or bs i 0) keys.bars, all-bars format.keys format.bars (length s.columns - own) own i)
 
   ends-are : (xs : List Left) → map (λ (k : FormatKey). k.end) (map (λ (c : Left). c.key) xs) ≡ map (λ (c : Left). c.key.end) xs
@@ -252,15 +252,15 @@ module _ (s : Sheet) (format : FormatRow) (cells : List Left) (places : HasPlace
 
   found-same : (column : ℕ) → cell_behind own_keys column ≡ cell_behind format.keys column
   found-same column =
-      let own = columns_of format.keys in
+      let own = columns_of_keys format.keys in
       ends-same own_keys (all_keys (length s.columns) format) 0 0 column (ends-are cells ∙ keys.ends)
       ∙ all-same format.keys 0 0 own format.bars (length s.columns - own) column (sym (columns_of-behind format.keys))
 
-  last-has : (t : Bool) (column : ℕ) → nat_lt (columns_of format.keys) (length s.columns) ≡ t → suc column ≡ length s.columns
+  last-has : (t : Bool) (column : ℕ) → nat_lt (columns_of_keys format.keys) (length s.columns) ≡ t → suc column ≡ length s.columns
       → (if t then 0 else format.bars) ≤ bars_behind s.columns column
   last-has true column less all = omega arith
   last-has false column less all =
-      let more : length s.columns ≤ columns_of format.keys = grind (arith, nat_tests, less) in
+      let more : length s.columns ≤ columns_of_keys format.keys = grind (arith, nat_tests, less) in
       let start : start_behind 0 format.keys (length format.keys) ≡ suc column
       = omega (arith, starts-last 0 format.keys (length format.keys) (omega arith), columns_of-behind format.keys, more, all, within.short) in
       let found = cell_behind-found format.keys (length format.keys) (suc column) within.cells (start_of-behind format.keys (length format.keys)
@@ -318,7 +318,7 @@ module _ (s : Sheet) (format : FormatRow) (cells : List Left) (places : HasPlace
             (omega (
               arith,
               front-edge boxing last cells n end,
-              edge-few true boxing last (bars_behind s.columns column) (last-has (nat_lt (columns_of format.keys)
+              edge-few true boxing last (bars_behind s.columns column) (last-has (nat_lt (columns_of_keys format.keys)
                   (length s.columns)) column refl edge),
             ))
       ]

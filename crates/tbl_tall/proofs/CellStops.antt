@@ -6,7 +6,7 @@ use Rattle.std.proofs.lemmas.Bool.{le-ltb, lt-ltb}
 use Rattle.std.specs.Prelude.{if◌then◌else◌, nat_lt}
 use Rattle.tbl_format.proofs.CellColumns.{columns_behind, columns_of-behind, end_behind, end_of-behind, start_behind, start_behind-next, start_behind-none}
 use Rattle.tbl_format.specs.Cells.{AreCells, end_of, start_of}
-use Rattle.tbl_format.specs.Format.{FormatRow, columns_of}
+use Rattle.tbl_format.specs.Format.{FormatRow, columns_of_keys}
 use Rattle.tbl_format.specs.FormatRows.{AreWithin}
 use Rattle.tbl_format.specs.declared.format.FormatKey.{FormatKey}
 use Rattle.tbl_layout.specs.Entries.{Content, field_at, is_entry}
@@ -29,7 +29,7 @@ append-end count bars from (k ∷ keys) (suc cell) = append-end count bars k.end
 
 pub all-end : (columns : ℕ) (format : FormatRow) (cell : ℕ) → end_behind 0 (all_keys columns format) cell ≡ end_of format.keys cell
 all-end columns format cell =
-    let own = columns_of format.keys in
+    let own = columns_of_keys format.keys in
     ap (λ (n : ℕ). end_behind 0 (format.keys ++ keys_behind (columns - own) format.bars n) cell) (columns_of-behind format.keys)
     ∙ append-end (columns - own) format.bars 0 format.keys cell ∙ sym (end_of-behind format.keys cell)
 

@@ -3,7 +3,7 @@ use Rattle.std.proofs.Common.{◌≡◌, ℕ, zero, suc, ◌+◌, ◌-◌, ◌<�
 use Rattle.std.specs.List.{AllByRecursion}
 use Rattle.std.specs.Prelude.{Option, None, Some, unwrap_or}
 use Rattle.tbl_format.specs.Cells.{cell_count, same_cell}
-use Rattle.tbl_format.specs.Format.{FormatRow, columns_of}
+use Rattle.tbl_format.specs.Format.{FormatRow, columns_of_keys}
 use Rattle.tbl_format.specs.FormatRows.{AreWithin}
 use Rattle.tbl_format.specs.RowsServed.{row_at}
 use Rattle.tbl_format.specs.declared.format.FormatKey.{FormatKey}
@@ -161,7 +161,7 @@ keys-behind-many (suc count) bars column = ap suc (keys-behind-many count 0 (suc
 
 pub keys-many : (columns : ℕ) (format : FormatRow) → length (all_keys columns format) ≡ cell_count format.keys columns
 keys-many columns format =
-    let own = columns_of format.keys in
+    let own = columns_of_keys format.keys in
     length-append format.keys (keys_behind (columns - own) format.bars own)
     ∙ ap (λ (n : ℕ). length format.keys + n) (keys-behind-many (columns - own) format.bars own)
 
@@ -188,7 +188,7 @@ letter-there (j ∷ keys) (suc cell) k rest is = letter-there keys cell k rest i
 pub letter-at : (columns : ℕ) (format : FormatRow) (cell : ℕ) (k : FormatKey) → drop cell (all_keys columns format) ≡ k ∷ drop (suc cell) (all_keys columns format)
     → k.key ≡ key_at format cell
 letter-at columns format cell k is =
-    let own = columns_of format.keys in
+    let own = columns_of_keys format.keys in
     sym (letter-there (all_keys columns format) cell k (drop (suc cell) (all_keys columns format)) is)
     ∙ letters-append format.keys (keys_behind (columns - own) format.bars own) cell (λ n. letters-behind (columns - own) format.bars own n)
 

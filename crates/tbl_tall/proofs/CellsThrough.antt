@@ -5,7 +5,7 @@ use Rattle.std.specs.List.{AllByRecursion}
 use Rattle.std.proofs.lemmas.Bool.{eq-eqb, ne_eqb}
 use Rattle.std.proofs.lemmas.List.{length-replicate, map-append}
 use Rattle.tbl_format.specs.Cells.{AreCells}
-use Rattle.tbl_format.specs.Format.{columns_of}
+use Rattle.tbl_format.specs.Format.{columns_of_keys}
 use Rattle.tbl_format.specs.declared.format.FormatKey.{FormatKey}
 use Rattle.tbl_format.proofs.CellColumns.{columns_behind, columns_of-behind}
 use Rattle.tbl_layout.specs.declared.columns.Column.{Column}
@@ -146,7 +146,7 @@ module _ (bytes : List ℕ) where
       ∙ ap f (ap (λ (k : FormatKey). k.end) all.0.key)
 
   pub through-kept : (cells : List CellLeft) (lefts : List Left) (columns : List Column) → AllLeft bytes cells lefts
-      → AreCells 0 (keys_in cells) → length columns ≡ columns_of (keys_in cells) → GoThrough (owners 0 0 cells) (overs 0 lefts columns)
+      → AreCells 0 (keys_in cells) → length columns ≡ columns_of_keys (keys_in cells) → GoThrough (owners 0 0 cells) (overs 0 lefts columns)
   through-kept cells lefts columns all are many =
       let same : 0 + length columns ≡ columns_behind 0 (keys_in cells) = omega (arith, many, columns_of-behind (keys_in cells)) in
       record {

@@ -4,7 +4,7 @@ use Rattle.std.proofs.lemmas.Bool.Decides.{nat_tests}
 use Rattle.std.specs.List.{AllByRecursion, list_any}
 use Rattle.tbl_format.proofs.CellColumns.{columns_behind, columns_of-behind}
 use Rattle.tbl_format.specs.Cells.{AreCells}
-use Rattle.tbl_format.specs.Format.{columns_of}
+use Rattle.tbl_format.specs.Format.{columns_of_keys}
 use Rattle.tbl_lines.specs.CellsLeft.{Left}
 use Rattle.tbl_lines.specs.CutEntries.{all_with_cut}
 use Rattle.tbl_line_cells.specs.KeptCells.{AllLeft, IsLeft}
@@ -103,7 +103,7 @@ marked-from columns line cut from (l ∷ lefts) on cells few =
     (marked-from columns line cut l.key.end lefts on cells.1 few.1)
 
 pub marked-cut : (columns : ℕ) (line : KeptLine) (cut lefts : List Left) → CutOn columns line cut → AreCells 0 (map (λ (l : Left). l.key) lefts)
-    → columns_of (map (λ (l : Left). l.key) lefts) ≡ columns → map (marked line.cut) lefts ≡ all_with_cut cut lefts
+    → columns_of_keys (map (λ (l : Left). l.key) lefts) ≡ columns → map (marked line.cut) lefts ≡ all_with_cut cut lefts
 marked-cut columns line cut lefts on cells all =
     let keys = map (λ (l : Left). l.key) lefts in
     marked-from columns line cut 0 lefts on cells

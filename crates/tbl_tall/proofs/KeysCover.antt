@@ -2,14 +2,14 @@
 use Rattle.std.proofs.Common.{◌≡◌, ℕ, zero, suc, ◌+◌, ◌-◌, ◌<◌, ◌≤◌, List, [], ◌∷◌, ◌++◌, length, map, get_or, refl, sym, ap, subst, ◌∙◌, arith}
 use Rattle.tbl_format.proofs.CellColumns.{columns_behind, columns_of-behind}
 use Rattle.tbl_format.specs.Cells.{AreCells}
-use Rattle.tbl_format.specs.Format.{FormatRow, columns_of}
+use Rattle.tbl_format.specs.Format.{FormatRow, columns_of_keys}
 use Rattle.tbl_format.specs.FormatRows.{AreWithin}
 use Rattle.tbl_format.specs.declared.format.FormatKey.{FormatKey}
 use Rattle.tbl_lines.specs.CellsLeft.{Left, all_keys, keys_behind}
-use Rattle.tbl_tall.specs.Bands.{HasRoom}
+use Rattle.tbl_tall.specs.Bands.{BandHasRoom}
 use Rattle.tbl_line_cells.specs.LinesDrawn.{keys_in}
 use Rattle.tbl_line_cells.specs.KeptCells.{AllLeft}
-use Rattle.tbl_line_cells.specs.LinesDrawn.{HasRoom as LineHasRoom}
+use Rattle.tbl_line_cells.specs.LinesDrawn.{LineHasRoom}
 use Rattle.tbl_tall.specs.RowsNext.{HasKeys}
 use Rattle.tbl_tall.specs.TallRows.{HaveKeys}
 use Rattle.tbl_tall.specs.declared.band.Band.{Band}
@@ -40,13 +40,13 @@ columns-behind (suc count) bars column =
 -- those of all cells of a row cover the columns
 pub all-cells : (columns : ℕ) (format : FormatRow) → AreWithin columns format.keys → AreCells 0 (all_keys columns format)
 all-cells columns format within =
-    let own = columns_of format.keys in
+    let own = columns_of_keys format.keys in
     cells-append 0 format.keys (keys_behind (columns - own) format.bars own) within.cells
     (subst (λ (n : ℕ). AreCells n (keys_behind (columns - own) format.bars own)) (columns_of-behind format.keys) (cells-behind (columns - own) format.bars own))
 
-pub all-columns : (columns : ℕ) (format : FormatRow) → AreWithin columns format.keys → columns_of (all_keys columns format) ≡ columns
+pub all-columns : (columns : ℕ) (format : FormatRow) → AreWithin columns format.keys → columns_of_keys (all_keys columns format) ≡ columns
 all-columns columns format within =
-    let own = columns_of format.keys in
+    let own = columns_of_keys format.keys in
     let more = keys_behind (columns - own) format.bars own in
     let last : own + (columns - own) ≡ columns = omega (arith, within.short) in
     columns_of-behind (all_keys columns format) ∙ columns-append 0 format.keys more
@@ -68,7 +68,7 @@ has-columns from (c ∷ cells) (k ∷ keys) has = ap (λ (n : ℕ). columns_behi
 -- cells that cover so many columns
 pub record Cover (columns : ℕ) (cells : List CellLeft) : Type 0 where
   pub order : AreCells 0 (keys_in cells)
-  pub all : columns_of (keys_in cells) ≡ columns
+  pub all : columns_of_keys (keys_in cells) ≡ columns
 
 pub cover-all : (columns : ℕ) (format : FormatRow) (cells : List CellLeft) → AreWithin columns format.keys → HasKeys cells (all_keys columns format)
     → Cover columns cells
@@ -134,13 +134,13 @@ pub lefts-order : (columns : ℕ) (format : FormatRow) (lefts : List Left) → A
 lefts-order columns format lefts within have = left-cells 0 lefts (all_keys columns format) have.ends (all-cells columns format within)
 
 pub lefts-all : (columns : ℕ) (format : FormatRow) (lefts : List Left) → AreWithin columns format.keys → HaveKeys lefts (all_keys columns format)
-    → columns_of (map (λ (c : Left). c.key) lefts) ≡ columns
+    → columns_of_keys (map (λ (c : Left). c.key) lefts) ≡ columns
 lefts-all columns format lefts within have =
     columns_of-behind (map (λ (c : Left). c.key) lefts) ∙ left-columns 0 lefts (all_keys columns format) have.ends
     ∙ sym (columns_of-behind (all_keys columns format)) ∙ all-columns columns format within
 
 -- room for as many columns is room for fewer
-pub fewer-room : (b : Band) (columns most : ℕ) → columns ≤ most → HasRoom b most → HasRoom b columns
+pub fewer-room : (b : Band) (columns most : ℕ) → columns ≤ most → BandHasRoom b most → BandHasRoom b columns
 fewer-room b columns most few room = record {
   through = omega (arith, few, room.through);
   above = omega (arith, few, room.above);

@@ -5,7 +5,7 @@ use Rattle.std.proofs.lemmas.Bool.{ne_eqb}
 use Rattle.std.proofs.lemmas.List.{drop-append-le, length-map}
 use Rattle.std.specs.Prelude.{if◌then◌else◌}
 use Rattle.tbl_format.specs.Cells.{cell_count, end_of}
-use Rattle.tbl_format.specs.Format.{columns_of, plain_key}
+use Rattle.tbl_format.specs.Format.{columns_of_keys, plain_key}
 use Rattle.tbl_format.specs.declared.format.FormatKey.{FormatKey}
 use Rattle.tbl_format.specs.declared.format.Key.TheVariants.{Left as LeftKey}
 use Rattle.tbl_format.specs.declared.format.Standing.TheVariants.{Middle}
@@ -34,7 +34,7 @@ key-behind (suc at) (suc count) bars column few =
 pub key-there : (keys : List FormatKey) (bars columns at : ℕ) (key : FormatKey) → at < length keys → drop at keys ≡ key ∷ drop (suc at) keys
     → drop at (all_keys columns (record { keys = keys; bars = bars })) ≡ key ∷ drop (suc at) (all_keys columns (record { keys = keys; bars = bars }))
 key-there keys bars columns at key some is =
-    let more = keys_behind (columns - columns_of keys) bars (columns_of keys) in
+    let more = keys_behind (columns - columns_of_keys keys) bars (columns_of_keys keys) in
     drop-append-le at keys more (omega (arith, some))
     ∙ ap (λ (own : List FormatKey). own ++ more) is
     ∙ ap (λ (rest : List FormatKey). key ∷ rest) (sym (drop-append-le (suc at) keys more (omega (arith, some))))
@@ -45,14 +45,14 @@ drop-all keys more at past =
 
 pub key-past : (keys : List FormatKey) (bars columns at : ℕ) → length keys ≤ at → at < cell_count keys columns
     → drop at (all_keys columns (record { keys = keys; bars = bars }))
-    ≡ plain_key (if (at - length keys) == 0 then bars else 0) LeftKey (columns_of keys + (at - length keys))
+    ≡ plain_key (if (at - length keys) == 0 then bars else 0) LeftKey (columns_of_keys keys + (at - length keys))
     ∷ drop (suc at) (all_keys columns (record { keys = keys; bars = bars }))
 key-past keys bars columns at past few =
-    let more = keys_behind (columns - columns_of keys) bars (columns_of keys) in
+    let more = keys_behind (columns - columns_of_keys keys) bars (columns_of_keys keys) in
     let same : suc (at - length keys) ≡ suc at - length keys = omega (arith, past) in
     drop-all keys more at past
-    ∙ key-behind (at - length keys) (columns - columns_of keys) bars (columns_of keys) (omega (arith, past, few))
-    ∙ ap (λ (rest : List FormatKey). plain_key (if (at - length keys) == 0 then bars else 0) LeftKey (columns_of keys + (at - length keys)) ∷ rest)
+    ∙ key-behind (at - length keys) (columns - columns_of_keys keys) bars (columns_of_keys keys) (omega (arith, past, few))
+    ∙ ap (λ (rest : List FormatKey). plain_key (if (at - length keys) == 0 then bars else 0) LeftKey (columns_of_keys keys + (at - length keys)) ∷ rest)
     (ap (λ (n : ℕ). drop n more) same ∙ sym (drop-all keys more (suc at) (omega (arith, past))))
 
 get-past : {A : Type 0} (xs : List A) (at : ℕ) (none : A) → length xs ≤ at → get_or xs at none ≡ none
@@ -78,8 +78,8 @@ pub key-made : (keys : List FormatKey) (bars columns at first end : ℕ) → len
     ∷ drop (suc at) (all_keys columns (record { keys = keys; bars = bars }))
 key-made keys bars columns at first end past few is ends =
     let rest = drop (suc at) (all_keys columns (record { keys = keys; bars = bars })) in
-    let no_end = get-past (map (λ (k : FormatKey). k.end) keys) at (columns_of keys + (at + 1 - length keys)) (omega (arith, past, length-map keys (λ (k : FormatKey). k.end))) in
+    let no_end = get-past (map (λ (k : FormatKey). k.end) keys) at (columns_of_keys keys + (at + 1 - length keys)) (omega (arith, past, length-map keys (λ (k : FormatKey). k.end))) in
     key-past keys bars columns at past few
-    ∙ ap (λ (n : ℕ). plain_key n LeftKey (columns_of keys + (at - length keys)) ∷ rest) is
+    ∙ ap (λ (n : ℕ). plain_key n LeftKey (columns_of_keys keys + (at - length keys)) ∷ rest) is
     ∙ ap (λ (n : ℕ). record { bars = first; key = LeftKey; end = n; standing = Middle; has_no_width = false } ∷ rest)
     (omega (arith, past, ends ∙ no_end))

@@ -3,7 +3,7 @@ use Rattle.std.proofs.Common.{◌≡◌, ℕ, suc, ◌+◌, ◌-◌, List, [], �
 use Rattle.std.specs.Prelude.{Some}
 use Rattle.tbl_format.proofs.CellColumns.{columns_behind, columns_of-behind}
 use Rattle.tbl_format.specs.Cells.{AreCells, by_cells}
-use Rattle.tbl_format.specs.Format.{columns_of}
+use Rattle.tbl_format.specs.Format.{columns_of_keys}
 use Rattle.tbl_format.specs.FormatRows.{AreWithin}
 use Rattle.tbl_format.specs.declared.format.FormatKey.{FormatKey}
 use Rattle.tbl_layout.specs.KeptEntries.{all_entries}
@@ -36,7 +36,7 @@ single-within keys columns single many = record {
 }
 
 -- they have as many columns
-single-count : (keys : List FormatKey) → AreSingle 0 keys → columns_of keys ≡ length keys
+single-count : (keys : List FormatKey) → AreSingle 0 keys → columns_of_keys keys ≡ length keys
 single-count keys single = omega (arith, columns_of-behind keys, single-columns 0 keys single)
 
 single-ones : (from : ℕ) (keys : List FormatKey) (columns : List Column) → AreSingle from keys → length keys ≡ length columns
@@ -93,8 +93,8 @@ module _ (bytes : List ℕ) (bars : Bars) (width : ℕ) (line : KeptLine) (text 
       (subst (λ (cs : List Column). AreWithin (length cs) line.keys) (sym own_columns)
       (single-within line.keys line.columns draws.keys draws.as_many_keys))
 
-  pub plain-own : columns_of keys ≡ length keys
-  plain-own = subst (λ (ks : List FormatKey). columns_of ks ≡ length ks) (sym own_keys) (single-count line.keys draws.keys)
+  pub plain-own : columns_of_keys keys ≡ length keys
+  plain-own = subst (λ (ks : List FormatKey). columns_of_keys ks ≡ length ks) (sym own_keys) (single-count line.keys draws.keys)
 
   pub narrow-own : AreNarrow columns
   narrow-own = subst AreNarrow (sym own_columns) draws.narrow

@@ -3,7 +3,7 @@ use Rattle.std.proofs.Common.{◌≡◌, ℕ, zero, suc, ◌-◌, ◌<◌, Bool,
 use Rattle.std.specs.Prelude.{is_some}
 use Rattle.std.proofs.lemmas.List.{length-map}
 use Rattle.tbl_format.specs.Cells.{AreCells, cell_behind}
-use Rattle.tbl_format.specs.Format.{columns_of}
+use Rattle.tbl_format.specs.Format.{columns_of_keys}
 use Rattle.tbl_format.specs.declared.format.FormatKey.{FormatKey}
 use Rattle.tbl_format.proofs.CellColumns.{columns_of-behind}
 use Rattle.tbl_layout.specs.Widths.{edge_bars, inner_bars}
@@ -129,7 +129,7 @@ module _ (bytes : List ℕ) (boxing : Boxing) (last rules : ℕ) where
 
   -- all of it
   pub shown-all : (cells : List CellLeft) (lefts : List Left) → AllLeft bytes cells lefts → AreCells 0 (keys_in cells)
-      → ShowBars boxing (columns_of (keys_in cells)) (spread (fronts_of lefts) 0 0 (keys_in cells)) (OfRow (map (behind_rules rules) lefts) last)
+      → ShowBars boxing (columns_of_keys (keys_in cells)) (spread (fronts_of lefts) 0 0 (keys_in cells)) (OfRow (map (behind_rules rules) lefts) last)
   shown-all cells lefts all are = record {
     boundaries = omega (arith, length-spread (fronts_of lefts) 0 0 (keys_in cells) are, columns_of-behind (keys_in cells));
     shown = λ boundary few.

@@ -1,7 +1,7 @@
 -- A row that comes, as its cells and the lines of rules in front of it are kept.
 use Rattle.std.proofs.Common.{◌≡◌, ℕ, suc, ◌+◌, ◌-◌, ◌<◌, ◌≤◌, true, ◌&&◌, List, ◌∷◌, drop, length, map, sym, ap, subst, ◌∙◌, arith}
 use Rattle.std.specs.Prelude.{is_some}
-use Rattle.tbl_format.specs.Format.{FormatRow, columns_of}
+use Rattle.tbl_format.specs.Format.{FormatRow, columns_of_keys}
 use Rattle.tbl_format.specs.FormatRows.{AreWithin}
 use Rattle.tbl_format.specs.RowsServed.{row_at}
 use Rattle.tbl_format.specs.declared.format.FormatKey.{FormatKey}
@@ -35,11 +35,11 @@ pub record IsFilled (bytes : List ℕ) (formats : List FormatRow) (boxing : Boxi
       (cells_by (cell_kept bytes formats boxing.is_inside keys lefts (element_at rows.elements row.at)
       (drop (suc row.at) rows.elements)) 0 (all_keys (length rows.columns) (row_at formats row.keys))))
   pub has : HasKeys t.cells (all_keys (length rows.columns) (row_at formats row.keys))
-  pub through : (cells : List Left) (columns : List Column) → AllLeft bytes t.cells cells → length columns ≡ columns_of (keys_in t.cells)
+  pub through : (cells : List Left) (columns : List Column) → AllLeft bytes t.cells cells → length columns ≡ columns_of_keys (keys_in t.cells)
       → GoThrough t.band.through (overs 0 cells columns)
-  pub below : (cells : List Left) → AllLeft bytes t.cells cells → ShowBars boxing (columns_of (keys_in t.cells)) t.band.below
+  pub below : (cells : List Left) → AllLeft bytes t.cells cells → ShowBars boxing (columns_of_keys (keys_in t.cells)) t.band.below
       (OfRow (map (behind_rules (t.band.wholes + t.band.count)) cells) t.last)
-  pub as_many : length t.band.through ≡ columns_of (keys_in t.cells)
+  pub as_many : length t.band.through ≡ columns_of_keys (keys_in t.cells)
   pub wholes : t.band.wholes ≡ rules_in_front (boxing.is_inside && is_some row.above) rules row.rules
   pub most : t.band.wholes ≤ rules + 1
   pub first : t.band.first ≡ row.keys - row.rules
@@ -104,8 +104,8 @@ module _ (bytes : List ℕ) (formats : List FormatRow) (boxing : Boxing) (rows :
       let last : t.last ≡ bars_at_end n format = filled.last ∙ ap (λ (m : ℕ). bars_at_end m format) same in
       subst (λ (b : Boxing). ShowBars b n t.band.below (OfRow (map (behind_rules (wholes + row.rules)) cells) (bars_at_end n format))) (sym stand.boxed)
       (subst (λ (m : ℕ). ShowBars boxing m t.band.below (OfRow (map (behind_rules (wholes + row.rules)) cells) (bars_at_end n format))) (cover.all ∙ same)
-      (subst (λ (m : ℕ). ShowBars boxing (columns_of (keys_in t.cells)) t.band.below (OfRow (map (behind_rules m) cells) (bars_at_end n format))) lines
-      (subst (λ (m : ℕ). ShowBars boxing (columns_of (keys_in t.cells)) t.band.below
+      (subst (λ (m : ℕ). ShowBars boxing (columns_of_keys (keys_in t.cells)) t.band.below (OfRow (map (behind_rules m) cells) (bars_at_end n format))) lines
+      (subst (λ (m : ℕ). ShowBars boxing (columns_of_keys (keys_in t.cells)) t.band.below
       (OfRow (map (behind_rules (t.band.wholes + t.band.count)) cells) m)) last (filled.below cells kept))))
 
   shown-above : ShowBars s.bars.boxing n t.band.above up.line

@@ -2,7 +2,7 @@
 use Rattle.std.specs.List.{AllByRecursion}
 use Rattle.std.specs.Prelude.{◌≡◌, ℕ, ◌+◌, ◌-◌, ◌<◌, List, [], ◌∷◌, drop, length, take}
 use Rattle.tbl_format.specs.Cells.{AreCells}
-use Rattle.tbl_format.specs.Format.{FormatRow, columns_of}
+use Rattle.tbl_format.specs.Format.{FormatRow, columns_of_keys}
 use Rattle.tbl_layout.specs.Entries.{Command, Element, Row, Rule}
 use Rattle.tbl_lines.specs.CellsLeft.{Left}
 use Rattle.tbl_lines.specs.LinesLeft.{Over, shown_bars}
@@ -25,7 +25,7 @@ pub record ComesNext (formats : List FormatRow) (s : Sheet) (b : KeptBand) (all 
 -- the bars that a line of rules has itself: of rules over the whole picture none, and of a row of keys, each of one column, they have places
 abbrev pub HasLinePlaces : Sheet → RuleLine → Type 0
 HasLinePlaces s (Whole sign) = Unit {0}
-HasLinePlaces s (OfKeys format) = HasPlaces s.bars.front s.columns format × AreCells 0 format.keys × (columns_of format.keys ≡ length format.keys)
+HasLinePlaces s (OfKeys format) = HasPlaces s.bars.front s.columns format × AreCells 0 format.keys × (columns_of_keys format.keys ≡ length format.keys)
 
 -- of elements of a picture, the row that comes first has places for its bars, and so have the rows of rule keys in front of it
 abbrev pub NextPlaces : Sheet → List Element → Type 0

@@ -36,7 +36,7 @@ kept_band b = record {
 }
 
 -- room is reserved for as many columns
-pub record HasRoom (b : Band) (columns : ℕ) : Type 0 where
+pub record BandHasRoom (b : Band) (columns : ℕ) : Type 0 where
   pub through : columns ≤ vec_capacity b.through
   pub above : columns + 1 ≤ vec_capacity b.above
   pub below : columns + 1 ≤ vec_capacity b.below

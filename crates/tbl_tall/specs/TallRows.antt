@@ -14,9 +14,9 @@ use Rattle.tbl_lines.specs.LinesLeft.{Beside, Nothing, OfRow, overs, shown_bars}
 use Rattle.tbl_lines.specs.PictureLeft.{behind_keys, below_of, through_rule, through_rules}
 use Rattle.tbl_lines.specs.PictureLines.{OfKeys, RuleLine, Sheet, Whole}
 use Rattle.tbl_lines.specs.RulePlaces.{HavePlaces, bars_behind}
-use Rattle.tbl_tall.specs.Bands.{BandStands, HasRoom as BandHasRoom, KeptBand, ShowBars, kept_band, keys_left, wholes_left}
+use Rattle.tbl_tall.specs.Bands.{BandStands, BandHasRoom, KeptBand, ShowBars, kept_band, keys_left, wholes_left}
 use Rattle.tbl_line_cells.specs.KeptCells.{AllLeft}
-use Rattle.tbl_line_cells.specs.LinesDrawn.{KeptLine, HasRoom, kept_line}
+use Rattle.tbl_line_cells.specs.LinesDrawn.{KeptLine, LineHasRoom, kept_line}
 use Rattle.tbl_line_cells.specs.declared.cells.CellLeft.{CellLeft}
 use Rattle.tbl_tall.specs.declared.tall_row.TallRow.TheInside.{Inside}
 
@@ -194,6 +194,6 @@ pub record IsSound (a : Inside) : Type 0 where
   pub cells : a.room ≤ vec_capacity a.cells
   pub above : a.room ≤ vec_capacity a.above
   pub band : BandHasRoom a.band a.room
-  pub line : HasRoom a.room a.line
+  pub line : LineHasRoom a.room a.line
   pub come : AllByRecursion (λ (c : CellLeft). c.rows ≤ a.come) a.cells.items
   pub come_above : AllByRecursion (λ (c : CellLeft). c.rows < a.come) a.above.items

@@ -5,7 +5,7 @@ ghost use Rattle.std.specs.List.{AllByRecursion};
 ghost use Rattle.std.specs.Prelude.{◌≡◌, ℕ, ◌+◌, ◌-◌, ◌<◌, ◌≤◌, ◌^◌, List, length, get_or};
 ghost use Rattle.std.specs.Prelude.{IfOk, None, false, map, nat_lt, true};
 ghost use Rattle.tbl_format.specs.Cells.{AreCells};
-ghost use Rattle.tbl_format.specs.Format.{columns_of};
+ghost use Rattle.tbl_format.specs.Format.{columns_of_keys};
 ghost use Rattle.tbl_format.specs.RowsServed.{all_rows};
 ghost use Rattle.tbl_layout.specs.declared.bars.Bars.{Bars};
 ghost use Rattle.tbl_layout.specs.declared.columns.Column.{Column};
@@ -52,7 +52,7 @@ pub struct Band {
 
 impl Band {
     ghost use Rattle.tbl_tall.specs.Bands.{AlikeLines, AlikeOvers, BandFits, BandStands};
-    ghost use Rattle.tbl_tall.specs.Bands.{GoThrough, HasRoom, ShowBars, band_line, is_cut};
+    ghost use Rattle.tbl_tall.specs.Bands.{GoThrough, BandHasRoom, ShowBars, band_line, is_cut};
     ghost use Rattle.tbl_tall.specs.Bands.{kept_band, line_given, lines_behind};
     ghost use Rattle.tbl_line_cells.specs.LinesDrawn.{keys_in};
     ghost use Rattle.tbl_tall.specs.Bands.{rest_shown, wholes_left};
@@ -60,7 +60,7 @@ impl Band {
     /// Room for a table of so many columns.
     pub fn new(alloc: Global, columns: usize) -> Result<Self, AllocError>
         requires { columns < 2 ^ 32 }
-        ensures { IfOk result (λ b. HasRoom b columns) }
+        ensures { IfOk result (λ b. BandHasRoom b columns) }
     {
         Ok(Band {
             wholes: 0,
@@ -91,11 +91,11 @@ impl Band {
     /// Nothing stands above them, in a table of so many columns.
     pub fn begin_nothing(&mut self, columns: usize)
         requires small { columns < 2 ^ 32 }
-        requires room { HasRoom self.old columns }
+        requires room { BandHasRoom self.old columns }
         ensures above { (boxing : Boxing) → ShowBars boxing columns self.new.above.items Nothing }
         ensures rest { kept_band self.new
             ≡ record (kept_band self.old) { above = self.new.above.items } }
-        ensures room { (many : ℕ) → HasRoom self.old many → HasRoom self.new many }
+        ensures room { (many : ℕ) → BandHasRoom self.old many → BandHasRoom self.new many }
     {
         self.above.clear();
         push_nothing(&mut self.above, columns + 1);
@@ -105,14 +105,14 @@ impl Band {
     pub fn begin(&mut self, cells: &[CellLeft], last_bars: u8, boxing: Boxing)
         requires cells { AreCells 0 (keys_in cells.now) }
         requires some { 0 < length cells.now }
-        requires small { columns_of (keys_in cells.now) < 2 ^ 32 }
-        requires room { HasRoom self.old (columns_of (keys_in cells.now)) }
+        requires small { columns_of_keys (keys_in cells.now) < 2 ^ 32 }
+        requires room { BandHasRoom self.old (columns_of_keys (keys_in cells.now)) }
         ensures above { (bytes : List ℕ) (lefts : List Left) → AllLeft bytes cells.now lefts
-            → ShowBars boxing (columns_of (keys_in cells.now)) self.new.above.items
+            → ShowBars boxing (columns_of_keys (keys_in cells.now)) self.new.above.items
             (OfRow lefts last_bars) }
         ensures rest { kept_band self.new
             ≡ record (kept_band self.old) { above = self.new.above.items } }
-        ensures room { (many : ℕ) → HasRoom self.old many → HasRoom self.new many }
+        ensures room { (many : ℕ) → BandHasRoom self.old many → BandHasRoom self.new many }
     {
         self.above.clear();
         push_shown(&mut self.above, cells, last_bars, boxing, 0);
@@ -121,7 +121,7 @@ impl Band {
     /// The line that stands below them stands above those that come.
     pub fn turn(&mut self)
         ensures above { self.new.above.items ≡ self.old.below.items }
-        ensures room { (many : ℕ) → HasRoom self.old many → HasRoom self.new many }
+        ensures room { (many : ℕ) → BandHasRoom self.old many → BandHasRoom self.new many }
     {
         std::mem::swap(&mut self.above, &mut self.below);
     }
@@ -135,7 +135,7 @@ impl Band {
           count = count;
           at = 0;
         } }
-        ensures room { (many : ℕ) → HasRoom self.old many → HasRoom self.new many }
+        ensures room { (many : ℕ) → BandHasRoom self.old many → BandHasRoom self.new many }
     {
         self.wholes = wholes;
         self.first = first;
@@ -146,7 +146,7 @@ impl Band {
     /// No row stands below them.
     pub fn end_nothing(&mut self, columns: usize)
         requires small { columns < 2 ^ 32 }
-        requires room { HasRoom self.old columns }
+        requires room { BandHasRoom self.old columns }
         ensures below { (boxing : Boxing) → ShowBars boxing columns self.new.below.items Nothing }
         ensures through { (cells : List Left) (all : List Column)
             → AllByRecursion (λ (l : Left). goes_on l ≡ false) cells
@@ -156,7 +156,7 @@ impl Band {
           through = self.new.through.items;
           below = self.new.below.items;
         } }
-        ensures room { (many : ℕ) → HasRoom self.old many → HasRoom self.new many }
+        ensures room { (many : ℕ) → BandHasRoom self.old many → BandHasRoom self.new many }
     {
         self.below.clear();
         push_nothing(&mut self.below, columns + 1);
@@ -168,21 +168,21 @@ impl Band {
     pub fn end(&mut self, cells: &[CellLeft], last_bars: u8, boxing: Boxing)
         requires cells { AreCells 0 (keys_in cells.now) }
         requires some { 0 < length cells.now }
-        requires small { columns_of (keys_in cells.now) < 2 ^ 32 }
-        requires room { HasRoom self.old (columns_of (keys_in cells.now)) }
+        requires small { columns_of_keys (keys_in cells.now) < 2 ^ 32 }
+        requires room { BandHasRoom self.old (columns_of_keys (keys_in cells.now)) }
         requires lines { self.old.wholes + self.old.count < 2 ^ 62 }
         ensures below { (bytes : List ℕ) (lefts : List Left) → AllLeft bytes cells.now lefts
-            → ShowBars boxing (columns_of (keys_in cells.now)) self.new.below.items
+            → ShowBars boxing (columns_of_keys (keys_in cells.now)) self.new.below.items
             (OfRow (map (behind_rules (self.old.wholes + self.old.count)) lefts) last_bars) }
         ensures through { (bytes : List ℕ) (lefts : List Left) (columns : List Column)
-            → AllLeft bytes cells.now lefts → length columns ≡ columns_of (keys_in cells.now)
+            → AllLeft bytes cells.now lefts → length columns ≡ columns_of_keys (keys_in cells.now)
             → GoThrough self.new.through.items (overs 0 lefts columns) }
-        ensures columns { length self.new.through.items ≡ columns_of (keys_in cells.now) }
+        ensures columns { length self.new.through.items ≡ columns_of_keys (keys_in cells.now) }
         ensures rest { kept_band self.new ≡ record (kept_band self.old) {
           through = self.new.through.items;
           below = self.new.below.items;
         } }
-        ensures room { (many : ℕ) → HasRoom self.old many → HasRoom self.new many }
+        ensures room { (many : ℕ) → BandHasRoom self.old many → BandHasRoom self.new many }
     {
         let rules = (self.wholes + self.count) as u128;
         self.below.clear();

@@ -2,7 +2,7 @@
 
 ghost use Rattle.std.specs.Prelude.{◌≡◌, ℕ, ◌+◌, ◌≤◌, length, List, map};
 ghost use Rattle.tbl_format.specs.Cells.{AreCells};
-ghost use Rattle.tbl_format.specs.Format.{FormatRow, columns_of};
+ghost use Rattle.tbl_format.specs.Format.{FormatRow, columns_of_keys};
 ghost use Rattle.tbl_format.specs.FormatRows.{AreWithin};
 ghost use Rattle.tbl_layout.specs.Entries.{Element};
 ghost use Rattle.tbl_lines.specs.CellsLeft.{Left, all_keys, bars_at_end};
@@ -38,7 +38,7 @@ pub fn row_fits()
         → HasPlaces s.bars.front s.columns format
         → HaveKeys cells (all_keys (length s.columns) format)
         → AreCells 0 (map (λ (c : Left). c.key) cells)
-        → columns_of (map (λ (c : Left). c.key) cells) ≡ length s.columns
+        → columns_of_keys (map (λ (c : Left). c.key) cells) ≡ length s.columns
         → AreWithin (length s.columns) format.keys
         → BarsFit s (OfRow cells (bars_at_end (length s.columns) format)) }
 {}

@@ -2,7 +2,7 @@
 
 ghost use Rattle.std.specs.Prelude.{◌≡◌, ℕ, suc, List, ◌∷◌, drop, length};
 ghost use Rattle.tbl_format.specs.Cells.{AreCells};
-ghost use Rattle.tbl_format.specs.Format.{columns_of};
+ghost use Rattle.tbl_format.specs.Format.{columns_of_keys};
 ghost use Rattle.tbl_format.specs.declared.format.FormatKey.{FormatKey};
 ghost use Rattle.tbl_layout.specs.LayoutLaws.{StandInOrder};
 ghost use Rattle.tbl_layout.specs.declared.columns.Column.{Column};
@@ -24,6 +24,6 @@ pub fn bars_fit()
 
 /// Cells of a row with so many columns have all of them.
 pub fn cells_cover()
-    ensures { (count : ℕ) (keys : List FormatKey) → AreCells 0 keys → columns_of keys ≡ count
+    ensures { (count : ℕ) (keys : List FormatKey) → AreCells 0 keys → columns_of_keys keys ≡ count
         → Cover 0 count keys }
 {}

@@ -3,7 +3,7 @@
 ghost use Rattle.std.specs.Prelude.{◌≡◌, ℕ, ◌+◌, ◌<◌, ◌≤◌, ◌^◌, ◌++◌, List, [], length, map};
 ghost use Rattle.std.specs.Prelude.{None, Some, nat_lt, replicate, vec_capacity};
 ghost use Rattle.tbl_format.specs.Cells.{AreCells};
-ghost use Rattle.tbl_format.specs.Format.{columns_of};
+ghost use Rattle.tbl_format.specs.Format.{columns_of_keys};
 ghost use Rattle.tbl_layout.specs.Widths.{edge_bars};
 ghost use Rattle.tbl_lines.specs.CellsLeft.{Left};
 ghost use Rattle.tbl_lines.specs.LinesLeft.{OfRow, bars_in_front};
@@ -43,8 +43,8 @@ pub fn push_owner(through: &mut Vec<Option<usize>>, owner: Option<usize>, count:
 pub fn push_through(through: &mut Vec<Option<usize>>, cells: &[CellLeft])
     requires none { through.old.items ≡ [] }
     requires cells { AreCells 0 (keys_in cells.now) }
-    requires small { columns_of (keys_in cells.now) < 2 ^ 32 }
-    requires room { columns_of (keys_in cells.now) ≤ vec_capacity through.old }
+    requires small { columns_of_keys (keys_in cells.now) < 2 ^ 32 }
+    requires room { columns_of_keys (keys_in cells.now) ≤ vec_capacity through.old }
     ensures items { through.new.items ≡ owners 0 0 cells.now }
     ensures capacity { vec_capacity through.new ≡ vec_capacity through.old }
 {
@@ -75,10 +75,10 @@ pub fn push_shown(
     requires none { shown.old.items ≡ [] }
     requires cells { AreCells 0 (keys_in cells.now) }
     requires some { 0 < length cells.now }
-    requires small { columns_of (keys_in cells.now) < 2 ^ 32 }
-    requires room { columns_of (keys_in cells.now) + 1 ≤ vec_capacity shown.old }
+    requires small { columns_of_keys (keys_in cells.now) < 2 ^ 32 }
+    requires room { columns_of_keys (keys_in cells.now) + 1 ≤ vec_capacity shown.old }
     ensures shown { (bytes : List ℕ) (lefts : List Left) → AllLeft bytes cells.now lefts
-        → ShowBars boxing (columns_of (keys_in cells.now)) shown.new.items
+        → ShowBars boxing (columns_of_keys (keys_in cells.now)) shown.new.items
         (OfRow (map (behind_rules rules) lefts) last_bars) }
     ensures capacity { vec_capacity shown.new ≡ vec_capacity shown.old }
 {

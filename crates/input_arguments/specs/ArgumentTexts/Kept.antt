@@ -42,7 +42,7 @@ pub record Keeps (a : Arguments) (k : KeptArguments) : Type 0 where
   pub same : k.arguments ≡ only_kept a
 
 -- so many of these bytes were taken, one after another, each held as it is read where few enough arguments are whole
-pub record TakesFront (most : Option ℕ) (bytes : List ℕ) (count : ℕ) (old new : KeptArguments) : Type 0 where
+pub record HoldsFront (most : Option ℕ) (bytes : List ℕ) (count : ℕ) (old new : KeptArguments) : Type 0 where
   pub few : count ≤ length bytes
   pub plain : AllByRecursion (λ b. is_argument_byte b ≡ true) (take count bytes)
   pub fewer : HeldFewer most (take count bytes) old.arguments

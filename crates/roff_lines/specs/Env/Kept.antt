@@ -128,8 +128,8 @@ length_with g k =
     length k.line + (if k.has_line then begun_blanks k else 0) + length k.word + length (glyph_text g)
 
 -- behind a glyph
-abbrev pub with_glyph : Glyph → Kept → Kept
-with_glyph g k = record k {
+abbrev pub kept_with_glyph : Glyph → Kept → Kept
+kept_with_glyph g k = record k {
   word = k.word ++ glyph_text g;
   is_open = true;
   blanks = begun_blanks k;
@@ -166,7 +166,7 @@ length_told g k = elim k.field [ None ↦ length_with g k | Some f ↦ kept_leng
 
 -- behind that glyph
 abbrev pub with_glyph_told : Glyph → Kept → Kept
-with_glyph_told g k = elim k.field [ None ↦ with_glyph g k | Some f ↦ with_glyph_in g f k ]
+with_glyph_told g k = elim k.field [ None ↦ kept_with_glyph g k | Some f ↦ with_glyph_in g f k ]
 
 -- the length in bytes behind the end of the open field, if one is open
 abbrev pub length_ended : Kept → ℕ
@@ -188,8 +188,8 @@ with_field_ended k =
     ]
 
 -- behind a gap: no more blanks are counted than any line has room for
-abbrev pub with_gap : ℕ → Kept → Kept
-with_gap n k =
+abbrev pub kept_with_gap : ℕ → Kept → Kept
+kept_with_gap n k =
     if not k.has_glyph then record k { blanks = if k.blanks == 0 then n else k.blanks }
     else record k { blanks = if k.is_open then k.blanks else min (k.blanks + n) (2 ^ 33); place = moved n k.place }
 

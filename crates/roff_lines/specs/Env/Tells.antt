@@ -6,7 +6,7 @@ use Rattle.page_model.specs.Events.{History}
 use Rattle.page_model.specs.Fitting.{may_be_wide}
 use Rattle.page_model.specs.declared.event.Event.TheVariants.{WordEnd}
 use Rattle.page_model.specs.declared.glyph.Glyph.TheVariants.{Printed}
-use Rattle.page_model.specs.Lines.{Finished, finished, pending_length}
+use Rattle.page_model.specs.Lines.{Finished, finished_in, pending_length}
 use Rattle.page_model.specs.Telling.{bytes_told, QuietlyTold}
 use Rattle.roff_lines.specs.Env.Kept.{Kept, glyph_room, length_told, word_finishes}
 use Rattle.roff_lines.specs.Env.Stands.{Stands, StandsPlain}
@@ -19,7 +19,7 @@ pub record Tells (bytes : List ℕ) (old new : Kept) : Type 0 where
 
 -- the line that this byte of a text line finishes behind a plain history: a blank ends a word
 abbrev pub finished_plainly_by : ℕ → History → Option Finished
-finished_plainly_by b h = if b == 32 then finished h WordEnd else None
+finished_plainly_by b h = if b == 32 then finished_in h WordEnd else None
 
 -- these bytes can be told behind a plain history, one after another
 abbrev pub PlainlyTold : ℕ → List ℕ → History → Type 0

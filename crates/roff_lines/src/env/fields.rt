@@ -20,7 +20,7 @@ use roff_num::Limit;
 
 impl Env {
     ghost use Rattle.roff_lines.specs.Env.Kept.{at_tab, finished_at_tab, kept_length, kept_motion};
-    ghost use Rattle.roff_lines.specs.Env.Kept.{length_ended, length_told, length_with, with_glyph};
+    ghost use Rattle.roff_lines.specs.Env.Kept.{length_ended, length_told, length_with, kept_with_glyph};
     ghost use Rattle.roff_lines.specs.Env.Kept.{with_field_ended, with_field_left};
     ghost use Rattle.roff_lines.specs.Env.Kept.{with_field_opened, with_glyph_told};
     ghost use Rattle.roff_lines.specs.Env.Kept.{field_room, with_glyphs_told};
@@ -190,7 +190,7 @@ impl Env {
     fn open_field(&mut self, way: u32, is_centred: bool) -> Result<(), Limit>
         requires { self.old.field ≡ None }
         ensures kept { OnOk result (self.new
-            ≡ with_field_opened way is_centred (with_glyph (Blanks 0) self.old)) }
+            ≡ with_field_opened way is_centred (kept_with_glyph (Blanks 0) self.old)) }
         ensures limit { IsErr result ↔ (self.old.cap < length_with (Blanks 0) self.old) }
         ensures error { IsOkUnless result Limit.Line }
         ensures unchanged { OnErr result (self.new ≡ self.old) }

@@ -25,7 +25,7 @@ impl Env {
     ghost use Rattle.roff_lines.specs.Env.Kept.{with_word_ended, finished_by_word, word_finishes};
     ghost use Rattle.roff_lines.specs.Env.Kept.{word_fits};
     ghost use Rattle.roff_lines.specs.Env.Kept.{begun_blanks, ends_in_word, length_with};
-    ghost use Rattle.roff_lines.specs.Env.Kept.{length_told, with_gap, with_glyph};
+    ghost use Rattle.roff_lines.specs.Env.Kept.{length_told, kept_with_gap, kept_with_glyph};
     ghost use Rattle.roff_lines.specs.Env.Kept.{with_glyph_told};
     ghost use Rattle.roff_lines.specs.Env.Stands.{Stands, StandsBehind};
 
@@ -62,7 +62,7 @@ impl Env {
     fn print(&mut self, glyph: Glyph)
         requires room { length_with glyph self.old ≤ self.old.cap }
         requires no_field { self.old.field ≡ None }
-        ensures { self.new ≡ with_glyph glyph self.old }
+        ensures { self.new ≡ kept_with_glyph glyph self.old }
     {
         let before = self.ends_in_word();
         self.begin_gap();
@@ -81,7 +81,7 @@ impl Env {
     /// on the line.
     pub fn gap(&mut self, blanks: u32)
         ensures stands { StandsBehind self.old (Gap blanks) self.new }
-        ensures kept { self.new ≡ with_gap blanks self.old }
+        ensures kept { self.new ≡ kept_with_gap blanks self.old }
     {
         if !self.has_glyph {
             self.gap_before_glyphs(blanks);
@@ -98,7 +98,7 @@ impl Env {
     #[cold]
     fn gap_before_glyphs(&mut self, blanks: u32)
         requires { self.old.has_glyph ≡ false }
-        ensures { self.new ≡ with_gap blanks self.old }
+        ensures { self.new ≡ kept_with_gap blanks self.old }
     {
         if self.blanks == 0 {
             self.blanks = u64::from(blanks);

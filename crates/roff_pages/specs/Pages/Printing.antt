@@ -7,7 +7,7 @@ use Rattle.page_bytes.specs.Sinks.{Sunk, Writes, Fails}
 use Rattle.page_model.specs.Layout.{Box, Layout}
 use Rattle.page_model.specs.Happenings.{Happening}
 use Rattle.page_model.specs.Turning.{turned_if_full, with_event}
-use Rattle.page_model.specs.Springs.{springs}
+use Rattle.page_model.specs.Springs.{springs_on_page}
 use Rattle.page_model.specs.DeviceText.{device_lines, device_text}
 use Rattle.roff_pages.specs.Pages.Kept.{Kept}
 use Rattle.roff_pages.specs.Pages.Stands.{StandsAs, SameLimits}
@@ -39,7 +39,7 @@ IsUnprinted Sink old new out out_then text = IsCutOff old new out out_then text
 -- a happening was done to a layout, and springs something: the text that it writes was written
 pub record DoneTo (L : Layout) (x : Happening) (name : Option ShortName) (old new : Kept) (out out_then : Sunk) : Type 0 where
   pub stands : StandsAs (with_event x L) new
-  pub springs : name ≡ springs x L
+  pub springs : name ≡ springs_on_page x L
   pub printed : Printed old new out out_then (device_text x L)
 
 -- what became of it

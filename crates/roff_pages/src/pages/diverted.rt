@@ -14,7 +14,7 @@ ghost use Rattle.page_model.specs.declared.layout_event.LayoutEvent.TheVariants.
 ghost use Rattle.page_model.specs.Happenings.{Does, Places, Titles};
 ghost use Rattle.page_model.specs.Puts.{needed, within_stop};
 ghost use Rattle.page_model.specs.Turning.{greatest_width, in_diversion};
-ghost use Rattle.page_model.specs.Springs.{springs};
+ghost use Rattle.page_model.specs.Springs.{springs_on_page};
 ghost use Rattle.page_model.specs.Queries.{text_target, way_from};
 ghost use Rattle.roff_pages.specs.Pages.Advancing.{sprung_diverted, with_diverted};
 ghost use Rattle.roff_pages.specs.Pages.Counted.{counted};
@@ -38,7 +38,7 @@ impl Pages {
         requires { 0 < length self.old.diversions }
         ensures happens { Happens (Places (finished_of line.entry)) self.old self.new }
         ensures springs { (L : Layout) → StandsAs L self.old
-            → result ≡ springs (Places (finished_of line.entry)) L }
+            → result ≡ springs_on_page (Places (finished_of line.entry)) L }
     {
         let after = behind_text(self.way_to_trap(), line.after);
         let width = width_of_line(line);
@@ -55,7 +55,7 @@ impl Pages {
         requires some { 0 < length title.number.now }
         ensures happens { Happens (Titles (title_of title.entry)) self.old self.new }
         ensures springs { (L : Layout) → StandsAs L self.old
-            → result ≡ springs (Titles (title_of title.entry)) L }
+            → result ≡ springs_on_page (Titles (title_of title.entry)) L }
     {
         let width = width_of_title(title);
         self.put_diverted(1, width)
@@ -66,7 +66,7 @@ impl Pages {
         requires { 0 < length self.old.diversions }
         ensures happens { Happens (Does (Space lines)) self.old self.new }
         ensures springs { (L : Layout) → StandsAs L self.old
-            → result ≡ springs (Does (Space lines)) L }
+            → result ≡ springs_on_page (Does (Space lines)) L }
     {
         if self.is_spaceless() {
             return None;
@@ -80,7 +80,7 @@ impl Pages {
         requires { 0 < length self.old.diversions }
         ensures happens { Happens (Does (Need lines)) self.old self.new }
         ensures springs { (L : Layout) → StandsAs L self.old
-            → result ≡ springs (Does (Need lines)) L }
+            → result ≡ springs_on_page (Does (Need lines)) L }
     {
         let count = needed_up_to(self.way_to_trap(), lines);
         self.put_diverted(count, 0)

@@ -7,7 +7,7 @@ ghost use Rattle.page_model.specs.declared.layout_event.LayoutEvent.TheVariants.
 ghost use Rattle.page_model.specs.Happenings.{Does};
 ghost use Rattle.page_model.specs.Turning.{is_in_ranges, number_behind, one_more};
 ghost use Rattle.page_model.specs.Turning.{page_begun, turned, turned_if_full};
-ghost use Rattle.page_model.specs.Springs.{first_met, is_on_top, is_passed, springs};
+ghost use Rattle.page_model.specs.Springs.{first_met, is_on_top, is_passed, springs_on_page};
 ghost use Rattle.roff_pages.specs.Pages.Advancing.{sprung_by, way_on, with_lines};
 ghost use Rattle.roff_pages.specs.Pages.KnownStops.{name_at};
 
@@ -21,7 +21,7 @@ impl Pages {
     /// Begins the first page. The macro is sprung that is planted at a page's beginning.
     pub fn begin(&mut self) -> Option<ShortName>
         ensures happens { Happens (Does Begin) self.old self.new }
-        ensures springs { (L : Layout) → StandsAs L self.old → result ≡ springs (Does Begin) L }
+        ensures springs { (L : Layout) → StandsAs L self.old → result ≡ springs_on_page (Does Begin) L }
     {
         let sprung = self.begin_page();
         if self.is_over { None } else { sprung }

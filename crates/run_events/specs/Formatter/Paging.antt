@@ -13,7 +13,7 @@ use Rattle.roff_pages.specs.Pages.Stands.{Happens, SameLimits, StandsAs}
 use Rattle.page_model.specs.Happenings.{is_eject, is_eject_event}
 use Rattle.page_model.specs.Puts.{appended, within_stop}
 use Rattle.page_model.specs.Queries.{nl}
-use Rattle.page_model.specs.Springs.{is_on_top, springs as springs_on_page}
+use Rattle.page_model.specs.Springs.{is_on_top, springs_on_page}
 use Rattle.page_model.specs.Stops.{is_diverted, target}
 use Rattle.page_model.specs.declared.layout_event.LayoutEvent.{LayoutEvent}
 use Rattle.page_model.specs.declared.layout_event.LayoutEvent.TheVariants.{Begin}

@@ -8,7 +8,7 @@ use Rattle.page_model.specs.Happenings.{Does, is_eject_event}
 use Rattle.roff_pages.specs.Pages.Kept.{Kept}
 use Rattle.page_model.specs.Layout.{Layout}
 use Rattle.roff_pages.specs.Pages.Stands.{Happens, StandsAs}
-use Rattle.page_model.specs.Springs.{springs as springs_on_page}
+use Rattle.page_model.specs.Springs.{springs_on_page}
 use Rattle.page_model.specs.Turning.{with_trap}
 use Rattle.page_model.specs.declared.layout_event.LayoutEvent.{LayoutEvent}
 use Rattle.page_model.specs.declared.layout_event.LayoutEvent.TheVariants.{Begin, Close, Space, Need, Eject, EjectTo, EjectOn, EjectLast, Plant, Uproot, MoveTrap, RemoveTrap, DiversionTrap, NoDiversionTrap, Divert, EndDivert}

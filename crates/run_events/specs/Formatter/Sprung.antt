@@ -10,7 +10,7 @@ use Rattle.run_model.specs.Registers.{AllRegisters}
 use Rattle.run_model.specs.Run.{State, Following, followed_by}
 use Rattle.run_model.specs.PageEvents.{PageEvent}
 use Rattle.run_model.specs.declared.event.PageEvent.TheVariants.{Page}
-use Rattle.run_model.specs.Springs.{going_on as eject_going_on, may_spring}
+use Rattle.run_model.specs.Springs.{eject_going_on, may_spring}
 use Rattle.run_events.specs.declared.formatter.Formatter.{Formatter}
 use Rattle.run_events.specs.declared.halt.Halt.{Halt}
 use Rattle.run_events.specs.declared.sprung.Left.{Left}

@@ -20,12 +20,12 @@ abbrev pub is_past_cap : Capped → Bool
 is_past_cap r = nat_lt r.cap (length r.all.named)
 
 -- what asking for a change answers: a limit where more names than may would have a register behind it
-abbrev pub admitted : Change → Capped → Result (Unit {0}) Limit
-admitted change r = if is_past_cap (with_change change r) then Err Names else Ok tt
+abbrev pub change_admitted : Change → Capped → Result (Unit {0}) Limit
+change_admitted change r = if is_past_cap (with_change change r) then Err Names else Ok tt
 
 -- the registers once a change is asked for: where it isn't admitted they stay
-abbrev pub after : Change → Capped → Capped
-after change r = if is_past_cap (with_change change r) then r else with_change change r
+abbrev pub after_change : Change → Capped → Capped
+after_change change r = if is_past_cap (with_change change r) then r else with_change change r
 
 -- whether a title that is read has more bytes than it may
 abbrev pub is_title_past : Capped → Bool

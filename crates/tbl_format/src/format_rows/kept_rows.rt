@@ -12,7 +12,7 @@ use crate::key_count::KeyCount;
 use crate::part_starts::part_start;
 
 impl FormatRows {
-    ghost use Rattle.tbl_format.specs.Format.{columns_of};
+    ghost use Rattle.tbl_format.specs.Format.{columns_of_keys};
     ghost use Rattle.tbl_format.specs.FormatRows.{AreWithin};
 
     /// Where its reading stands.
@@ -109,7 +109,7 @@ impl FormatRows {
 
     /// How many columns the row begun has.
     pub(super) fn row_columns(&self) -> usize
-        ensures value { result ≡ columns_of self.now.format.row }
+        ensures value { result ≡ columns_of_keys self.now.format.row }
         ensures few { result ≤ length self.now.format.asked }
     {
         columns_of(&self.keys.as_slice()[last_end(self.ends.as_slice())..])

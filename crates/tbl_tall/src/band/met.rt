@@ -15,7 +15,7 @@ use tbl_options::options::Boxing;
 
 impl Band {
     ghost use Rattle.tbl_tall.specs.Bands.{AlikeLines, AlikeOvers, BandFits, BandStands};
-    ghost use Rattle.tbl_tall.specs.Bands.{GoThrough, HasRoom, ShowBars, band_line};
+    ghost use Rattle.tbl_tall.specs.Bands.{GoThrough, BandHasRoom, ShowBars, band_line};
     ghost use Rattle.tbl_tall.specs.Bands.{kept_band, lines_behind, passed_bars, rest_shown};
 
     /// How many bars stand at a boundary on lines that don't rule it, from one on: their own, and
@@ -45,7 +45,7 @@ impl Band {
     pub fn count(&mut self, format: &FormatRows, bars: Bars)
         requires fits { BandFits (all_rows format.now.format) (kept_band self.old) }
         requires line { self.old.at < self.old.wholes + self.old.count }
-        requires room { HasRoom self.old (length self.old.through.items) }
+        requires room { BandHasRoom self.old (length self.old.through.items) }
         ensures count { length self.new.counts.items ≡ length self.old.through.items + 1 }
         ensures met { (all : List Over) (above below : Beside) → BandStands
             (all_rows format.now.format) bars (length self.old.through.items) (kept_band self.old)
@@ -56,7 +56,7 @@ impl Band {
             (lines_behind (all_rows format.now.format) (kept_band self.old) all (self.old.at + 1)
             below) boundary }
         ensures rest { kept_band self.new ≡ kept_band self.old }
-        ensures room { (many : ℕ) → HasRoom self.old many → HasRoom self.new many }
+        ensures room { (many : ℕ) → BandHasRoom self.old many → BandHasRoom self.new many }
     {
         self.counts.clear();
         for boundary in 0..self.through.len() + 1 {
@@ -120,7 +120,7 @@ impl Band {
     pub fn pass(&mut self, format: &FormatRows, boxing: Boxing)
         requires fits { BandFits (all_rows format.now.format) (kept_band self.old) }
         requires line { self.old.at < self.old.wholes + self.old.count }
-        requires room { HasRoom self.old (length self.old.through.items) }
+        requires room { BandHasRoom self.old (length self.old.through.items) }
         ensures stands { (bars : Bars) (all other : List Over) (line : RuleLine)
             (above below : Beside) → bars.boxing ≡ boxing → BandStands (all_rows format.now.format)
             bars (length self.old.through.items) (kept_band self.old) all above below
@@ -132,7 +132,7 @@ impl Band {
           above = self.new.above.items;
           at = self.old.at + 1;
         } }
-        ensures room { (many : ℕ) → HasRoom self.old many → HasRoom self.new many }
+        ensures room { (many : ℕ) → BandHasRoom self.old many → BandHasRoom self.new many }
     {
         self.counts.clear();
         for boundary in 0..self.through.len() + 1 {

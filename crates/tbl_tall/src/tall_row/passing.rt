@@ -5,7 +5,7 @@ ghost use Rattle.std.specs.Prelude.{◌≡◌, ℕ, suc, ◌-◌, ◌<◌, ◌�
 ghost use Rattle.std.specs.Prelude.{true};
 ghost use Rattle.std.specs.Prelude.{◌+◌, [], None, get_or, vec_capacity};
 ghost use Rattle.tbl_format.specs.Cells.{AreCells};
-ghost use Rattle.tbl_format.specs.Format.{FormatRow, columns_of};
+ghost use Rattle.tbl_format.specs.Format.{FormatRow, columns_of_keys};
 ghost use Rattle.tbl_format.specs.RowsServed.{all_rows};
 ghost use Rattle.tbl_layout.specs.Entries.{Element};
 ghost use Rattle.tbl_lines.specs.CellsLeft.{Left, behind_line, bars_at_end};
@@ -14,7 +14,7 @@ ghost use Rattle.tbl_lines.specs.LinesLeft.{Over, over_at, rule_cut, rule_line_l
 ghost use Rattle.tbl_lines.specs.PictureLeft.{through_rule};
 ghost use Rattle.tbl_lines.specs.PictureLines.{RuleLine, Sheet};
 ghost use Rattle.tbl_lines.specs.RulePlaces.{HasPlaces, HavePlaces};
-ghost use Rattle.tbl_tall.specs.Bands.{BandFits, GoThrough, HasRoom as BandHasRoom, ShowBars};
+ghost use Rattle.tbl_tall.specs.Bands.{BandFits, GoThrough, BandHasRoom, ShowBars};
 ghost use Rattle.tbl_tall.specs.Bands.{kept_band, line_given};
 ghost use Rattle.tbl_line_cells.specs.LinesDrawn.{keys_in};
 ghost use Rattle.tbl_line_cells.specs.KeptCells.{AllLeft, AreKept, IsLeft};
@@ -257,12 +257,12 @@ fn keep_bars(
 )
     requires cells { AreCells 0 (keys_in cells.now) }
     requires some { 0 < length cells.now }
-    requires small { columns_of (keys_in cells.now) < 2 ^ 32 }
-    requires room { BandHasRoom band.old (columns_of (keys_in cells.now)) }
+    requires small { columns_of_keys (keys_in cells.now) < 2 ^ 32 }
+    requires room { BandHasRoom band.old (columns_of_keys (keys_in cells.now)) }
     ensures above { lines ≡ 1 → (bytes : List ℕ) (lefts : List Left) → AllLeft bytes cells.now lefts
-        → (is_first ≡ true → ShowBars boxing (columns_of (keys_in cells.now))
+        → (is_first ≡ true → ShowBars boxing (columns_of_keys (keys_in cells.now))
         band.old.below.items (OfRow lefts last_bars))
-        → ShowBars boxing (columns_of (keys_in cells.now)) band.new.above.items
+        → ShowBars boxing (columns_of_keys (keys_in cells.now)) band.new.above.items
         (OfRow lefts last_bars) }
     ensures room { (many : ℕ) → BandHasRoom band.old many → BandHasRoom band.new many }
 {

@@ -1,6 +1,6 @@
 use Rattle.std.proofs.Common.{◌≡◌, Ok, true, rules}
 use Rattle.input_source.specs.Bytes.{is_dropped}
-use Rattle.run_model.specs.Reading.{taking}
+use Rattle.run_model.specs.Reading.{byte_taking}
 use Rattle.run_model.specs.Reading.Units.{interrupted}
 use Rattle.run_model.specs.Reading.Items.{going_on}
 use Rattle.run_model.specs.declared.step.Step.TheVariants.{Nothing}
@@ -15,7 +15,7 @@ returns-then-is_dropped c =
     let u = c.args.unread.now in
     let b = c.args.byte in
     let is : true ≡ is_dropped b = search rules in
-    TakesAs-as (λ k. going_on (interrupted old.reading u.input) old.reading) (λ k. taking k old.reading u.input b) es old old u c.interrupt.new.unread (Ok Nothing)
+    TakesAs-as (λ k. going_on (interrupted old.reading u.input) old.reading) (λ k. byte_taking k old.reading u.input b) es old old u c.interrupt.new.unread (Ok Nothing)
     (λ k. taking-of k old.reading u.input b true is)
     (TakesAs-interrupted es old u c.interrupt.new.unread c.interrupt.ensures)
 

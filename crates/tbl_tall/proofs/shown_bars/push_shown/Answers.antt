@@ -1,7 +1,7 @@
 use Rattle.std.proofs.Common.{◌≡◌, ℕ, ◌+◌, ◌-◌, ◌++◌, List, [], ◌∷◌, drop, get_or, length, replicate, map, refl, sym, ap, subst, ◌∙◌, arith}
 use Rattle.std.specs.Prelude.{vec_capacity, vec_len}
 use Rattle.tbl_format.proofs.CellColumns.{columns_of-behind}
-use Rattle.tbl_format.specs.Format.{columns_of}
+use Rattle.tbl_format.specs.Format.{columns_of_keys}
 use Rattle.tbl_lines.specs.LinesLeft.{OfRow}
 use Rattle.tbl_tall.specs.Bands.{ShowBars}
 use Rattle.tbl_line_cells.specs.LinesDrawn.{keys_in}
@@ -31,7 +31,7 @@ push_reserved-requires c =
     let at = c.loop-at.at in
     let column = c.loop-at.column in
     let some = c.loop-at-test.true in
-    let all = columns_of (keys_in cells) in
+    let all = columns_of_keys (keys_in cells) in
     push-room (vec_len c.loop-at.shown) (length c.loop-at.shown.items) column (get_or cells at no_cell).key.end all (vec_capacity c.args.shown.now)
     (vec_capacity c.loop-at.shown) c.loop-at.shown.ok.0 i.many (order-here cells at some column i.order).0
     (end-few cells at some column all i.order i.columns)
@@ -44,7 +44,7 @@ push_nothing-requires c =
     let at = c.loop-at.at in
     let column = c.loop-at.column in
     let some = c.loop-at-test.true in
-    let all = columns_of (keys_in cells) in
+    let all = columns_of_keys (keys_in cells) in
     record {
       room = zeros-room c.loop-at.shown.items c.push_reserved.new.self.items c.bars_before.result column (get_or cells at no_cell).key.end all
           (vec_capacity c.args.shown.now) (vec_capacity c.loop-at.shown) (vec_capacity c.push_reserved.new.self) c.push_reserved.ensures.items i.many
@@ -74,7 +74,7 @@ loop-at-preserved c =
           (i.items bytes lefts all);
       many = many-shown xs ys v column cell.key.end pushed i.many more.0;
       order = more.1;
-      columns = columns-step cells at some column (columns_of (keys_in cells)) i.columns;
+      columns = columns-step cells at some column (columns_of_keys (keys_in cells)) i.columns;
       capacity = c.push_nothing.ensures.capacity ∙ c.push_reserved.ensures.capacity ∙ i.capacity;
     }
 
@@ -97,5 +97,5 @@ returns-clause-shown c = λ bytes lefts all.
     let items : c.push_reserved-2.new.self.items ≡ spread f 0 0 (keys_in cells)
     = c.push_reserved-2.ensures.items ∙ ap (λ (n : ℕ). xs ++ n ∷ []) c.edge_bars.ensures
     ∙ shown-last bytes boxing last c.args.rules cells lefts xs column all c.requires.some done in
-    subst (λ (zs : List ℕ). ShowBars boxing (columns_of (keys_in cells)) zs (OfRow (map (behind_rules c.args.rules) lefts) last)) (sym items)
+    subst (λ (zs : List ℕ). ShowBars boxing (columns_of_keys (keys_in cells)) zs (OfRow (map (behind_rules c.args.rules) lefts) last)) (sym items)
     (shown-all bytes boxing last c.args.rules cells lefts all c.requires.cells)

@@ -1,7 +1,7 @@
 use Rattle.std.proofs.Common.{◌≡◌, ◌++◌, List, drop, length, ℕ}
 use Rattle.std.specs.Prelude.{vec_capacity}
 use Rattle.tbl_format.specs.Cells.{AreCells}
-use Rattle.tbl_format.specs.Format.{columns_of}
+use Rattle.tbl_format.specs.Format.{columns_of_keys}
 use Rattle.tbl_format.proofs.CellColumns.{columns_behind}
 use Rattle.tbl_lines.specs.CellsLeft.{Left}
 use Rattle.tbl_line_cells.specs.LinesDrawn.{keys_in}
@@ -17,6 +17,6 @@ invariant-loop-at l = record {
       ≡ spread (fronts_of bytes l.boxing l.last_bars l.rules lefts) 0 0 (keys_in l.cells);
   many : length l.shown.items ≡ l.column;
   order : AreCells l.column (keys_in (drop l.at l.cells));
-  columns : columns_behind l.column (keys_in (drop l.at l.cells)) ≡ columns_of (keys_in l.cells);
+  columns : columns_behind l.column (keys_in (drop l.at l.cells)) ≡ columns_of_keys (keys_in l.cells);
   capacity : vec_capacity l.shown ≡ vec_capacity l.fn.shown;
 }

@@ -4,7 +4,7 @@ use Rattle.tbl_format.proofs.CellColumns.{columns_of-behind}
 use Rattle.tbl_line_cells.specs.LinesDrawn.{keys_in}
 use Rattle.tbl_tall.specs.ShownBars.{owner_of, owners}
 use Rattle.tbl_line_cells.specs.declared.cells.CellLeft.{CellLeft}
-use Rattle.tbl_format.specs.Format.{columns_of}
+use Rattle.tbl_format.specs.Format.{columns_of_keys}
 use Rattle.tbl_tall.proofs.CellsStep.{columns-step, end-few, many-step, no_cell, order-here, owners-step, room-step}
 use Rattle.tbl_tall.proofs.shown_bars.push_through.Goals as goal
 
@@ -24,7 +24,7 @@ push_owner-requires c =
     let at = c.loop-at.at in
     let column = c.loop-at.column in
     let some = c.loop-at-test.true in
-    let all = columns_of (keys_in cells) in
+    let all = columns_of_keys (keys_in cells) in
     record {
       room = room-step (length c.loop-at.through.items) column (get_or cells at no_cell).key.end all (vec_capacity c.args.through.now)
           (vec_capacity c.loop-at.through) i.many (end-few cells at some column all i.order i.columns) c.requires.room i.capacity
@@ -49,6 +49,6 @@ loop-at-preserved c =
           ∙ owners-step cells at some xs column (owners 0 0 cells) i.items;
       many = many-step xs ys (owner_of at cell) column cell.key.end pushed i.many more.0;
       order = more.1;
-      columns = columns-step cells at some column (columns_of (keys_in cells)) i.columns;
+      columns = columns-step cells at some column (columns_of_keys (keys_in cells)) i.columns;
       capacity = c.push_owner.ensures.capacity ∙ i.capacity;
     }

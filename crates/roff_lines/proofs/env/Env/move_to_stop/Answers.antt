@@ -2,7 +2,7 @@ use Rattle.std.proofs.Common.{◌≡◌, Some, false, true, refl, rules}
 use Rattle.page_model.specs.TabStops.{way_to_next}
 use Rattle.page_model.specs.declared.stop.StopKind.TheVariants.{Right, Centred}
 use Rattle.page_model.specs.declared.glyph.Glyph.TheVariants.{Blanks}
-use Rattle.roff_lines.specs.Env.Kept.{Kept, length_with, with_field_opened, with_glyph}
+use Rattle.roff_lines.specs.Env.Kept.{Kept, length_with, with_field_opened, kept_with_glyph}
 use Rattle.roff_lines.specs.Env.Stands.{StandsBehindTab}
 use Rattle.roff_lines.proofs.TabsTold.{StandsBehindTab-opened, ok_in_room}
 use Rattle.roff_lines.proofs.env.Env.move_to_stop.Goals as goal
@@ -13,7 +13,7 @@ returns-in-Right-clause-stands c =
     let new : Kept = c.open_field.new.self in
     let columns = c.in-Some.way.columns in
     let way : way_to_next old.stops old.place ≡ Some (record { columns = columns; kind = Right }) = search rules in
-    ok_in_room c.open_field.result (new ≡ with_field_opened columns false (with_glyph (Blanks 0) old)) (StandsBehindTab old new)
+    ok_in_room c.open_field.result (new ≡ with_field_opened columns false (kept_with_glyph (Blanks 0) old)) (StandsBehindTab old new)
     old.cap (length_with (Blanks 0) old) c.open_field.ensures.limit c.open_field.ensures.kept
     (λ room is. StandsBehindTab-opened old new columns Right false (λ h. refl) way is room)
 
@@ -23,6 +23,6 @@ returns-in-Centred-clause-stands c =
     let new : Kept = c.open_field-in-Centred.new.self in
     let columns = c.in-Some.way.columns in
     let way : way_to_next old.stops old.place ≡ Some (record { columns = columns; kind = Centred }) = search rules in
-    ok_in_room c.open_field-in-Centred.result (new ≡ with_field_opened columns true (with_glyph (Blanks 0) old)) (StandsBehindTab old new)
+    ok_in_room c.open_field-in-Centred.result (new ≡ with_field_opened columns true (kept_with_glyph (Blanks 0) old)) (StandsBehindTab old new)
     old.cap (length_with (Blanks 0) old) c.open_field-in-Centred.ensures.limit c.open_field-in-Centred.ensures.kept
     (λ room is. StandsBehindTab-opened old new columns Centred true (λ h. refl) way is room)

@@ -1,6 +1,6 @@
 use Rattle.std.proofs.Common.{◌≡◌, ℕ, ◌-◌, ◌<◌, false, ◌&&◌, ◌∷◌, ◌++◌, [], List, length, drop, sym, ap, subst, ◌∙◌, arith, length-append, length-drop, length-set}
 use Rattle.std.specs.List.{AllByRecursion}
-use Rattle.tbl_format.specs.Format.{Format, columns_of, has_some, is_spanned, plain_key, widened}
+use Rattle.tbl_format.specs.Format.{Format, columns_of_keys, has_some, is_spanned, plain_key, widened}
 use Rattle.tbl_format.specs.FormatRows.{AreWithin, KeptFormat}
 use Rattle.roff_num.specs.Lists.{last_end}
 use Rattle.tbl_format.specs.Parts.{EndWithin}
@@ -14,7 +14,7 @@ use Rattle.tbl_format.proofs.format_rows.FormatRows.push_cell.Goals as goal
 use Rattle.tbl_format.proofs.format_rows.FormatRows.push_cell.Goals.{else-is_spanned-via-then-is_spanned+else-columns-gt0, else-is_spanned-via-else-is_spanned}
 
 -- there is a last key, where the row begun has columns
-row-some : (keys : List FormatKey) (from columns : ℕ) → columns ≡ columns_of (drop from keys) → 0 < columns → from < length keys
+row-some : (keys : List FormatKey) (from columns : ℕ) → columns ≡ columns_of_keys (drop from keys) → 0 < columns → from < length keys
 row-some keys from columns is some = omega (arith, length-columns (drop from keys) (omega (arith, is, some)), length-drop from keys)
 
 pub widened-requires : goal.widened-requires

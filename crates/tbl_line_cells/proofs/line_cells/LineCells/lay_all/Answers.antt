@@ -2,7 +2,7 @@ use Rattle.std.proofs.Common.{ℕ, ◌≤◌, ◌+◌, ◌-◌, List, [], ◌∷
 use Rattle.std.specs.Prelude.{vec_capacity}
 use Rattle.std.proofs.lemmas.List.{length_push}
 use Rattle.tbl_format.specs.Cells.{AreCells}
-use Rattle.tbl_format.specs.Format.{columns_of}
+use Rattle.tbl_format.specs.Format.{columns_of_keys}
 use Rattle.tbl_format.specs.declared.format.FormatKey.{FormatKey}
 use Rattle.tbl_layout.specs.Spans.{cells_of}
 use Rattle.tbl_lines.specs.LinesLeft.{bars_there, between, row_shown, shown}
@@ -83,7 +83,7 @@ returns-clause-so_far c = λ bytes bars lefts boxing_is all_left so_far.
           c.lay_cells-column.ensures.last))
           (row-order boxing (length columns) lefts all
           (subst (AreCells 0) (sym (keys-left bytes cells lefts all_left)) c.requires.within.cells)
-          (subst (λ (ks : List FormatKey). columns_of ks ≤ length columns) (sym (keys-left bytes cells lefts all_left)) c.requires.within.short));
+          (subst (λ (ks : List FormatKey). columns_of_keys ks ≤ length columns) (sym (keys-left bytes cells lefts all_left)) c.requires.within.short));
       fronts_of = row-fronts-are bytes bars width columns boxing cells lefts c.args.last_bars left right no_cell boxing_is all_left c.requires.some
           c.edge_bars-left.ensures c.edge_bars-right.ensures;
     }

@@ -1,5 +1,5 @@
 use Rattle.std.proofs.Common.{List, sym, subst}
-use Rattle.tbl_format.specs.Format.{columns_of}
+use Rattle.tbl_format.specs.Format.{columns_of_keys}
 use Rattle.tbl_lines.specs.CellsLeft.{Left}
 use Rattle.tbl_lines.specs.LinesLeft.{OfRow}
 use Rattle.tbl_tall.specs.Bands.{ShowBars}
@@ -9,6 +9,6 @@ use Rattle.tbl_tall.proofs.band.Band.begin.Goals as goal
 
 pub returns-clause-above : goal.returns-clause-above
 returns-clause-above c = λ bytes lefts all.
-    subst (λ (ls : List Left). ShowBars c.args.boxing (columns_of (keys_in c.args.cells.now)) c.push_shown.new.shown.items
+    subst (λ (ls : List Left). ShowBars c.args.boxing (columns_of_keys (keys_in c.args.cells.now)) c.push_shown.new.shown.items
     (OfRow ls c.args.last_bars))
     (sym (each-behind 0 lefts)) (c.push_shown.ensures.shown bytes lefts all)

@@ -1,6 +1,6 @@
 use Rattle.std.proofs.Common.{◌≡◌, ◌+◌, ◌<◌, ◌≤◌, ℕ, true, List, length, map, refl, sym, ap, subst, ◌∙◌, arith}
 use Rattle.std.specs.List.{AllByRecursion}
-use Rattle.tbl_format.specs.Format.{columns_of}
+use Rattle.tbl_format.specs.Format.{columns_of_keys}
 use Rattle.tbl_format.specs.RowsServed.{all_rows, row_at}
 use Rattle.tbl_lines.specs.LinesLeft.{OfRow}
 use Rattle.tbl_tall.proofs.CellsNext.{all-less, row-within}
@@ -83,7 +83,7 @@ returns-clause-comes c = λ bytes s up all stand above then_come.
       has = c.fill_cells.ensures.keys;
       through = λ lefts_own columns kept many. (rw own at c.end.ensures.through) bytes lefts_own columns kept many;
       below = λ lefts_own kept.
-          subst (λ (n : ℕ). ShowBars c.args.boxing (columns_of (keys_in cells)) new.band.below (OfRow (map (behind_rules n) lefts_own) last.result)) same_lines
+          subst (λ (n : ℕ). ShowBars c.args.boxing (columns_of_keys (keys_in cells)) new.band.below (OfRow (map (behind_rules n) lefts_own) last.result)) same_lines
           ((rw own at c.end.ensures.below) bytes lefts_own kept);
       as_many = rw own at c.end.ensures.columns;
       wholes = same_wholes ∙ set_wholes ∙ c.rules_in_front-wholes.ensures.value;
@@ -128,8 +128,8 @@ end-requires-clause-room c =
     let within = row-within formats (length rows.columns) rows.elements c.args.row c.requires.at c.requires.row c.requires.lie in
     let cover = cover-all (length rows.columns) (row_at formats c.args.row.keys) c.fill_cells.new.cells.items within c.fill_cells.ensures.keys in
     let room = rw (← c.self.view_is) at c.requires.room in
-    let few : columns_of (keys_in c.fill_cells.new.cells.items) ≤ c.self.inside.room = omega (arith, cover.all, room) in
-    rw c.as_slice-2.ensures.value (fewer-room c.set_lines.new.self (columns_of (keys_in c.fill_cells.new.cells.items)) c.self.inside.room few
+    let few : columns_of_keys (keys_in c.fill_cells.new.cells.items) ≤ c.self.inside.room = omega (arith, cover.all, room) in
+    rw c.as_slice-2.ensures.value (fewer-room c.set_lines.new.self (columns_of_keys (keys_in c.fill_cells.new.cells.items)) c.self.inside.room few
     (c.set_lines.ensures.room c.self.inside.room c.self.invariant.band))
 
 pub end-requires-clause-lines : goal.end-requires-clause-lines

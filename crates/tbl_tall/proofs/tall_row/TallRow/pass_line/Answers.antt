@@ -1,7 +1,7 @@
 use Rattle.std.proofs.Common.{◌≤◌, ℕ, false, List, length, refl, sym, subst, ◌∙◌, arith}
 use Rattle.std.proofs.lemmas.List.{with_items_is}
 use Rattle.std.specs.List.{AllByRecursion}
-use Rattle.tbl_format.specs.Format.{columns_of}
+use Rattle.tbl_format.specs.Format.{columns_of_keys}
 use Rattle.tbl_lines.specs.CellsLeft.{all_keys, bars_at_end}
 use Rattle.tbl_lines.specs.LinesLeft.{OfRow}
 use Rattle.tbl_options.specs.declared.options.Boxing.{Boxing}
@@ -51,8 +51,8 @@ keep_bars-requires-clause-room c =
     let cells = c.self.inside.cells.items in
     let has = left-has c.args.bytes.now cells next.cells (all_keys n next.format) st.left st.keys.bars st.keys.ends in
     let all = (cover-all n next.format cells st.within has).all in
-    let few : columns_of (keys_in cells) ≤ c.self.inside.room = omega (arith, all, st.room) in
-    rw c.as_slice.ensures.value (fewer-room c.self.inside.band (columns_of (keys_in cells)) c.self.inside.room few c.self.invariant.band)
+    let few : columns_of_keys (keys_in cells) ≤ c.self.inside.room = omega (arith, all, st.room) in
+    rw c.as_slice.ensures.value (fewer-room c.self.inside.band (columns_of_keys (keys_in cells)) c.self.inside.room few c.self.invariant.band)
 
 pub pass_cells-requires : goal.pass_cells-requires
 pass_cells-requires c = record {
@@ -118,11 +118,11 @@ returns-clause-ended c = λ s format cells boxed places stands.
     let all = (cover-all n format a.cells.items here.within has).all in
     let kept = (rw c.as_slice.ensures.value at c.keep_bars.ensures.above) here.height bytes cells here.left in
     let shown = kept (λ is.
-    subst (λ (last : ℕ). ShowBars c.args.boxing (columns_of (keys_in a.cells.items)) a.band.below.items (OfRow cells last)) (sym here.last)
+    subst (λ (last : ℕ). ShowBars c.args.boxing (columns_of_keys (keys_in a.cells.items)) a.band.below.items (OfRow cells last)) (sym here.last)
     (subst (λ (m : ℕ). ShowBars c.args.boxing m a.band.below.items (OfRow cells (bars_at_end n format))) (sym all)
     (subst (λ (b : Boxing). ShowBars b n a.band.below.items (OfRow cells (bars_at_end n format))) boxed (here.first is)))) in
     rw written (row-ended bytes s (kept_by a) new format cells here places
     (c.pass_cells.ensures.left cells (subst (λ (cs : List CellLeft). AllLeft bytes cs cells) (sym c.as_mut_slice.ensures.value) here.left))
     (subst (λ (b : Boxing). ShowBars b n new.band.above (OfRow cells (bars_at_end n format))) (sym boxed)
     (subst (λ (m : ℕ). ShowBars c.args.boxing m new.band.above (OfRow cells (bars_at_end n format))) all
-    (subst (λ (last : ℕ). ShowBars c.args.boxing (columns_of (keys_in a.cells.items)) new.band.above (OfRow cells last)) here.last shown))))
+    (subst (λ (last : ℕ). ShowBars c.args.boxing (columns_of_keys (keys_in a.cells.items)) new.band.above (OfRow cells last)) here.last shown))))
