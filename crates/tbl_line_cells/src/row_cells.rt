@@ -113,10 +113,10 @@ impl LineCells {
         requires room { LineHasRoom (length columns.now) self.old }
         ensures narrow { IsNarrow result }
         ensures last { drop (length cells.now - 1) (cells_of (keys_in cells.now) columns.now)
-            ≡ result ∷ drop (length cells.now) (cells_of (keys_of cells.now) columns.now) }
+            ≡ result ∷ drop (length cells.now) (cells_of (keys_in cells.now) columns.now) }
         ensures so_far { (bytes : List ℕ) (lefts : List Left) (fronts : List Cell)
             → AllLeft bytes cells.now lefts → SoFar bytes (kept_line self.old) [] fronts
-            → let all = cells_of (keys_of cells.now) columns.now in
+            → let all = cells_of (keys_in cells.now) columns.now in
             SoFar bytes (kept_line self.new)
             (take (length cells.now - 1) (row_shown boxing lefts all))
             (fronts ++ between boxing lefts all) }

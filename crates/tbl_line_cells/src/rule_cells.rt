@@ -243,7 +243,7 @@ impl LineCells {
         requires within { at < length columns.now }
         requires column { HasColumn (keys_in cells.now) cell at }
         requires next { at + 1 < length columns.now
-            → HasColumn (keys_of cells.now) next (at + 1) }
+            → HasColumn (keys_in cells.now) next (at + 1) }
         requires narrow { AreNarrow columns.now }
         requires room { at + 1 < length columns.now
             → length self.old.fronts.items < vec_capacity self.old.fronts }
@@ -333,7 +333,7 @@ fn cell_behind(cells: &[CellLeft], cell: usize, at: usize) -> usize
     requires column { HasColumn (keys_in cells.now) cell at }
     requires small { at + 1 < 2 ^ 64 }
     ensures { (count : ℕ) → Cover 0 count (keys_in cells.now)
-        → at + 1 < count → HasColumn (keys_of cells.now) result (at + 1) }
+        → at + 1 < count → HasColumn (keys_in cells.now) result (at + 1) }
 {
     if at + 1 == begin_of(cells, cell + 1) {
         cell + 1
@@ -347,7 +347,7 @@ fn is_within(cells: &[CellLeft], cell: usize, at: usize) -> bool
     requires column { HasColumn (keys_in cells.now) cell at }
     ensures { (c : CellLeft) → result
         ≡ (nat_lt 0 (get_or cells.now cell c).rows
-        && nat_lt (begin_from 0 cell (keys_of cells.now)) at) }
+        && nat_lt (begin_from 0 cell (keys_in cells.now)) at) }
 {
     cells[cell].goes_on() && begin_of(cells, cell) < at
 }
