@@ -16,7 +16,7 @@ ghost use Rattle.law_lines.specs.LawWords.{StandsInColumns, until_break, full_li
 ghost use Rattle.law_lines.specs.LawWords.{paragraph_lines, lines_in, EndsAtWidth, glyphs_told};
 ghost use Rattle.law_lines.specs.LawWords.{words_told, bytes_told, text_line, IsOfText};
 ghost use Rattle.law_lines.specs.LawWords.{IsWordUnder, IsClear, diverted, title_columns, Field};
-ghost use Rattle.law_lines.specs.LawWords.{plain, told, input_place, pending_length, finished};
+ghost use Rattle.law_lines.specs.LawWords.{plain, told_plainly, input_place, pending_length, finished};
 ghost use Rattle.law_lines.specs.LawWords.{finished_lines, last_width, written_by_break};
 ghost use Rattle.law_lines.specs.LawWords.{lines_written, StandsAtStop, MovesField, TabLeads};
 ghost use Rattle.law_lines.specs.LawWords.{glyphs_width, SetsNoField, without_field_ends, stop_at};
@@ -301,7 +301,7 @@ pub fn paragraphs()
 /// field before it. A history that sets no such stop is told as it is.
 pub fn fields()
     ensures stands { (f : Field) → StandsAtStop f }
-    ensures moves { (h : History) (f : Field) → (told h).field ≡ Some f → MovesField h f }
+    ensures moves { (h : History) (f : Field) → (told_plainly h).field ≡ Some f → MovesField h f }
     ensures right { (h : History) (n : ℕ) (glyphs : List Glyph) → TabLeads h AtRight n
         → input_place (FieldEnd ∷ glyphs_told glyphs (Tab ∷ h))
         ≡ moved (max n (glyphs_width glyphs)) (input_place h) }
@@ -310,8 +310,8 @@ pub fn fields()
         ≡ moved (n - glyphs_width glyphs / 2 + glyphs_width glyphs) (input_place h) }
     ensures left { (h : History) (n : ℕ) → TabLeads h AtLeft n
         → input_place (Tab ∷ h) ≡ moved n (input_place h) }
-    ensures tab { (h : History) (f : Field) → (told h).field ≡ Some f → f.gap ≡ 0
-        → told (Tab ∷ h) ≡ told (Tab ∷ FieldEnd ∷ h) }
+    ensures tab { (h : History) (f : Field) → (told_plainly h).field ≡ Some f → f.gap ≡ 0
+        → told_plainly (Tab ∷ h) ≡ told_plainly (Tab ∷ FieldEnd ∷ h) }
     ensures lines { (h : History) → finished_lines h ≡ lines_in (plain h) }
     ensures none { (h : History) → All SetsNoField h → plain h ≡ without_field_ends h }
 {}

@@ -7,7 +7,7 @@ ghost use Rattle.run_model.specs.declared.line_state.LineState.TheVariants.{Coll
 ghost use Rattle.run_model.specs.declared.line_state.LineState.TheVariants.{Text as InText};
 ghost use Rattle.run_model.specs.declared.line_state.LineState.TheVariants.{Title as InTitle};
 ghost use Rattle.read_steps.specs.Clauses.{ComposerOf, PageUnread, TakesAs};
-ghost use Rattle.read_steps.specs.Clauses.{taking};
+ghost use Rattle.read_steps.specs.Clauses.{byte_taking};
 ghost use Rattle.read_steps.specs.Clauses.{undropped_taking};
 ghost use Rattle.input_escapes.specs.OpenEscapes.{byte_read};
 ghost use Rattle.run_model.specs.Reading.Found.{place_in, read_in};
@@ -38,7 +38,7 @@ pub fn read_on_line(
 ) -> Result<Step, Limit>
     requires line { reader.old.reading ≡ InText line }
     requires none_half { unread.old.input.escapes ≡ [] }
-    ensures { TakesAs (λ k. taking k reader.old.reading unread.old.input byte)
+    ensures { TakesAs (λ k. byte_taking k reader.old.reading unread.old.input byte)
         composer.now reader.old reader.new unread.old unread.new result }
 {
     if byte == b'\\' {

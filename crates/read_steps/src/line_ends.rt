@@ -6,7 +6,7 @@ ghost use Rattle.run_model.specs.declared.line_state.LineState.TheVariants.{Coll
 ghost use Rattle.run_model.specs.declared.purpose.Purpose.TheVariants.{Arguments, Calling};
 ghost use Rattle.run_model.specs.declared.request.Request.TheVariants.{Break};
 ghost use Rattle.read_steps.specs.Clauses.{ComposerOf, TakesAs, arguments_ended, line_ended};
-ghost use Rattle.read_steps.specs.Clauses.{taking};
+ghost use Rattle.read_steps.specs.Clauses.{byte_taking};
 ghost use Rattle.read_steps.specs.Clauses.{row_of};
 
 use read_lines::Reader;
@@ -31,7 +31,7 @@ pub fn end_request(
 ) -> Result<Step, Limit>
     requires line { reader.old.reading ≡ Collecting (Arguments breaks request) }
     requires none_half { unread.old.input.escapes ≡ [] }
-    ensures { TakesAs (λ k. taking k reader.old.reading unread.old.input newline)
+    ensures { TakesAs (λ k. byte_taking k reader.old.reading unread.old.input newline)
         composer.now reader.old reader.new unread.old unread.new result }
 {
     end_arguments(reader, breaks, request, composer, unread)
@@ -88,7 +88,7 @@ pub fn end_break(reader: &mut Reader, breaks: bool, unread: &mut Unread<PageEven
     requires line { reader.old.reading ≡ Collecting (Arguments breaks Break) }
     requires none_half { unread.old.input.escapes ≡ [] }
     ensures { (es : ComposerOf)
-        → TakesAs (λ k. taking k reader.old.reading unread.old.input newline)
+        → TakesAs (λ k. byte_taking k reader.old.reading unread.old.input newline)
         es reader.old reader.new unread.old unread.new (Ok result) }
 {
     obey_break(reader, breaks, unread)
@@ -120,7 +120,7 @@ pub fn end_call_line(
     requires line { reader.old.reading ≡ Collecting (Calling name) }
     requires none_half { unread.old.input.escapes ≡ [] }
     ensures { (es : ComposerOf)
-        → TakesAs (λ k. taking k reader.old.reading unread.old.input newline)
+        → TakesAs (λ k. byte_taking k reader.old.reading unread.old.input newline)
         es reader.old reader.new unread.old unread.new result }
 {
     reader.call_body(name, unread)

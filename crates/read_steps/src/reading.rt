@@ -5,7 +5,7 @@ ghost use Rattle.std.specs.Prelude.{true};
 ghost use Rattle.input_source.specs.Bytes.{backslash, is_dropped};
 ghost use Rattle.run_model.specs.declared.step.Step.TheVariants.{Nothing};
 ghost use Rattle.read_steps.specs.Clauses.{TakesAs};
-ghost use Rattle.read_steps.specs.Clauses.{taking};
+ghost use Rattle.read_steps.specs.Clauses.{byte_taking};
 
 use crate::bytes::{read_alone, read_undropped};
 use read_lines::Reader;
@@ -26,7 +26,7 @@ pub fn read(
     composer: &Composer,
     unread: &mut Unread<PageEvent>,
 ) -> Result<Step, Limit>
-    ensures { TakesAs (λ k. taking k reader.old.reading unread.old.input byte)
+    ensures { TakesAs (λ k. byte_taking k reader.old.reading unread.old.input byte)
         composer.now reader.old reader.new unread.old unread.new result }
 {
     if is_read_alone(byte, unread) {
@@ -43,7 +43,7 @@ pub(crate) fn read_any(
     composer: &Composer,
     unread: &mut Unread<PageEvent>,
 ) -> Result<Step, Limit>
-    ensures { TakesAs (λ k. taking k reader.old.reading unread.old.input byte)
+    ensures { TakesAs (λ k. byte_taking k reader.old.reading unread.old.input byte)
         composer.now reader.old reader.new unread.old unread.new result }
 {
     read_half(reader, byte, composer, unread)
@@ -62,7 +62,7 @@ pub fn read_half(
     composer: &Composer,
     unread: &mut Unread<PageEvent>,
 ) -> Result<Step, Limit>
-    ensures { TakesAs (λ k. taking k reader.old.reading unread.old.input byte)
+    ensures { TakesAs (λ k. byte_taking k reader.old.reading unread.old.input byte)
         composer.now reader.old reader.new unread.old unread.new result }
 {
     if is_dropped(byte) {

@@ -1,7 +1,7 @@
 //! Newlines that end control lines: each is read, and its step is performed.
 
 ghost use Rattle.std.specs.Prelude.{◌≡◌, []};
-ghost use Rattle.run_items.specs.Clauses.{DoesTaking, sinks, taking};
+ghost use Rattle.run_items.specs.Clauses.{DoesTaking, sinks, byte_taking};
 ghost use Rattle.run_model.specs.declared.line_state.LineState.TheVariants.{Collecting};
 ghost use Rattle.run_model.specs.declared.purpose.Purpose.TheVariants.{Arguments, Calling};
 ghost use Rattle.run_model.specs.declared.request.Request.TheVariants.{Break};
@@ -34,7 +34,7 @@ impl Interpreter {
     ) -> Result<Option<Sprung>, Halt>
         requires line { self.old.reader.reading ≡ Collecting (Arguments breaks request) }
         requires none_half { unread.old.input.escapes ≡ [] }
-        ensures { DoesTaking (λ k. taking k self.old.reader.reading unread.old.input newline) []
+        ensures { DoesTaking (λ k. byte_taking k self.old.reader.reading unread.old.input newline) []
             self.old self.new unread.old unread.new
             (sinks (O.sunk out.old) (told_by E.MessageSink err.old))
             (sinks (O.sunk out.new) (told_by E.MessageSink err.new)) result }
@@ -67,7 +67,7 @@ impl Interpreter {
     ) -> Result<Option<Sprung>, Halt>
         requires line { self.old.reader.reading ≡ Collecting (Arguments breaks Break) }
         requires none_half { unread.old.input.escapes ≡ [] }
-        ensures { DoesTaking (λ k. taking k self.old.reader.reading unread.old.input newline) []
+        ensures { DoesTaking (λ k. byte_taking k self.old.reader.reading unread.old.input newline) []
             self.old self.new unread.old unread.new
             (sinks (O.sunk out.old) (told_by E.MessageSink err.old))
             (sinks (O.sunk out.new) (told_by E.MessageSink err.new)) result }
@@ -92,7 +92,7 @@ impl Interpreter {
     ) -> Result<Option<Sprung>, Halt>
         requires line { self.old.reader.reading ≡ Collecting (Calling name) }
         requires none_half { unread.old.input.escapes ≡ [] }
-        ensures { DoesTaking (λ k. taking k self.old.reader.reading unread.old.input newline) []
+        ensures { DoesTaking (λ k. byte_taking k self.old.reader.reading unread.old.input newline) []
             self.old self.new unread.old unread.new
             (sinks (O.sunk out.old) (told_by E.MessageSink err.old))
             (sinks (O.sunk out.new) (told_by E.MessageSink err.new)) result }

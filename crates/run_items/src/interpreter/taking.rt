@@ -1,7 +1,7 @@
 //! A byte that was taken: it is read, and its step is performed.
 
 ghost use Rattle.std.specs.Prelude.{◌≡◌, []};
-ghost use Rattle.run_items.specs.Clauses.{DoesMeaning, DoesTaking, sinks, taking};
+ghost use Rattle.run_items.specs.Clauses.{DoesMeaning, DoesTaking, sinks, byte_taking};
 ghost use Rattle.run_model.specs.Events.Steps.{events_of, messages_of};
 ghost use Rattle.run_model.specs.declared.line_state.LineState.TheVariants.{Text as InText};
 ghost use Rattle.page_bytes.specs.Told.{told_by};
@@ -29,7 +29,7 @@ impl Interpreter {
         out: &mut O,
         err: &mut E,
     ) -> Result<Option<Sprung>, Halt>
-        ensures { DoesTaking (λ k. taking k self.old.reader.reading unread.old.input byte) []
+        ensures { DoesTaking (λ k. byte_taking k self.old.reader.reading unread.old.input byte) []
             self.old self.new unread.old unread.new
             (sinks (O.sunk out.old) (told_by E.MessageSink err.old))
             (sinks (O.sunk out.new) (told_by E.MessageSink err.new)) result }
@@ -57,7 +57,7 @@ impl Interpreter {
     ) -> Result<Option<Sprung>, Halt>
         requires line { self.old.reader.reading ≡ InText line }
         requires none_half { unread.old.input.escapes ≡ [] }
-        ensures { DoesTaking (λ k. taking k self.old.reader.reading unread.old.input byte) []
+        ensures { DoesTaking (λ k. byte_taking k self.old.reader.reading unread.old.input byte) []
             self.old self.new unread.old unread.new
             (sinks (O.sunk out.old) (told_by E.MessageSink err.old))
             (sinks (O.sunk out.new) (told_by E.MessageSink err.new)) result }
@@ -88,7 +88,7 @@ impl Interpreter {
         out: &mut O,
         err: &mut E,
     ) -> Result<Option<Sprung>, Halt>
-        ensures { DoesTaking (λ k. taking k self.old.reader.reading unread.old.input byte) []
+        ensures { DoesTaking (λ k. byte_taking k self.old.reader.reading unread.old.input byte) []
             self.old self.new unread.old unread.new
             (sinks (O.sunk out.old) (told_by E.MessageSink err.old))
             (sinks (O.sunk out.new) (told_by E.MessageSink err.new)) result }
