@@ -8,6 +8,8 @@ pub mod Chunks
 pub mod Texts
 pub mod TextCalls
 pub mod Leased
+pub mod Leases
+pub mod LeaseTable
 pub mod TextRows
 pub mod TextStore
 pub mod TextLaws
