@@ -2,8 +2,8 @@
 use Rattle.std.proofs.Common.{◌≡◌, ◌≢◌, ℕ, zero, suc, ◌+◌, ◌-◌, ◌<◌, ◌≤◌, length, refl, sym, subst, ◌⊎◌, ◌==◌, if◌then◌else◌, arith}
 use Rattle.std.proofs.lemmas.Bool.Decides.{nat_tests}
 use Rattle.roff_store.specs.declared.strand.Strand.{Strand}
+use Rattle.roff_store.specs.Pool.{ends_in}
 use Rattle.roff_store.specs.Chains.{Chunks, has, last_of, link, times_in, IsChain, IsStrand, IsText}
-use Rattle.roff_store.specs.TextStore.Strands.{ends_in}
 
 -- a chunk is one of its own
 one-same : (a : ℕ) → 0 < (if a == a then 1 else 0)

@@ -2,27 +2,27 @@
 use Rattle.std.proofs.Common.{◌≡◌, ℕ, ◌+◌, ◌-◌, ◌<◌, ◌≤◌, true, false, Bool, List, [], ◌∷◌, ◌++◌, length, map, get_or, Option, Some, None, Err, refl, sym, ap, subst, ◌∙◌, arith, Vec, Global}
 use Rattle.std.specs.Prelude.{remove, vec_len, vec_capacity, IsPermutation, option_map}
 use Rattle.std.proofs.lemmas.List.{nil_from_length}
-use Rattle.std.proofs.lemmas.List.Elements.{All-head, All-nil}
-use Rattle.std.proofs.lemmas.List.Sorted.{IsPermutation-append_right, IsPermutation-refl, IsPermutation-trans, sum_by-IsPermutation}
+use Rattle.std.proofs.lemmas.List.Elements.{All-nil}
 use Rattle.std.proofs.lemmas.List.Sums.{sum_by-append, sum_by-cons}
 use Rattle.roff_num.specs.declared.limit.Limit.TheVariants.{Names}
 use Rattle.roff_store.specs.declared.strand.Strand.{Strand}
 use Rattle.roff_store.specs.declared.text_store.Meaning.{Meaning}
 use Rattle.roff_store.specs.declared.text_store.Meaning.TheVariants.{Body as BodyIn, Request as RequestOf}
 use Rattle.roff_store.specs.declared.text_store.TextStore.TheInside.{Inside}
-use Rattle.roff_store.specs.Chains.{Chunks, bytes_of, has, others, share, shares_in, AreSameChunks, IsExtended, IsStrand, IsText}
+use Rattle.roff_store.specs.Pool.{chunks_in, Holds, IsHeld, IsLonger, rest_in, shares_by}
+use Rattle.roff_store.specs.Chains.{Chunks, bytes_of, share, shares_in, AreSameChunks, IsStrand}
 use Rattle.roff_store.specs.Leases.{living}
 use Rattle.roff_store.specs.Named.{Table, entry_of, has_room, put_into, without_entry}
 use Rattle.roff_store.specs.Texts.{Texts, Body, body_if_any, body_of}
 use Rattle.roff_store.specs.TextCalls.{Enter, answered, open_text, text_before, with_name}
 use Rattle.roff_store.specs.TextStore.Kept.{IsSound, kept_by, texts_in}
-use Rattle.roff_store.specs.TextStore.Strands.{Holds, bodies, chunks_in, entry_in, rest_in, shares_by, strands_of}
-use Rattle.roff_store.proofs.Keeping.{Comes, admitted-kept, body-kept, body-long, comes, order-out, room-left}
+use Rattle.roff_store.specs.TextStore.Strands.{bodies, entry_in, strands_of}
+use Rattle.roff_store.proofs.Keeping.{Comes, admitted-kept, body-kept, body-long, changed, order-out, room-left}
 use Rattle.roff_store.proofs.Leaving.{is-left, length-bytes_of}
 use Rattle.roff_store.proofs.Opening.{map-remove, open-inside, open-text, text-read}
-use Rattle.roff_store.proofs.Places.{open-out}
-use Rattle.roff_store.proofs.Pool.{Holds-order, all-left, appended, reshared}
-use Rattle.roff_store.proofs.Putting.{IsReady, put-table, sound-put, texts-put}
+use Rattle.roff_store.proofs.Places.{behind, onward, open-out, same-order, same-sum}
+use Rattle.roff_store.proofs.Pool.{Holds-order, all-left, reshared, text-read-on}
+use Rattle.roff_store.proofs.Putting.{IsReady, put-changed, put-table, put-texts}
 
 -- the bytes of what has a strand
 strands-body : (m : Chunks) (old : Option Meaning) (strand : Strand) → strands_of old ≡ strand ∷ []
@@ -46,14 +46,13 @@ module _ {a : Inside} {t : Texts} (sound : IsSound a) (is : kept_by a ≡ t) (id
 
   order : IsPermutation (texts_in a) (strands_of old ++ text ∷ rests)
   order =
-      IsPermutation-trans (texts_in a) (strands_of old ++ (bodies (without_entry name a.names.entries) ++ a.open.items))
-      (strands_of old ++ text ∷ rests) (order-out sound name found)
-      (IsPermutation-append_right (strands_of old) (bodies (without_entry name a.names.entries) ++ a.open.items) (text ∷ rests)
+      onward (order-out sound name found)
+      (behind (strands_of old)
       (open-out (bodies (without_entry name a.names.entries)) a.open.items id text (open-inside sound is id given) was))
 
   -- both are in hand
   pub both : Holds a.chunks (strands_of old ++ text ∷ rests) (living a.leases.items)
-  both = Holds-order order (IsPermutation-refl (living a.leases.items)) sound.held
+  both = Holds-order order same-order sound.held
 
   pub used-both : a.used ≡ rest_in (strands_of old) + (text.rest + rest_in rests)
   used-both =
@@ -61,7 +60,7 @@ module _ {a : Inside} {t : Texts} (sound : IsSound a) (is : kept_by a ≡ t) (id
       omega (
         arith,
         sound.counted,
-        sum_by-IsPermutation rest (texts_in a) (strands_of old ++ text ∷ rests) order,
+        same-sum rest order,
         sum_by-append rest (strands_of old) (text ∷ rests),
         sum_by-cons rest text rests,
       )
@@ -84,29 +83,17 @@ module _ {a : Inside} {t : Texts} (sound : IsSound a) (is : kept_by a ≡ t) (id
         let reserved = capacity ∙ sound.opens_reserved in
         let opens_now : map (bytes_of a.chunks) opens.items ≡ remove (map (bytes_of a.chunks) a.open.items) id =
         ap (map (bytes_of a.chunks)) items ∙ map-remove (bytes_of a.chunks) a.open.items id in
-        subst (λ (x : Table Meaning). Comes (Enter id name append) t (record a { names = x; chunks = m; «open» = opens; used = count }))
-        (sym (put-table sound opens ready room count rest within taken reserved put))
-        (comes a (Enter id name append) is (sound-put sound opens ready room count rest within taken reserved)
-        (texts-put sound opens ready room count rest within taken reserved
-        ∙ ap (λ o. record (with_name name entry (kept_by a)) { open_texts = o }) opens_now)
-        (admitted-kept sound name true room))
+        changed (Enter id name append) sound is (put-changed sound opens ready room count rest within taken reserved)
+        (put-texts sound opens ready ∙ ap (λ o. record (with_name name entry (kept_by a)) { open_texts = o }) opens_now)
+        (λ _. admitted-kept sound name true room) (put-table name (BodyIn body) a.names room put)
 
   -- the text is put behind the body
   module _ {before : Strand} (stands : strands_of old ≡ before ∷ []) where
     pub both-behind : Holds a.chunks (before ∷ text ∷ rests) (living a.leases.items)
     both-behind = subst (λ l. Holds a.chunks (l ++ text ∷ rests) (living a.leases.items)) stands both
 
-    pub text-behind : IsText a.chunks before
-    text-behind = All-head (IsText a.chunks) before (text ∷ rests) both-behind.texts
-
-    pub shared-behind : (chunk : ℕ) → has a.chunks before chunk + has a.chunks text chunk ≤ share a.chunks chunk
-    shared-behind chunk =
-        omega (
-          arith,
-          both-behind.shares chunk,
-          sum_by-cons (λ x. has a.chunks x chunk) before (text ∷ rests),
-          sum_by-cons (λ x. has a.chunks x chunk) text rests,
-        )
+    pub held-behind : IsHeld a.chunks before (text ∷ [])
+    held-behind = record { ts = rests; ls = living a.leases.items; held = text-read-on both-behind }
 
     pub room-behind : shares_in a.chunks + 3 ≤ a.chunks.most
     room-behind = omega (arith, room-left sound)
@@ -121,23 +108,22 @@ module _ {a : Inside} {t : Texts} (sound : IsSound a) (is : kept_by a ≡ t) (id
     before-bytes = body-kept sound name found ∙ strands-body a.chunks old before stands
 
     pub entered-behind : has_room name a.names ≡ true → {append : Bool} → append ≡ true → {m : Chunks} {body : Strand}
-        → IsExtended (λ chunk. others a.chunks before chunk - has a.chunks text chunk) a.chunks before (bytes_of a.chunks text) m body
-        → shares_in m + before.chunks + text.chunks ≡ shares_in a.chunks + body.chunks → {opens : Vec Strand Global}
+        → IsLonger a.chunks before (text ∷ []) (bytes_of a.chunks text) m body [] → {opens : Vec Strand Global}
         → opens.items ≡ remove a.open.items id → vec_len opens + 1 ≡ vec_len a.open → vec_capacity opens ≡ vec_capacity a.open
         → {names : Table Meaning} → names ≡ put_into name (BodyIn body) a.names
         → Comes (Enter id name append) t (record a { names = names; chunks = m; «open» = opens })
-    entered-behind room {append} appends {m} {body} more sum {opens} items len capacity put =
-        let had = appended both-behind more sum in
+    entered-behind room {append} appends {m} {body} more {opens} items len capacity put =
+        let had = more.leaves rests (living a.leases.items) (text-read-on both-behind) in
         let ready : IsReady a name (Body (text_before append name (kept_by a) ++ open_text id (kept_by a))) (BodyIn body) m (remove a.open.items id) =
         record {
           held = had.held;
-          texts = had.texts;
-          leases = had.leases;
+          texts = had.texts_left;
+          leases = had.leases_left;
           entry_is =
-              rw appends (ap (λ (x : List ℕ). Body x) (more.bytes
+              rw appends (ap (λ (x : List ℕ). Body x) (more.bytes_are
               ∙ ap (λ (x : List ℕ). x ++ bytes_of a.chunks text) (sym before-bytes)
               ∙ ap (λ (x : List ℕ). body_of name (kept_by a) ++ x) (sym (text-read sound is id given was))));
-          most = more.leaves.most;
+          most = more.most;
         } in
         let long = length-bytes_of a.chunks text (open-text sound is id given was).strand in
         entered room append opens items len capacity a.used ready (omega (arith, used-behind, more.len, long)) sound.within put

@@ -1,10 +1,9 @@
 -- What a sound store of texts tells of its parts.
-use Rattle.std.proofs.Common.{◌≡◌, ℕ, ◌+◌, ◌-◌, ◌*◌, ◌<◌, ◌≤◌, false, Bool, List, [], ◌∷◌, ◌++◌, length, map, get_or, All, Option, Some, None, is_some, nat_lt, Ok, Err, Result, refl, sym, ap, subst, ◌∙◌, arith, length-append}
-use Rattle.std.specs.Prelude.{count_by, option_map, remove, cond, IsPermutation, if◌then◌else◌}
+use Rattle.std.proofs.Common.{◌≡◌, ℕ, ◌+◌, ◌-◌, ◌*◌, ◌<◌, ◌≤◌, false, Bool, List, [], ◌∷◌, ◌++◌, length, map, get_or, All, Option, Some, None, is_some, nat_lt, Ok, Err, Result, refl, sym, ap, subst, ◌∙◌, arith, Vec, Global, length-append}
+use Rattle.std.specs.Prelude.{count_by, option_map, remove, cond, vec_len, vec_capacity, IsPermutation, if◌then◌else◌}
 use Rattle.std.proofs.lemmas.Bool.Decides.{nat_tests}
 use Rattle.std.proofs.lemmas.List.{length-map}
 use Rattle.std.proofs.lemmas.List.Elements.{All-head, All-weaker}
-use Rattle.std.proofs.lemmas.List.Sorted.{IsPermutation-refl, sum_by-IsPermutation}
 use Rattle.std.proofs.lemmas.List.Sums.{sum_by-append, sum_by-cons}
 use Rattle.roff_num.specs.declared.limit.Limit.{Limit}
 use Rattle.roff_num.specs.declared.limit.Limit.TheVariants.{Names, Store}
@@ -12,17 +11,18 @@ use Rattle.roff_store.specs.declared.strand.Strand.{Strand}
 use Rattle.roff_store.specs.declared.text_store.Meaning.{Meaning}
 use Rattle.roff_store.specs.declared.text_store.Meaning.TheVariants.{Body as BodyIn, Request as RequestOf}
 use Rattle.roff_store.specs.declared.text_store.TextStore.TheInside.{Inside}
+use Rattle.roff_store.specs.Pool.{chunks_in, Holds, IsLeft, rest_in}
 use Rattle.roff_store.specs.Chains.{Chunks, bytes_of, shares_in, IsShared, IsStrand, IsText}
 use Rattle.roff_store.specs.Leases.{living}
-use Rattle.roff_store.specs.Named.{admitted, entry_of, has_room, without_entry}
+use Rattle.roff_store.specs.Named.{EachOnce, Named, Table, admitted, entry_of, has_room, without_entry}
 use Rattle.roff_store.specs.Texts.{Texts, Entry, body_if_any, body_of, kept, live, used}
 use Rattle.roff_store.specs.TextCalls.{Call, after, answered, made, unless_refused, within_bytes}
 use Rattle.roff_store.specs.TextStore.Kept.{IsSound, kept_by, texts_in}
-use Rattle.roff_store.specs.TextStore.Strands.{Holds, bodies, chunks_in, entry_in, lease_in, rest_in, strands_of}
+use Rattle.roff_store.specs.TextStore.Strands.{bodies, entries_in, entry_in, lease_in, strands_of}
 use Rattle.roff_store.proofs.Leaving.{chunks-enough, length-bytes_of}
 use Rattle.roff_store.proofs.NameSums.{entry-map}
-use Rattle.roff_store.proofs.Places.{beside, length-bodies, name-out, open-out}
-use Rattle.roff_store.proofs.Pool.{All-behind, All-front, Holds-order, chunks-held, leases-rest, names-rest, opens-rest, texts-shared}
+use Rattle.roff_store.proofs.Places.{beside, length-bodies, name-out, open-out, same-order, same-sum}
+use Rattle.roff_store.proofs.Pool.{All-behind, All-front, Holds-order, chunks-held, leases-left, leases-rest, names-rest, opens-rest, texts-shared}
 
 -- what a call that isn't refused has made of a store
 pub record Comes (call : Call) (t : Texts) (b : Inside) : Type 0 where
@@ -96,7 +96,7 @@ module _ {a : Inside} (sound : IsSound a) where
 
   -- and there is room for the bytes that are left, and for three chunks more
   pub room-left : 120 * shares_in a.chunks + (a.cap_bytes - a.used) + (a.cap_kept - a.kept)
-      + 240 * (a.cap_leases - length (living a.leases.items)) + 360 ≤ 120 * a.chunks.most
+      + 240 * (a.leases.cap - length (living a.leases.items)) + 360 ≤ 120 * a.chunks.most
   room-left =
       omega (
         arith,
@@ -108,7 +108,6 @@ module _ {a : Inside} (sound : IsSound a) where
         sound.few,
         sound.opens,
         sound.leases,
-        sound.leases_cap,
         sound.room.enough,
         length-bodies a.names.entries,
         length-append (bodies a.names.entries) a.open.items,
@@ -125,7 +124,7 @@ module _ {a : Inside} (sound : IsSound a) where
         (bodies (without_entry name a.names.entries)) a.open.items (name-out name a.names.entries sound.once))
 
     pub out : Holds a.chunks (strands_of old ++ (bodies (without_entry name a.names.entries) ++ a.open.items)) (living a.leases.items)
-    out = Holds-order order-out (IsPermutation-refl (living a.leases.items)) sound.held
+    out = Holds-order order-out same-order sound.held
 
     pub used-out : a.used ≡ rest_in (strands_of old) + rest_in (bodies (without_entry name a.names.entries) ++ a.open.items)
     used-out =
@@ -133,7 +132,7 @@ module _ {a : Inside} (sound : IsSound a) where
         omega (
           arith,
           sound.counted,
-          sum_by-IsPermutation rest (texts_in a) (strands_of old ++ (bodies (without_entry name a.names.entries) ++ a.open.items)) order-out,
+          same-sum rest order-out,
           sum_by-append rest (strands_of old) (bodies (without_entry name a.names.entries) ++ a.open.items),
         )
 
@@ -179,7 +178,7 @@ module _ {a : Inside} (sound : IsSound a) where
     open-order = open-out (bodies a.names.entries) a.open.items id text inside was
 
     pub open-held : Holds a.chunks (text ∷ (bodies a.names.entries ++ remove a.open.items id)) (living a.leases.items)
-    open-held = Holds-order open-order (IsPermutation-refl (living a.leases.items)) sound.held
+    open-held = Holds-order open-order same-order sound.held
 
     pub open-used : a.used ≡ text.rest + rest_in (bodies a.names.entries ++ remove a.open.items id)
     open-used =
@@ -187,6 +186,50 @@ module _ {a : Inside} (sound : IsSound a) where
         omega (
           arith,
           sound.counted,
-          sum_by-IsPermutation rest (texts_in a) (text ∷ (bodies a.names.entries ++ remove a.open.items id)) open-order,
+          same-sum rest open-order,
           sum_by-cons rest text (bodies a.names.entries ++ remove a.open.items id),
         )
+
+-- other texts in the chunks, beside the same leases
+pub record IsChanged (a : Inside) (m : Chunks) (entries : Named Meaning) (opens : Vec Strand Global) (count : ℕ) : Type 0 where
+  pub held : Holds m (bodies entries ++ opens.items) (living a.leases.items)
+  pub leases : All (IsLeft a.chunks m) (living a.leases.items)
+  pub most : m.most ≡ a.chunks.most
+  pub once : EachOnce entries
+  pub few : length entries ≤ a.names.cap
+  pub counted : count ≡ rest_in (bodies entries ++ opens.items)
+  pub within : count ≤ a.cap_bytes
+  pub taken : vec_len opens ≤ a.cap_open
+  pub reserved : vec_capacity opens ≡ a.cap_open
+
+-- a call has made them
+pub changed : {a : Inside} {t : Texts} {m : Chunks} {entries : Named Meaning} {opens : Vec Strand Global} {count : ℕ} (call : Call)
+    → IsSound a → kept_by a ≡ t → IsChanged a m entries opens count
+    → record (kept_by a) {
+      names = record { entries = entries_in m entries; cap = a.names.cap };
+      open_texts = map (bytes_of m) opens.items;
+    } ≡ made call (kept_by a)
+    → (within_bytes (made call (kept_by a)) (Ok tt) ≡ Ok tt → answered call (kept_by a) ≡ Ok tt) → {names : Table Meaning}
+    → names ≡ record a.names { entries = entries }
+    → Comes call t (record a { names = names; chunks = m; «open» = opens; used = count })
+changed {a} {t} {m} {entries} {opens} {count} call sound is now texts allowed {names} table =
+    let b : Inside = record a { names = record a.names { entries = entries }; chunks = m; «open» = opens; used = count } in
+    let b_sound : IsSound b = record {
+      held = now.held;
+      once = now.once;
+      few = now.few;
+      counted = now.counted;
+      within = now.within;
+      given = sound.given;
+      kept_within = sound.kept_within;
+      opens = now.taken;
+      opens_reserved = now.reserved;
+      leases = sound.leases;
+      room = rw now.most sound.room;
+      most = rw now.most sound.most;
+    } in
+    let b_texts : kept_by b ≡ made call (kept_by a) =
+    ap (λ (l : List (Option (List ℕ))). record (kept_by b) { leases = l }) (leases-left a.chunks m a.leases.items now.leases) ∙ texts in
+    let fits = subst (λ (x : Texts). within_bytes x (Ok tt) ≡ Ok tt) b_texts (within-sound b_sound (Ok tt)) in
+    subst (λ (n : Table Meaning). Comes call t (record a { names = n; chunks = m; «open» = opens; used = count })) (sym table)
+    (comes a call is b_sound b_texts (allowed fits))

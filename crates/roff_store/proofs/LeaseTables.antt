@@ -5,12 +5,11 @@ use Rattle.std.specs.Vec.{with_item}
 use Rattle.std.proofs.lemmas.List.{get_or-set_other, get_or-set_same, get_or_append_left, get_or_push}
 use Rattle.std.proofs.lemmas.List.Elements.{All-push}
 use Rattle.std.proofs.lemmas.List.Quantifiers.{all_pairs_push}
-use Rattle.std.proofs.lemmas.List.Sorted.{length_permutation}
 use Rattle.roff_store.specs.declared.strand.Strand.{Strand}
 use Rattle.roff_store.specs.declared.lease_table.LeaseTable.TheInside.{Inside}
 use Rattle.roff_store.specs.LeaseTable.Kept.{IsSound, kept_by}
 use Rattle.roff_store.specs.Leases.{Leases, living}
-use Rattle.roff_store.proofs.Places.{lease-behind, lease-in, lease-out, set-none}
+use Rattle.roff_store.proofs.Places.{lease-behind, lease-in, lease-out, same-length, set-none}
 
 -- what holds of all but the last, and of the last
 All-all_but : {X : Type 0} (P : X → Type 0) (xs : List X) (x : X) → All P (xs ++ x ∷ []) → All P xs
@@ -84,8 +83,7 @@ module _ {a : Inside} (sound : IsSound a) where
               (AllPairs-last (λ (n later : ℕ). n ≢ later) ended.items id once k d within) ∙ dead k d within;
           once = AllPairs-all_but (λ (n later : ℕ). n ≢ later) ended.items id once;
           all =
-              let order = lease-in a.leases.items id strand (omega (arith, known-again, a.leases.ok.0)) in
-              let long = length_permutation (strand ∷ living (set a.leases.items id None)) (living (set a.leases.items id (Some strand))) order in
+              let long = same-length (lease-in a.leases.items id strand (omega (arith, known-again, a.leases.ok.0))) in
               let same = ap (λ l. length (living l)) (set-none a.leases.items id dead-again) in
               omega (arith, sound.all, len, long, same);
           within = sound.within;
@@ -104,8 +102,7 @@ module _ {a : Inside} (sound : IsSound a) where
       dead = λ k d within. absurd (omega (arith, within, none_now, ended.ok.0));
       once = λ i j d before within. absurd (omega (arith, within, none_now, ended.ok.0));
       all =
-          let long = length_permutation (strand ∷ living a.leases.items) (living (a.leases.items ++ Some strand ∷ []))
-          (lease-behind a.leases.items strand) in
+          let long = same-length (lease-behind a.leases.items strand) in
           let same = ap (λ l. length (living l)) items in
           omega (arith, sound.all, none, none_now, len, long, same);
       within = omega (arith, few, sound.all, none, len);
@@ -124,9 +121,7 @@ module _ {a : Inside} (sound : IsSound a) where
         let both : ◌≡◌ {A = Option Strand} None (Some was) = sym none ∙ lives in cc
 
     length-out : length (living a.leases.items) ≡ length (living (set a.leases.items id None)) + 1
-    length-out =
-        let long = length_permutation (living a.leases.items) (was ∷ living (set a.leases.items id None)) (lease-out a.leases.items id was lives) in
-        omega (arith, long)
+    length-out = let long = same-length (lease-out a.leases.items id was lives) in omega (arith, long)
 
     -- one gives something else
     pub sound-put : (strand : Strand) → IsSound (record a { leases = with_item a.leases id (Some strand) })
@@ -135,10 +130,7 @@ module _ {a : Inside} (sound : IsSound a) where
       dead = λ k d within.
           get_or-set_other a.leases.items id (get_or a.ended.items k d) (Some strand) None (other k d within) ∙ sound.dead k d within;
       once = sound.once;
-      all =
-          let long = length_permutation (strand ∷ living (set a.leases.items id None)) (living (set a.leases.items id (Some strand)))
-          (lease-in a.leases.items id strand inside) in
-          omega (arith, sound.all, long, length-out);
+      all = let long = same-length (lease-in a.leases.items id strand inside) in omega (arith, sound.all, long, length-out);
       within = sound.within;
       leases_reserved = sound.leases_reserved;
       ended_reserved = sound.ended_reserved;

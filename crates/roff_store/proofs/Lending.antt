@@ -1,27 +1,27 @@
 -- A store of texts once leases begin, give bytes and end.
-use Rattle.std.proofs.Common.{◌≡◌, ℕ, zero, suc, ◌+◌, ◌-◌, ◌<◌, ◌≤◌, true, false, List, [], ◌∷◌, ◌++◌, length, map, get_or, Option, Some, None, IsSome, IsTrue, ◌↔◌, refl, sym, ap, subst, ◌∙◌, arith, rules}
+use Rattle.std.proofs.Common.{◌≡◌, ℕ, zero, suc, ◌+◌, ◌-◌, ◌<◌, ◌≤◌, true, false, Bool, List, [], ◌∷◌, ◌++◌, length, map, get_or, Option, Some, None, IsSome, IsTrue, ◌↔◌, refl, sym, ap, subst, ◌∙◌, arith, rules}
 use Rattle.std.specs.Prelude.{set, slice_index, take, drop, nat_le, IsPermutation, option_map, ◌==◌, if◌then◌else◌}
 use Rattle.std.proofs.lemmas.Bool.Decides.{nat_tests}
 use Rattle.std.proofs.lemmas.List.{length-map, map-append, map-set}
 use Rattle.std.proofs.lemmas.List.Elements.{All-cons, All-head, All-nil}
-use Rattle.std.proofs.lemmas.List.Sorted.{IsPermutation-refl, length_permutation, sum_by-IsPermutation}
 use Rattle.std.proofs.lemmas.List.Sums.{sum_by-cons}
 use Rattle.roff_store.specs.declared.strand.Strand.{Strand}
 use Rattle.roff_store.specs.declared.text_store.Meaning.{Meaning}
 use Rattle.roff_store.specs.declared.text_store.Meaning.TheVariants.{Body as BodyIn, Request as RequestOf}
 use Rattle.roff_store.specs.declared.text_store.TextStore.TheInside.{Inside}
+use Rattle.roff_store.specs.Pool.{Holds, rest_in}
 use Rattle.roff_store.specs.Chains.{Chunks, bytes_of, has, others, share, shares_in, AreSameChunks, IsShared, IsStrand, IsText}
 use Rattle.roff_store.specs.Leases.{Leases, begun, living}
 use Rattle.roff_store.specs.Named.{entry_of, without_entry}
 use Rattle.roff_store.specs.Texts.{Texts, IsFree, body_if_any, body_of, has_body, is_body, kept, lease_bytes, lease_of, live, next_byte, rest_of}
 use Rattle.roff_store.specs.TextCalls.{Lease, Release, Take, bytes_given, with_lease}
 use Rattle.roff_store.specs.TextStore.Kept.{IsSound, kept_by, texts_in}
-use Rattle.roff_store.specs.TextStore.Strands.{Holds, bodies, entry_in, lease_in, rest_in, strands_of}
+use Rattle.roff_store.specs.TextStore.Strands.{bodies, entry_in, lease_in, strands_of}
 use Rattle.roff_store.proofs.Keeping.{Comes, comes, kept-is, live-is, out, room-left, texts-out}
 use Rattle.roff_store.proofs.LeaseTables.{inside-some}
 use Rattle.roff_store.proofs.Leaving.{chunks-few, is-left, length-bytes_of, strand-same}
 use Rattle.roff_store.proofs.Naming.{entry-read}
-use Rattle.roff_store.proofs.Places.{lease-begun, lease-in, lease-out}
+use Rattle.roff_store.proofs.Places.{lease-begun, lease-in, lease-out, same-length, same-order, same-sum}
 use Rattle.roff_store.proofs.Pool.{Holds-order, all-left, entries-left, leases-left, leases-shared, opens-left, reshared, texts-shared}
 
 -- the lease of a number
@@ -84,8 +84,7 @@ module _ {a : Inside} (sound : IsSound a) {m : Chunks} {leases : Leases} {count 
     opens = sound.opens;
     opens_reserved = sound.opens_reserved;
     leases = lent.few;
-    leases_cap = lent.cap ∙ sound.leases_cap;
-    room = rw lent.same.most sound.room;
+    room = rw (lent.same.most, lent.cap) sound.room;
     most = rw lent.same.most sound.most;
   }
 
@@ -118,7 +117,7 @@ module _ {a : Inside} {t : Texts} (sound : IsSound a) (is : kept_by a ≡ t) (id
   order = lease-out a.leases.items id strand lives
 
   held : Holds a.chunks (texts_in a) (strand ∷ living (set a.leases.items id None))
-  held = Holds-order (IsPermutation-refl (texts_in a)) order sound.held
+  held = Holds-order same-order order sound.held
 
   pub lease-strand : IsStrand a.chunks strand
   lease-strand = All-head (IsStrand a.chunks) strand (living (set a.leases.items id None)) held.leases
@@ -135,7 +134,7 @@ module _ {a : Inside} {t : Texts} (sound : IsSound a) (is : kept_by a ≡ t) (id
       omega (
         arith,
         sound.given,
-        sum_by-IsPermutation rest (living a.leases.items) (strand ∷ living (set a.leases.items id None)) order,
+        same-sum rest order,
         sum_by-cons rest strand (living (set a.leases.items id None)),
       )
 
@@ -143,9 +142,7 @@ module _ {a : Inside} {t : Texts} (sound : IsSound a) (is : kept_by a ≡ t) (id
   lease-kept = omega (arith, kept-out)
 
   length-out : length (living a.leases.items) ≡ 1 + length (living (set a.leases.items id None))
-  length-out =
-      let long = length_permutation (living a.leases.items) (strand ∷ living (set a.leases.items id None)) order in
-      omega (arith, long)
+  length-out = let long = same-length order in omega (arith, long)
 
   -- bytes are taken from it
   module _ {m : Chunks} {rest : Strand} {count : ℕ} (within : count ≤ rest_of (lease_of id t)) (now_strand : IsStrand m rest)
@@ -157,7 +154,7 @@ module _ {a : Inside} {t : Texts} (sound : IsSound a) (is : kept_by a ≡ t) (id
 
     lent-passed : IsLent a m (record { items = set a.leases.items id (Some rest); cap = a.leases.cap }) (a.kept - count)
     lent-passed = record {
-      held = Holds-order (IsPermutation-refl (texts_in a)) order-in
+      held = Holds-order same-order order-in
           (reshared [] (strand ∷ []) (rest ∷ []) (living (set a.leases.items id None)) held same
           (All-cons (IsStrand m) rest [] now_strand (All-nil (IsStrand m)))
           (λ chunk. omega (arith, shares chunk)) (omega (arith, sum)));
@@ -169,15 +166,11 @@ module _ {a : Inside} {t : Texts} (sound : IsSound a) (is : kept_by a ≡ t) (id
             len,
             within,
             rest-read,
-            sum_by-IsPermutation (λ (x : Strand). x.rest) (rest ∷ living (set a.leases.items id None))
-                (living (set a.leases.items id (Some rest))) order-in,
+            same-sum (λ (x : Strand). x.rest) order-in,
             sum_by-cons (λ (x : Strand). x.rest) rest (living (set a.leases.items id None)),
           );
       within = omega (arith, sound.kept_within);
-      few =
-          let long = length_permutation (rest ∷ living (set a.leases.items id None))
-          (living (set a.leases.items id (Some rest))) order-in in
-          omega (arith, sound.leases, length-out, long);
+      few = let long = same-length order-in in omega (arith, sound.leases, length-out, long);
       cap = refl;
     }
 
@@ -244,13 +237,10 @@ module _ {a : Inside} {t : Texts} (sound : IsSound a) (is : kept_by a ≡ t) (na
       (texts-shared (out sound name found))
 
   module _ (fewer : live t < t.cap_leases) {most : ℕ} (fits : strand.rest ≤ most) (room : kept t + most ≤ t.cap_kept) where
-    few-live : length (living a.leases.items) < a.cap_leases
-    few-live =
-        let few : live (kept_by a) < a.cap_leases = subst (λ (x : Texts). live x < x.cap_leases) (sym is) fewer in
-        omega (arith, few, live-is sound)
-
     pub few-lent : length (living a.leases.items) < a.leases.cap
-    few-lent = omega (arith, few-live, sound.leases_cap)
+    few-lent =
+        let few : live (kept_by a) < a.leases.cap = subst (λ (x : Texts). live x < x.cap_leases) (sym is) fewer in
+        omega (arith, few, live-is sound)
 
     pub kept-fits : a.kept + strand.rest ≤ a.cap_kept
     kept-fits =
@@ -260,7 +250,7 @@ module _ {a : Inside} {t : Texts} (sound : IsSound a) (is : kept_by a ≡ t) (na
     pub room-lent : shares_in a.chunks + strand.chunks ≤ a.chunks.most
     room-lent =
         let text = lent-text in
-        omega (arith, room-left sound, few-live, kept-fits, chunks-few a.chunks strand text.strand, text.whole)
+        omega (arith, room-left sound, few-lent, kept-fits, chunks-few a.chunks strand text.strand, text.whole)
 
     -- is leased
     module _ {m : Chunks} (shares : (chunk : ℕ) → share m chunk ≡ share a.chunks chunk + has a.chunks strand chunk)
@@ -278,7 +268,7 @@ module _ {a : Inside} {t : Texts} (sound : IsSound a) (is : kept_by a ≡ t) (na
 
       lent-begun : IsLent a m (record { items = begun id strand a.leases.items; cap = a.leases.cap }) (a.kept + strand.rest)
       lent-begun = record {
-        held = Holds-order (IsPermutation-refl (texts_in a)) order-begun
+        held = Holds-order same-order order-begun
             (reshared [] [] (strand ∷ []) (living a.leases.items) sound.held same
             (All-cons (IsStrand m) strand [] (strand-same a.chunks m strand same lent-text.strand) (All-nil (IsStrand m)))
             (λ chunk. omega (arith, shares chunk, (is-left a.chunks m strand same).has chunk)) (omega (arith, sum)));
@@ -287,14 +277,11 @@ module _ {a : Inside} {t : Texts} (sound : IsSound a) (is : kept_by a ≡ t) (na
             omega (
               arith,
               sound.given,
-              sum_by-IsPermutation (λ (x : Strand). x.rest) (strand ∷ living a.leases.items)
-                  (living (begun id strand a.leases.items)) order-begun,
+              same-sum (λ (x : Strand). x.rest) order-begun,
               sum_by-cons (λ (x : Strand). x.rest) strand (living a.leases.items),
             );
         within = kept-fits;
-        few =
-            let long = length_permutation (strand ∷ living a.leases.items) (living (begun id strand a.leases.items)) order-begun in
-            omega (arith, few-lent, long);
+        few = let long = same-length order-begun in omega (arith, few-lent, long);
         cap = refl;
       }
 
@@ -324,18 +311,21 @@ module _ {a : Inside} {t : Texts} (sound : IsSound a) (is : kept_by a ≡ t) whe
   pub cap-read : a.cap_kept ≡ t.cap_kept
   cap-read = ap (λ (x : Texts). x.cap_kept) is
 
-  pub live-read : length (living a.leases.items) ≡ live t
-  live-read = subst (λ (x : Texts). length (living a.leases.items) ≡ live x) is (sym (live-is sound))
+  -- whether one more may live
+  pub live-tested : (room : Bool) → IsTrue room ↔ (length (living a.leases.items) < a.leases.cap) → IsTrue room ↔ (live t < t.cap_leases)
+  live-tested room tells =
+      let count = live-is sound in
+      subst (λ (x : Texts). IsTrue room ↔ (live x < x.cap_leases)) is
+      ((λ yes. let few = tells.0 yes in omega (arith, few, count)), (λ few. tells.1 (omega (arith, few, count))))
 
-  -- whether one more may live, and give so many
-  pub can-tested : (count : ℕ) → length (living a.leases.items) < a.cap_leases
+  -- and give so many
+  pub can-tested : (count : ℕ) → live t < t.cap_leases
       → IsTrue (nat_le count (a.cap_kept - a.kept)) ↔ ((live t < t.cap_leases) × (kept t + count ≤ t.cap_kept))
   can-tested count fewer =
       let within = sound.kept_within in
-      let bytes = kept-is sound in
-      let count_living = live-is sound in
-      subst (λ (x : Texts). IsTrue (nat_le count (a.cap_kept - a.kept)) ↔ ((live x < x.cap_leases) × (kept x + count ≤ x.cap_kept))) is
-      (grind (arith, nat_tests))
+      let bytes = kept-read in
+      let cap = cap-read in
+      grind (arith, nat_tests)
 
 -- the first byte in front is the next one
 pub first-given : (front : List ℕ) (lease : Option (List ℕ)) → front ≡ take (length front) (lease_bytes lease) → 0 < length front

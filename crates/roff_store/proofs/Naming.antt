@@ -4,25 +4,26 @@ use Rattle.std.specs.Prelude.{Option, Ok, IsTrue, IsPermutation, option_map}
 use Rattle.std.specs.Str.{bytes_eq}
 use Rattle.std.proofs.lemmas.Bool.Decides.{nat_tests}
 use Rattle.std.proofs.lemmas.List.Elements.{All-head}
-use Rattle.std.proofs.lemmas.List.Sorted.{IsPermutation-append_left, IsPermutation-refl, IsPermutation-trans, sum_by-IsPermutation}
+use Rattle.std.proofs.lemmas.List.Sorted.{IsPermutation-append_left}
 use Rattle.roff_store.specs.declared.strand.Strand.{Strand}
 use Rattle.roff_store.specs.declared.text_store.Meaning.{Meaning}
 use Rattle.roff_store.specs.declared.text_store.Meaning.TheVariants.{Body as BodyIn, Request as RequestIn}
 use Rattle.roff_store.specs.declared.text_store.TextStore.TheInside.{Inside}
+use Rattle.roff_store.specs.Pool.{chunks_in, rest_in, shares_by}
 use Rattle.roff_store.specs.Chains.{Chunks, share, shares_in, AreSameChunks, IsText}
 use Rattle.roff_store.specs.Leases.{living}
 use Rattle.roff_store.specs.Named.{Named, Table, EachOnce, admitted, entry_of, has_room, put_into, removed_from, with_entry, without_entry}
 use Rattle.roff_store.specs.Texts.{Texts, Kind, BodyOf, RequestOf, body_if_any, body_of, kind_of}
-use Rattle.roff_store.specs.TextCalls.{Remove, Rename, after, made, renamed}
+use Rattle.roff_store.specs.TextCalls.{Remove, Rename, after, renamed}
 use Rattle.roff_store.specs.TextStore.Kept.{IsSound, kept_by}
-use Rattle.roff_store.specs.TextStore.Strands.{Holds, bodies, chunks_in, entries_in, entry_in, rest_in, shares_by, strands_of}
+use Rattle.roff_store.specs.TextStore.Strands.{bodies, entries_in, entry_in, strands_of}
 use Rattle.roff_store.proofs.Calls.{length-with_entry_le, length-without_entry_le}
 use Rattle.roff_store.proofs.Entries.{EachOnce-with_entry, EachOnce-without_entry, bytes_eq_tells, entry_of-without_entry, length-without_entry}
-use Rattle.roff_store.proofs.Keeping.{Comes, body-kept, body-long, comes, entry-kept, texts-out, used-out}
+use Rattle.roff_store.proofs.Keeping.{Comes, IsChanged, body-kept, body-long, changed, entry-kept, texts-out, used-out}
 use Rattle.roff_store.proofs.Leaving.{length-bytes_of}
 use Rattle.roff_store.proofs.NameSums.{map-with, map-without}
-use Rattle.roff_store.proofs.Places.{name-in, name-out}
-use Rattle.roff_store.proofs.Pool.{Holds-order, all-left, entries-left, leases-left, opens-left}
+use Rattle.roff_store.proofs.Places.{name-in, name-out, onward, same-order, same-sum}
+use Rattle.roff_store.proofs.Pool.{Holds-order, all-left, entries-left, opens-left}
 use Rattle.roff_store.proofs.Putting.{gone}
 
 -- names that a test tells apart
@@ -50,52 +51,18 @@ pub admitted-renamed : (from to : List ℕ) (names : Table Meaning) (meaning : M
     → admitted to (removed_from from names) ≡ Ok tt
 admitted-renamed from to names meaning once found few = rw (room-renamed from to names meaning once found few) refl
 
--- other names over the same bytes
-pub record IsNamed (a : Inside) (m : Chunks) (entries : Named Meaning) (count : ℕ) : Type 0 where
-  pub held : Holds m (bodies entries ++ a.open.items) (living a.leases.items)
-  pub same : AreSameChunks a.chunks m
-  pub once : EachOnce entries
-  pub few : length entries ≤ a.names.cap
-  pub counted : count ≡ rest_in (bodies entries ++ a.open.items)
-  pub within : count ≤ a.cap_bytes
-
-module _ {a : Inside} (sound : IsSound a) {m : Chunks} {entries : Named Meaning} {count : ℕ} (named : IsNamed a m entries count) where
-  abbrev now : Inside
-  now = record a { names = record a.names { entries = entries }; chunks = m; used = count }
-
-  pub sound-named : IsSound now
-  sound-named = record {
-    held = named.held;
-    once = named.once;
-    few = named.few;
-    counted = named.counted;
-    within = named.within;
-    given = sound.given;
-    kept_within = sound.kept_within;
-    opens = sound.opens;
-    opens_reserved = sound.opens_reserved;
-    leases = sound.leases;
-    leases_cap = sound.leases_cap;
-    room = rw named.same.most sound.room;
-    most = rw named.same.most sound.most;
-  }
-
-  pub texts-named : kept_by now ≡ record (kept_by a) { names = record { entries = entries_in a.chunks entries; cap = a.names.cap } }
-  texts-named =
-      let names = entries-left a.chunks m entries (all-left (bodies entries) named.same) in
-      let opens = opens-left a.chunks m a.open.items (all-left a.open.items named.same) in
-      let leases = leases-left a.chunks m a.leases.items (all-left (living a.leases.items) named.same) in
-      cc
-
 module _ {a : Inside} {t : Texts} (sound : IsSound a) (is : kept_by a ≡ t) (name : List ℕ) {old : Option Meaning}
     (was : old ≡ entry_of name a.names.entries) {len : ℕ} (long : len ≡ rest_in (strands_of old)) {m : Chunks}
     (shares : (chunk : ℕ) → share m chunk ≡ share a.chunks chunk - shares_by a.chunks chunk (strands_of old))
     (sum : shares_in m + chunks_in (strands_of old) ≡ shares_in a.chunks) (same : AreSameChunks a.chunks m) where
   -- a name goes
-  without-name : IsNamed a m (without_entry name a.names.entries) (a.used - len)
+  without-name : IsChanged a m (without_entry name a.names.entries) a.open (a.used - len)
   without-name = record {
     held = gone sound is name was long shares sum same;
-    same = same;
+    leases = all-left (living a.leases.items) same;
+    most = same.most;
+    taken = sound.opens;
+    reserved = sound.opens_reserved;
     once = EachOnce-without_entry name a.names.entries sound.once;
     few = omega (arith, length-without_entry_le name a.names.entries, sound.few);
     counted = omega (arith, used-out sound name was, long);
@@ -104,12 +71,12 @@ module _ {a : Inside} {t : Texts} (sound : IsSound a) (is : kept_by a ≡ t) (na
 
   pub removed : {names : Table Meaning} → names ≡ removed_from name a.names
       → Comes (Remove name) t (record a { names = names; chunks = m; used = a.used - len })
-  removed {names} is_gone =
-      let texts : kept_by (record a { names = removed_from name a.names; chunks = m; used = a.used - len }) ≡ made (Remove name) (kept_by a) =
-      texts-named sound without-name
-      ∙ ap (λ e. record (kept_by a) { names = record { entries = e; cap = a.names.cap } }) (map-without (entry_in a.chunks) name a.names.entries) in
-      subst (λ (n : Table Meaning). Comes (Remove name) t (record a { names = n; chunks = m; used = a.used - len })) (sym is_gone)
-      (comes a (Remove name) is (sound-named sound without-name) texts refl)
+  removed is_gone =
+      let names : entries_in m (without_entry name a.names.entries) ≡ without_entry name (entries_in a.chunks a.names.entries) =
+      entries-left a.chunks m (without_entry name a.names.entries) (all-left (bodies (without_entry name a.names.entries)) same)
+      ∙ map-without (entry_in a.chunks) name a.names.entries in
+      let opens = opens-left a.chunks m a.open.items (all-left a.open.items same) in
+      changed (Remove name) sound is without-name (cc) (λ _. refl) is_gone
 
   -- or another name stands for what it stood for
   module _ (from : List ℕ) (other : bytes_eq from name ≡ false) (meaning : Meaning) (found : entry_of from a.names.entries ≡ Some meaning) where
@@ -124,10 +91,7 @@ module _ {a : Inside} {t : Texts} (sound : IsSound a) (is : kept_by a ≡ t) (na
         (strands_of (Some meaning) ++ bodies (without_entry name (without_entry from a.names.entries))) =
         rw (still, without-both from name a.names.entries) at
         (name-out from (without_entry name a.names.entries) (EachOnce-without_entry name a.names.entries sound.once)) in
-        IsPermutation-trans (bodies (without_entry name a.names.entries))
-        (strands_of (Some meaning) ++ bodies (without_entry name (without_entry from a.names.entries)))
-        (bodies (with_entry name meaning (without_entry from a.names.entries))) taken
-        (name-in name meaning (without_entry from a.names.entries) once-from)
+        onward taken (name-in name meaning (without_entry from a.names.entries) once-from)
 
     order-beside : IsPermutation (bodies (without_entry name a.names.entries) ++ a.open.items)
         (bodies (with_entry name meaning (without_entry from a.names.entries)) ++ a.open.items)
@@ -135,22 +99,19 @@ module _ {a : Inside} {t : Texts} (sound : IsSound a) (is : kept_by a ≡ t) (na
         IsPermutation-append_left a.open.items (bodies (without_entry name a.names.entries))
         (bodies (with_entry name meaning (without_entry from a.names.entries))) order
 
-    with-name : IsNamed a m (with_entry name meaning (without_entry from a.names.entries)) (a.used - len)
+    with-name : IsChanged a m (with_entry name meaning (without_entry from a.names.entries)) a.open (a.used - len)
     with-name = record {
-      held = Holds-order order-beside (IsPermutation-refl (living a.leases.items)) (gone sound is name was long shares sum same);
-      same = same;
+      held = Holds-order order-beside same-order (gone sound is name was long shares sum same);
+      leases = all-left (living a.leases.items) same;
+      most = same.most;
+      taken = sound.opens;
+      reserved = sound.opens_reserved;
       once = EachOnce-with_entry name meaning (without_entry from a.names.entries) once-from;
       few =
           let fewer = rw found at (length-without_entry from a.names.entries sound.once) in
           omega (arith, fewer, length-with_entry_le name meaning (without_entry from a.names.entries), sound.few);
       counted =
-          omega (
-            arith,
-            used-out sound name was,
-            long,
-            sum_by-IsPermutation (λ (x : Strand). x.rest) (bodies (without_entry name a.names.entries) ++ a.open.items)
-                (bodies (with_entry name meaning (without_entry from a.names.entries)) ++ a.open.items) order-beside,
-          );
+          omega (arith, used-out sound name was, long, same-sum (λ (x : Strand). x.rest) order-beside);
       within = omega (arith, sound.within);
     }
 
@@ -166,15 +127,13 @@ module _ {a : Inside} {t : Texts} (sound : IsSound a) (is : kept_by a ≡ t) (na
     moved {names} put =
         let table : names ≡ record a.names { entries = with_entry name meaning (without_entry from a.names.entries) } =
         put ∙ (rw (room-renamed from name a.names meaning sound.once found sound.few) refl) in
-        let texts : kept_by (record a {
-          names = record a.names { entries = with_entry name meaning (without_entry from a.names.entries) };
-          chunks = m;
-          used = a.used - len;
-        }) ≡ made (Rename from name) (kept_by a) =
-        texts-named sound with-name
-        ∙ ap (λ e. record (kept_by a) { names = record { entries = e; cap = a.names.cap } }) entries-renamed in
-        subst (λ (n : Table Meaning). Comes (Rename from name) t (record a { names = n; chunks = m; used = a.used - len })) (sym table)
-        (comes a (Rename from name) is (sound-named sound with-name) texts refl)
+        let all = with_entry name meaning (without_entry from a.names.entries) in
+        let entries : entries_in m (with_entry name meaning (without_entry from a.names.entries))
+        ≡ renamed from name (entries_in a.chunks a.names.entries) =
+        entries-left a.chunks m (with_entry name meaning (without_entry from a.names.entries)) (all-left (bodies all) same)
+        ∙ entries-renamed in
+        let opens = opens-left a.chunks m a.open.items (all-left a.open.items same) in
+        changed (Rename from name) sound is with-name (cc) (λ _. refl) table
 
 module _ {a : Inside} {t : Texts} (sound : IsSound a) (is : kept_by a ≡ t) (name : List ℕ) {old : Option Meaning}
     (was : old ≡ entry_of name a.names.entries) where

@@ -1,10 +1,10 @@
 -- Where the strands of a store stand: they are taken out and put in, in any order.
 use Rattle.std.proofs.Common.{◌≡◌, ℕ, zero, suc, ◌<◌, ◌≤◌, true, false, inl, inr, List, [], ◌∷◌, ◌++◌, length, get_or, Option, Some, None, refl, sym, ap, subst, arith, length-append}
-use Rattle.std.specs.Prelude.{set, remove, IsPermutation, ◌==◌}
+use Rattle.std.specs.Prelude.{set, remove, sum_by, IsPermutation, ◌==◌}
 use Rattle.std.proofs.lemmas.Bool.{cases_eq}
 use Rattle.std.proofs.lemmas.Bool.Decides.{nat_tests}
 use Rattle.std.proofs.lemmas.List.{append_assoc, get_or-set_same, length-set}
-use Rattle.std.proofs.lemmas.List.Sorted.{IsPermutation-append_comm, IsPermutation-append_left, IsPermutation-append_right, IsPermutation-middle, IsPermutation-refl, IsPermutation-remove, IsPermutation-sym, IsPermutation-trans}
+use Rattle.std.proofs.lemmas.List.Sorted.{IsPermutation-append_comm, IsPermutation-append_left, IsPermutation-append_right, IsPermutation-middle, IsPermutation-refl, IsPermutation-remove, IsPermutation-sym, IsPermutation-trans, length_permutation, sum_by-IsPermutation}
 use Rattle.roff_store.specs.declared.strand.Strand.{Strand}
 use Rattle.roff_store.specs.declared.text_store.Meaning.{Meaning}
 use Rattle.roff_store.specs.declared.text_store.Meaning.TheVariants.{Body as BodyIn, Request as RequestOf}
@@ -30,6 +30,25 @@ set-none (z ∷ zs) zero none = ap (λ x. x ∷ zs) (sym none)
 set-none (z ∷ zs) (suc i) none = ap (λ l. z ∷ l) (set-none zs i none)
 
 module _ {X : Type 0} where
+  -- orders, with the lists told by them
+  pub same-order : {xs : List X} → IsPermutation xs xs
+  same-order {xs} = IsPermutation-refl xs
+
+  pub back : {xs ys : List X} → IsPermutation xs ys → IsPermutation ys xs
+  back {xs} {ys} order = IsPermutation-sym xs ys order
+
+  pub onward : {xs ys zs : List X} → IsPermutation xs ys → IsPermutation ys zs → IsPermutation xs zs
+  onward {xs} {ys} {zs} first later = IsPermutation-trans xs ys zs first later
+
+  pub behind : (xs : List X) {ys zs : List X} → IsPermutation ys zs → IsPermutation (xs ++ ys) (xs ++ zs)
+  behind xs {ys} {zs} order = IsPermutation-append_right xs ys zs order
+
+  pub same-sum : (f : X → ℕ) {xs ys : List X} → IsPermutation xs ys → sum_by f ys ≡ sum_by f xs
+  same-sum f {xs} {ys} order = sum_by-IsPermutation f xs ys order
+
+  pub same-length : {xs ys : List X} → IsPermutation xs ys → length ys ≡ length xs
+  same-length {xs} {ys} order = length_permutation xs ys order
+
   -- two parts change their places
   swap : (xs ys zs : List X) → IsPermutation (xs ++ (ys ++ zs)) (ys ++ (xs ++ zs))
   swap xs ys zs =
@@ -46,18 +65,14 @@ module _ {X : Type 0} where
 -- what a name stands for is taken out
 pub name-out : (name : List ℕ) (names : Named Meaning) → EachOnce names
     → IsPermutation (bodies names) (strands_of (entry_of name names) ++ bodies (without_entry name names))
-name-out name [] once = IsPermutation-refl []
+name-out name [] once = same-order
 name-out name (e ∷ es) once =
     elim (bytes_eq_tells name e.0) [
       | inl is ↦ (
           let absent : without_entry name es ≡ es = without_entry-absent name es (rw is.1 once.0) in
           rw (is.0, absent) (IsPermutation-refl (strands_of (Some e.1) ++ bodies es)))
       | inr other ↦ rw other.0 (
-          IsPermutation-trans (strands_of (Some e.1) ++ bodies es)
-          (strands_of (Some e.1) ++ (strands_of (entry_of name es) ++ bodies (without_entry name es)))
-          (strands_of (entry_of name es) ++ (strands_of (Some e.1) ++ bodies (without_entry name es)))
-          (IsPermutation-append_right (strands_of (Some e.1)) (bodies es)
-          (strands_of (entry_of name es) ++ bodies (without_entry name es)) (name-out name es once.1))
+          onward (behind (strands_of (Some e.1)) (name-out name es once.1))
           (swap (strands_of (Some e.1)) (strands_of (entry_of name es)) (bodies (without_entry name es))))
     ]
 
@@ -77,33 +92,27 @@ without-with name entry (e ∷ es) = let others = without-with name entry es in 
 pub name-in : (name : List ℕ) (meaning : Meaning) (names : Named Meaning) → EachOnce names
     → IsPermutation (strands_of (Some meaning) ++ bodies (without_entry name names)) (bodies (with_entry name meaning names))
 name-in name meaning names once =
-    IsPermutation-sym (bodies (with_entry name meaning names))
-    (strands_of (Some meaning) ++ bodies (without_entry name names))
-    (rw (entry-with name meaning names, without-with name meaning names) at
+    back (rw (entry-with name meaning names, without-with name meaning names) at
     (name-out name (with_entry name meaning names) (EachOnce-with_entry name meaning names once)))
 
 -- a text in the making is taken out, and put in
 pub open-out : (others opens : List Strand) (id : ℕ) (text : Strand) → id < length opens → text ≡ get_or opens id text
     → IsPermutation (others ++ opens) (text ∷ (others ++ remove opens id))
 open-out others opens id text inside is =
-    IsPermutation-trans (others ++ opens) (others ++ text ∷ remove opens id) (text ∷ (others ++ remove opens id))
-    (IsPermutation-append_right others opens (text ∷ remove opens id) (IsPermutation-remove opens id text inside is))
-    (IsPermutation-middle others text (remove opens id))
+    onward (behind others (IsPermutation-remove opens id text inside is)) (IsPermutation-middle others text (remove opens id))
 
 pub open-in : (others opens : List Strand) (id : ℕ) (text : Strand) → id < length opens
     → IsPermutation (text ∷ (others ++ remove opens id)) (others ++ set opens id text)
 open-in others opens id text inside =
     subst (λ l. IsPermutation (text ∷ (others ++ l)) (others ++ set opens id text)) (remove-set opens id text)
-    (IsPermutation-sym (others ++ set opens id text) (text ∷ (others ++ remove (set opens id text) id))
-    (open-out others (set opens id text) id text (rw (length-set opens id text) inside)
+    (back (open-out others (set opens id text) id text (rw (length-set opens id text) inside)
     (sym (get_or-set_same opens id text text inside))))
 
 -- or begun behind the others
 pub open-behind : (others opens : List Strand) (text : Strand)
     → IsPermutation (text ∷ (others ++ opens)) (others ++ (opens ++ text ∷ []))
 open-behind others opens text =
-    IsPermutation-sym (others ++ (opens ++ text ∷ [])) (text ∷ (others ++ opens))
-    (subst (λ l. IsPermutation l (text ∷ (others ++ opens))) (append_assoc others opens (text ∷ []))
+    back (subst (λ l. IsPermutation l (text ∷ (others ++ opens))) (append_assoc others opens (text ∷ []))
     (IsPermutation-append_comm (others ++ opens) (text ∷ [])))
 
 -- a lease that lives is taken out
@@ -114,30 +123,21 @@ lease-out (lease ∷ leases) zero strand lives =
     subst (λ x. IsPermutation (strands_if x ++ living leases) (strand ∷ living leases)) (sym lives)
     (IsPermutation-refl (strand ∷ living leases))
 lease-out (lease ∷ leases) (suc id) strand lives =
-    IsPermutation-trans (strands_if lease ++ living leases) (strands_if lease ++ strand ∷ living (set leases id None))
-    (strand ∷ (strands_if lease ++ living (set leases id None)))
-    (IsPermutation-append_right (strands_if lease) (living leases) (strand ∷ living (set leases id None))
-    (lease-out leases id strand lives))
+    onward (behind (strands_if lease) (lease-out leases id strand lives))
     (IsPermutation-middle (strands_if lease) strand (living (set leases id None)))
 
 -- and put in, or begun behind the others
 pub lease-in : (leases : List (Option Strand)) (id : ℕ) (strand : Strand) → id < length leases
     → IsPermutation (strand ∷ living (set leases id None)) (living (set leases id (Some strand)))
 lease-in leases id strand inside =
-    IsPermutation-sym (living (set leases id (Some strand))) (strand ∷ living (set leases id None))
-    (subst (λ l. IsPermutation (living (set leases id (Some strand))) (strand ∷ living l)) (set-set leases id (Some strand) None)
+    back (subst (λ l. IsPermutation (living (set leases id (Some strand))) (strand ∷ living l)) (set-set leases id (Some strand) None)
     (lease-out (set leases id (Some strand)) id strand (get_or-set_same leases id (Some strand) None inside)))
 
 pub lease-behind : (leases : List (Option Strand)) (strand : Strand)
     → IsPermutation (strand ∷ living leases) (living (leases ++ Some strand ∷ []))
-lease-behind [] strand = IsPermutation-refl (strand ∷ [])
+lease-behind [] strand = same-order
 lease-behind (lease ∷ leases) strand =
-    IsPermutation-trans (strand ∷ (strands_if lease ++ living leases)) (strands_if lease ++ strand ∷ living leases)
-    (strands_if lease ++ living (leases ++ Some strand ∷ []))
-    (IsPermutation-sym (strands_if lease ++ strand ∷ living leases) (strand ∷ (strands_if lease ++ living leases))
-    (IsPermutation-middle (strands_if lease) strand (living leases)))
-    (IsPermutation-append_right (strands_if lease) (strand ∷ living leases) (living (leases ++ Some strand ∷ []))
-    (lease-behind leases strand))
+    onward (back (IsPermutation-middle (strands_if lease) strand (living leases))) (behind (strands_if lease) (lease-behind leases strand))
 
 -- under a number that none has
 pub lease-begun : (leases : List (Option Strand)) (id : ℕ) (strand : Strand) → id ≤ length leases → get_or leases id None ≡ None

@@ -1,20 +1,22 @@
 -- The pool of chunks and the strands that it holds, while chunks are claimed, filled, shared and let go.
 use Rattle.std.specs.Prelude.{◌≡◌, ◌≢◌, ℕ, ◌+◌, ◌-◌, ◌*◌, ◌<◌, ◌≤◌, List, [], ◌∷◌, ◌++◌, length, get_or, map, sum_by, All, IsPermutation, Option, Some, None}
-use Rattle.std.proofs.Common.{refl, sym, ap, subst, ◌∙◌, ◌⊎◌, ⊎_elim, arith}
+use Rattle.std.proofs.Common.{refl, sym, ap, subst, ◌∙◌, ◌⊎◌, ⊎_elim, arith, length-append}
+use Rattle.std.proofs.lemmas.List.{append_assoc}
 use Rattle.std.proofs.lemmas.List.Elements.{All-append, All-cons, All-head, All-nil, All-tail, All-weaker}
 use Rattle.std.proofs.lemmas.List.Sorted.{All-permutation, sum_by-IsPermutation}
 use Rattle.std.proofs.lemmas.List.Sums.{get_or-le-sum_by, sum_by-append, sum_by-cons, sum_by-le}
 use Rattle.roff_store.specs.declared.strand.Strand.{Strand}
 use Rattle.roff_store.specs.declared.text_store.Meaning.{Meaning}
 use Rattle.roff_store.specs.declared.text_store.Meaning.TheVariants.{Body as BodyIn, Request as RequestOf}
+use Rattle.roff_store.specs.Pool.{chunks_in, ends_in, Holds, IsHeld, IsLeft, IsLonger, Leaves, rest_in, shares_by}
 use Rattle.roff_store.specs.Chains.{Chunks, bytes_of, has, link, others, share, shares_in, times_in, AreSameChunks, IsChain, IsExtended, IsShared, IsStrand, IsText}
 use Rattle.roff_store.specs.Leases.{living, strands_if}
 use Rattle.roff_store.specs.Named.{Named}
 use Rattle.roff_store.specs.Texts.{Body, bytes_in, bytes_of as bytes_in_entry, rest_of}
-use Rattle.roff_store.specs.TextStore.Strands.{Holds, bodies, chunks_in, ends_in, entries_in, entry_in, lease_in, rest_in, shares_by, strands_of}
+use Rattle.roff_store.specs.TextStore.Strands.{bodies, entries_in, entry_in, lease_in, strands_of}
 use Rattle.roff_store.proofs.Ends.{HasLast-text, ends_in-cases, ends_in-last, ends_in-other, has-past}
 use Rattle.roff_store.proofs.LyingSums.{map-same, sum_by-bound, sum_by-map-same, sum_by-same}
-use Rattle.roff_store.proofs.Leaving.{IsLeft, chunks-few, is-left, length-bytes_of, strand-left, strand-same, text-left, text-same}
+use Rattle.roff_store.proofs.Leaving.{chunks-few, is-left, length-bytes_of, strand-left, strand-same, text-left, text-same}
 
 -- what holds of all of two lists holds of all of each
 pub All-front : {X : Type 0} (P : X → Type 0) (xs ys : List X) → All P (xs ++ ys) → All P xs
@@ -49,11 +51,15 @@ Holds-order {m} {ts} {ts'} {ls} {ls'} texts leases held = record {
   within = held.within;
 }
 
--- what is behind some bytes that are put behind a text
-pub record Grown (m m' : Chunks) (t : Strand) (ts ls : List Strand) : Type 0 where
-  pub held : Holds m' (t ∷ ts) ls
-  pub texts : All (IsLeft m m') ts
-  pub leases : All (IsLeft m m') ls
+-- each strand is left, and one that is left twice is left
+pub all-left : {m m' : Chunks} (xs : List Strand) → AreSameChunks m m' → All (IsLeft m m') xs
+all-left {m} {m'} xs same k d inside = is-left m m' (get_or xs k d) same
+
+pub left-on : {m m' m'' : Chunks} (xs : List Strand) → All (IsLeft m m') xs → All (IsLeft m' m'') xs → All (IsLeft m m'') xs
+left-on xs first later k d inside = record {
+  bytes = (later k d inside).bytes ∙ (first k d inside).bytes;
+  has = λ chunk. (later k d inside).has chunk ∙ (first k d inside).has chunk;
+}
 
 -- strands have no other chunks than there are
 none-past : (m : Chunks) (xs : List Strand) (chunk : ℕ) → All (IsStrand m) xs → length m.contents ≤ chunk
@@ -63,16 +69,34 @@ none-past m xs chunk strands past =
     (λ k d inside. let e = has-past m (get_or xs k d) chunk (strands k d inside) past in omega (arith, e)) in
     omega (arith, none)
 
-module _ (claims : ℕ → ℕ) (m m' : Chunks) (text t : Strand) (bytes : List ℕ) (ts ls : List Strand) (is_text : IsText m text)
-    (texts : All (IsText m) ts) (leases : All (IsStrand m) ls)
-    (apart : (chunk : ℕ) → ends_in chunk text + sum_by (ends_in chunk) ts ≤ 1) (within : length m.contents ≤ m.most)
-    (claimed : (chunk : ℕ) → claims chunk ≡ shares_by m chunk ts + shares_by m chunk ls)
-    (extended : IsExtended claims m text bytes m' t) where
+module _ {m m' : Chunks} {text t : Strand} {bytes : List ℕ} (extended : IsExtended (others m text) m text bytes m' t)
+    (ts ls : List Strand) (held : Holds m (text ∷ ts) ls) where
+  texts : All (IsText m) ts
+  texts = All-tail (IsText m) text ts held.texts
+
   strands : All (IsStrand m) ts
   strands = All-weaker (IsText m) (IsStrand m) (λ x is_x. is_x.strand) ts texts
 
+  is_text : IsText m text
+  is_text = All-head (IsText m) text ts held.texts
+
+  -- the chunks of the others are claimed
+  claimed : (chunk : ℕ) → others m text chunk ≡ shares_by m chunk ts + shares_by m chunk ls
+  claimed chunk = omega (arith, held.shares chunk, sum_by-cons (λ x. has m x chunk) text ts)
+
+  claimed-by : (xs : List Strand) → ((chunk : ℕ) → shares_by m chunk xs ≤ others m text chunk)
+      → All (λ x. (chunk : ℕ) → 0 < has m x chunk → 0 < others m text chunk) xs
+  claimed-by xs few k d inside chunk some =
+      omega (arith, get_or-le-sum_by (λ x. has m x chunk) xs k d inside, few chunk, some)
+
+  few-texts : (chunk : ℕ) → shares_by m chunk ts ≤ others m text chunk
+  few-texts chunk = omega (arith, claimed chunk)
+
+  few-leases : (chunk : ℕ) → shares_by m chunk ls ≤ others m text chunk
+  few-leases chunk = omega (arith, claimed chunk)
+
   -- nothing comes behind the chunk that may get longer
-  end : 0 < claims text.last → m.most ≤ link m text.last
+  end : 0 < others m text text.last → m.most ≤ link m text.last
   end some =
       ⊎_elim
       (λ (e : text.chunks ≡ 0). absurd (omega (
@@ -80,9 +104,9 @@ module _ (claims : ℕ → ℕ) (m m' : Chunks) (text t : Strand) (bytes : List 
         some,
         claimed text.last,
         is_text.none e,
-        within,
-        none-past m ts text.last strands (omega (arith, is_text.none e, within)),
-        none-past m ls text.last leases (omega (arith, is_text.none e, within)),
+        held.within,
+        none-past m ts text.last strands (omega (arith, is_text.none e, held.within)),
+        none-past m ls text.last held.leases (omega (arith, is_text.none e, held.within)),
       )))
       (λ (e : 0 < text.chunks). (is_text.ends e).end)
       (let cases : (text.chunks ≡ 0) ⊎ (0 < text.chunks) = grind arith in cases)
@@ -94,33 +118,23 @@ module _ (claims : ℕ → ℕ) (m m' : Chunks) (text t : Strand) (bytes : List 
       let last = HasLast-text m x (texts k d inside) some in
       let one = get_or-le-sum_by (ends_in text.last) ts k d inside in
       let here = subst (λ c. ends_in c x ≡ 1) same (ends_in-last x some) in
+      let all = sum_by-cons (ends_in text.last) text ts in
       ⊎_elim
-      (λ (e : text.chunks ≡ 0). absurd (omega (arith, is_text.none e, last.chunk, same, within)))
-      (λ (e : 0 < text.chunks). absurd (omega (arith, apart text.last, one, ends_in-last text e, here)))
+      (λ (e : text.chunks ≡ 0). absurd (omega (arith, is_text.none e, last.chunk, same, held.within)))
+      (λ (e : 0 < text.chunks). absurd (omega (arith, held.apart text.last, all, one, ends_in-last text e, here)))
       (let cases : (text.chunks ≡ 0) ⊎ (0 < text.chunks) = grind arith in cases)
 
-  -- the chunks of strands of the store are claimed
-  claimed-by : (xs : List Strand) → ((chunk : ℕ) → shares_by m chunk xs ≤ claims chunk)
-      → All (λ x. (chunk : ℕ) → 0 < has m x chunk → 0 < claims chunk) xs
-  claimed-by xs few k d inside chunk some =
-      omega (arith, get_or-le-sum_by (λ x. has m x chunk) xs k d inside, few chunk, some)
-
-  strands-grown : (xs : List Strand) → All (IsStrand m) xs → ((chunk : ℕ) → shares_by m chunk xs ≤ claims chunk)
+  strands-grown : (xs : List Strand) → All (IsStrand m) xs → ((chunk : ℕ) → shares_by m chunk xs ≤ others m text chunk)
       → All (λ x. IsStrand m' x × IsLeft m m' x) xs
   strands-grown xs all few k d inside =
-      strand-left claims text.last m m' (get_or xs k d) extended.leaves within end (all k d inside) (claimed-by xs few k d inside)
-
-  few-texts : (chunk : ℕ) → shares_by m chunk ts ≤ claims chunk
-  few-texts chunk = omega (arith, claimed chunk)
-
-  few-leases : (chunk : ℕ) → shares_by m chunk ls ≤ claims chunk
-  few-leases chunk = omega (arith, claimed chunk)
+      strand-left (others m text) text.last m m' (get_or xs k d) extended.leaves held.within end (all k d inside)
+      (claimed-by xs few k d inside)
 
   left-texts : All (IsLeft m m') ts
   left-texts k d inside = (strands-grown ts strands few-texts k d inside).1
 
   left-leases : All (IsLeft m m') ls
-  left-leases k d inside = (strands-grown ls leases few-leases k d inside).1
+  left-leases k d inside = (strands-grown ls held.leases few-leases k d inside).1
 
   -- none of them ends where the longer one does
   apart-grown : (chunk : ℕ) → ends_in chunk t + sum_by (ends_in chunk) ts ≤ 1
@@ -132,19 +146,19 @@ module _ (claims : ℕ → ℕ) (m m' : Chunks) (text t : Strand) (bytes : List 
       extended.apart x.last (claimed-by ts few-texts k d inside x.last last.has) (elsewhere k d inside some) same) in
       omega (arith, other)) in
       ⊎_elim
-      (λ (e : ends_in chunk t ≡ 0). omega (arith, apart chunk, e))
+      (λ (e : ends_in chunk t ≡ 0). omega (arith, held.apart chunk, sum_by-cons (ends_in chunk) text ts, e))
       (λ (e : (ends_in chunk t ≡ 1) × (t.last ≡ chunk)).
       let nothing = subst (λ c. sum_by (ends_in c) ts ≤ length ts * 0) e.1 none in omega (arith, nothing, e.0))
       (ends_in-cases chunk t)
 
   -- bytes are put behind a text
-  pub grown : shares_in m' ≡ t.chunks + chunks_in ts + chunks_in ls → Grown m m' t ts ls
+  grown : shares_in m' + text.chunks ≡ shares_in m + t.chunks → Leaves m m' (t ∷ []) [] ts ls
   grown sum = record {
     held = record {
       texts = All-cons (IsText m') t ts extended.text (λ k d inside.
-          text-left claims text.last m m' (get_or ts k d) extended.leaves within end (texts k d inside)
+          text-left (others m text) text.last m m' (get_or ts k d) extended.leaves held.within end (texts k d inside)
           (claimed-by ts few-texts k d inside) (elsewhere k d inside));
-      leases = λ k d inside. (strands-grown ls leases few-leases k d inside).0;
+      leases = λ k d inside. (strands-grown ls held.leases few-leases k d inside).0;
       shares = λ chunk.
           omega (
             arith,
@@ -154,36 +168,79 @@ module _ (claims : ℕ → ℕ) (m m' : Chunks) (text t : Strand) (bytes : List 
             sum_by-same (λ x. has m' x chunk) (λ x. has m x chunk) ts (λ k d inside. (left-texts k d inside).has chunk),
             sum_by-same (λ x. has m' x chunk) (λ x. has m x chunk) ls (λ k d inside. (left-leases k d inside).has chunk),
           );
-      sum = omega (arith, sum, sum_by-cons (λ (x : Strand). x.chunks) t ts);
+      sum =
+          let chunks : Strand → ℕ = λ x. x.chunks in
+          omega (arith, sum, held.sum, sum_by-cons chunks text ts, sum_by-cons chunks t ts);
       apart = λ chunk. omega (arith, apart-grown chunk, sum_by-cons (ends_in chunk) t ts);
       within = extended.within;
     };
-    texts = left-texts;
-    leases = left-leases;
+    texts_left = left-texts;
+    leases_left = left-leases;
   }
 
--- bytes are put behind a text, and perhaps the strand goes in which they lay
-pub extended : {m m' : Chunks} {text t : Strand} {bytes : List ℕ} {ts ls : List Strand} → Holds m (text ∷ ts) ls
-    → IsExtended (others m text) m text bytes m' t → shares_in m' + text.chunks ≡ shares_in m + t.chunks → Grown m m' t ts ls
-extended {m} {m'} {text} {t} {bytes} {ts} {ls} held longer sum =
-    grown (others m text) m m' text t bytes ts ls (All-head (IsText m) text ts held.texts)
-    (All-tail (IsText m) text ts held.texts) held.leases
-    (λ chunk. omega (arith, held.apart chunk, sum_by-cons (ends_in chunk) text ts)) held.within
-    (λ chunk. omega (arith, held.shares chunk, sum_by-cons (λ x. has m x chunk) text ts)) longer
-    (omega (arith, sum, held.sum, sum_by-cons (λ (x : Strand). x.chunks) text ts))
+pub longer : {m m' : Chunks} {s t : Strand} {bytes : List ℕ} → IsExtended (others m s) m s bytes m' t
+    → shares_in m' + s.chunks ≡ shares_in m + t.chunks → IsLonger m s [] bytes m' t []
+longer extended sum = record {
+  leaves = λ ts ls held. grown extended ts ls held sum;
+  bytes_are = extended.bytes;
+  len = extended.len;
+  most = extended.leaves.most;
+}
 
-pub appended : {m m' : Chunks} {to from t : Strand} {bytes : List ℕ} {ts ls : List Strand} → Holds m (to ∷ from ∷ ts) ls
-    → IsExtended (λ chunk. others m to chunk - has m from chunk) m to bytes m' t
-    → shares_in m' + to.chunks + from.chunks ≡ shares_in m + t.chunks → Grown m m' t ts ls
-appended {m} {m'} {to} {from} {t} {bytes} {ts} {ls} held longer sum =
-    grown (λ chunk. others m to chunk - has m from chunk) m m' to t bytes ts ls
-    (All-head (IsText m) to (from ∷ ts) held.texts)
-    (All-behind (IsText m) (to ∷ from ∷ []) ts held.texts) held.leases
-    (λ chunk. omega (arith, held.apart chunk, sum_by-cons (ends_in chunk) to (from ∷ ts), sum_by-cons (ends_in chunk) from ts))
-    held.within
-    (λ chunk. omega (arith, held.shares chunk, sum_by-cons (λ x. has m x chunk) to (from ∷ ts), sum_by-cons (λ x. has m x chunk) from ts))
-    longer
-    (omega (arith, sum, held.sum, sum_by-cons (λ (x : Strand). x.chunks) to (from ∷ ts), sum_by-cons (λ (x : Strand). x.chunks) from ts))
+-- what is held: a text, which has its chunks, and stays held with more bytes behind it
+pub held-text : {m : Chunks} {s : Strand} {reads : List Strand} → IsHeld m s reads → IsText m s
+held-text {m} {s} h = All-head (IsText m) s h.ts h.held.texts
+
+pub longer-held : {m m' : Chunks} {s t : Strand} {was now : List Strand} {bytes : List ℕ} → IsHeld m s was → IsLonger m s was bytes m' t now → IsHeld m' t now
+longer-held h more = record { ts = h.ts; ls = h.ls; held = (more.leaves h.ts h.ls h.held).held }
+
+-- a text that is read is no text any more
+pub text-read-on : {m : Chunks} {to from : Strand} {ts ls : List Strand} → Holds m (to ∷ from ∷ ts) ls → Holds m (to ∷ ts) (from ∷ ls)
+text-read-on {m} {to} {from} {ts} {ls} held =
+    let first = All-tail (IsText m) to (from ∷ ts) held.texts in
+    let text = All-head (IsText m) from ts first in
+    record {
+      texts = All-cons (IsText m) to ts (All-head (IsText m) to (from ∷ ts) held.texts) (All-tail (IsText m) from ts first);
+      leases = All-cons (IsStrand m) from ls text.strand held.leases;
+      shares = λ chunk.
+          let f : Strand → ℕ = λ x. has m x chunk in
+          omega (arith, held.shares chunk, sum_by-cons f to (from ∷ ts), sum_by-cons f from ts, sum_by-cons f to ts, sum_by-cons f from ls);
+      sum =
+          let f : Strand → ℕ = λ x. x.chunks in
+          omega (arith, held.sum, sum_by-cons f to (from ∷ ts), sum_by-cons f from ts, sum_by-cons f to ts, sum_by-cons f from ls);
+      apart = λ chunk.
+          let f = ends_in chunk in
+          omega (arith, held.apart chunk, sum_by-cons f to (from ∷ ts), sum_by-cons f from ts, sum_by-cons f to ts);
+      within = held.within;
+    }
+
+-- bytes are put behind a text twice, or beside what is read
+pub longer-on : {m0 m1 m2 : Chunks} {s0 s1 s2 : Strand} {was between now : List Strand} {done more : List ℕ}
+    → IsLonger m0 s0 was done m1 s1 between → IsLonger m1 s1 between more m2 s2 now → IsLonger m0 s0 was (done ++ more) m2 s2 now
+longer-on {m0} {m1} {m2} {s0} {s1} {s2} {was} {between} {now} {done} {more} before behind = record {
+  leaves = λ ts ls held.
+      let first = before.leaves ts ls held in
+      let later = behind.leaves ts ls first.held in
+      record {
+        held = later.held;
+        texts_left = left-on ts first.texts_left later.texts_left;
+        leases_left = left-on ls first.leases_left later.leases_left;
+      };
+  bytes_are = behind.bytes_are ∙ ap (λ bytes. bytes ++ more) before.bytes_are ∙ append_assoc (bytes_of m0 s0) done more;
+  len = omega (arith, before.len, behind.len, length-append done more);
+  most = behind.most ∙ before.most;
+}
+
+pub longer-beside : {m m' : Chunks} {s t : Strand} {bytes : List ℕ} → IsLonger m s [] bytes m' t [] → (read : Strand)
+    → IsLonger m s (read ∷ []) bytes m' t (read ∷ [])
+longer-beside {m} {m'} more read = record {
+  leaves = λ ts ls held.
+      let all = more.leaves ts (read ∷ ls) held in
+      record { held = all.held; texts_left = all.texts_left; leases_left = All-tail (IsLeft m m') read ls all.leases_left };
+  bytes_are = more.bytes_are;
+  len = more.len;
+  most = more.most;
+}
 
 -- texts and leases go and leases come, by shares alone
 pub reshared : {m m' : Chunks} (gone : List Strand) {ts : List Strand} (ended begun ls : List Strand)
@@ -225,6 +282,12 @@ pub leases-shared : {m : Chunks} {ts ls : List Strand} → Holds m ts ls → All
 leases-shared {m} {ts} {ls} held k d inside chunk =
     omega (arith, held.shares chunk, get_or-le-sum_by (λ x. has m x chunk) ls k d inside)
 
+pub held-shared : {m : Chunks} {s : Strand} {reads : List Strand} → IsHeld m s reads → IsShared m s
+held-shared {m} {s} h = All-head (IsShared m) s h.ts (texts-shared h.held)
+
+pub read-shared : {m : Chunks} {s read : Strand} → IsHeld m s (read ∷ []) → IsShared m read
+read-shared {m} {s} {read} h = All-head (IsShared m) read h.ls (leases-shared h.held)
+
 -- a text without bytes takes none
 pub blank-text : (m : Chunks) (s : Strand) → m.most ≤ s.last → s.chunks ≡ 0 → s.at ≡ 0 → s.rest ≡ 0 → IsText m s
 blank-text m s last none at rest = record {
@@ -251,16 +314,6 @@ blank-held {m} {ts} {ls} s held text none = record {
       let nothing : ends_in chunk s ≡ 0 = rw none refl in
       omega (arith, held.apart chunk, nothing, sum_by-cons (ends_in chunk) s ts);
   within = held.within;
-}
-
--- each strand is left, and one that is left twice is left
-pub all-left : {m m' : Chunks} (xs : List Strand) → AreSameChunks m m' → All (IsLeft m m') xs
-all-left {m} {m'} xs same k d inside = is-left m m' (get_or xs k d) same
-
-pub left-on : {m m' m'' : Chunks} (xs : List Strand) → All (IsLeft m m') xs → All (IsLeft m' m'') xs → All (IsLeft m m'') xs
-left-on xs first later k d inside = record {
-  bytes = (later k d inside).bytes ∙ (first k d inside).bytes;
-  has = λ chunk. (later k d inside).has chunk ∙ (first k d inside).has chunk;
 }
 
 -- what strands that are left give is as it was

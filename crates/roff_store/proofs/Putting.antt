@@ -3,8 +3,7 @@ use Rattle.std.proofs.Common.{◌≡◌, ℕ, ◌+◌, ◌-◌, ◌*◌, ◌<◌
 use Rattle.std.specs.Prelude.{vec_len, vec_capacity, IsPermutation, ◌||◌, if◌then◌else◌}
 use Rattle.std.proofs.lemmas.Bool.Decides.{nat_tests}
 use Rattle.std.proofs.lemmas.List.{nil_from_length}
-use Rattle.std.proofs.lemmas.List.Elements.{All-head, All-nil}
-use Rattle.std.proofs.lemmas.List.Sorted.{IsPermutation-refl, IsPermutation-sym, sum_by-IsPermutation}
+use Rattle.std.proofs.lemmas.List.Elements.{All-nil}
 use Rattle.std.proofs.lemmas.List.Sums.{sum_by-append}
 use Rattle.roff_num.specs.declared.limit.Limit.{Limit}
 use Rattle.roff_num.specs.declared.limit.Limit.TheVariants.{Names, Store}
@@ -12,20 +11,21 @@ use Rattle.roff_store.specs.declared.strand.Strand.{Strand}
 use Rattle.roff_store.specs.declared.text_store.Meaning.{Meaning}
 use Rattle.roff_store.specs.declared.text_store.Meaning.TheVariants.{Body as BodyIn, Request as RequestOf}
 use Rattle.roff_store.specs.declared.text_store.TextStore.TheInside.{Inside}
-use Rattle.roff_store.specs.Chains.{Chunks, bytes_of, chain_bytes, others, share, shares_in, AreSameChunks, IsExtended, IsShared, IsStrand, IsText}
+use Rattle.roff_store.specs.Pool.{chunks_in, Holds, IsHeld, IsLeft, IsLonger, rest_in, shares_by}
+use Rattle.roff_store.specs.Chains.{Chunks, bytes_of, chain_bytes, share, shares_in, AreSameChunks, IsStrand, IsText}
 use Rattle.roff_store.specs.Leases.{living}
 use Rattle.roff_store.specs.Named.{Table, admitted, entry_of, has_room, put_into, with_entry, without_entry}
 use Rattle.roff_store.specs.Texts.{Entry, Body, Request, Texts, body_of, bytes_of as bytes_in_entry, used}
 use Rattle.roff_store.specs.TextCalls.{Append, Set, answered, made, with_name, within_bytes}
-use Rattle.roff_store.specs.TextStore.Kept.{IsSound, kept_by, texts_in}
-use Rattle.roff_store.specs.TextStore.Strands.{Holds, bodies, chunks_in, entries_in, entry_in, rest_in, shares_by, strands_of}
+use Rattle.roff_store.specs.TextStore.Kept.{IsSound, kept_by}
+use Rattle.roff_store.specs.TextStore.Strands.{bodies, entries_in, entry_in, strands_of}
 use Rattle.roff_store.proofs.CountedTexts.{bytes-with}
 use Rattle.roff_store.proofs.Entries.{EachOnce-with_entry, length-with_entry}
-use Rattle.roff_store.proofs.Keeping.{Comes, admitted-kept, body-kept, body-long, comes, old-few, out, room-left, used-kept, used-out, within-sound}
-use Rattle.roff_store.proofs.Leaving.{IsLeft, chunks-enough}
+use Rattle.roff_store.proofs.Keeping.{Comes, IsChanged, admitted-kept, body-kept, body-long, changed, old-few, out, room-left, used-kept, used-out}
+use Rattle.roff_store.proofs.Leaving.{chunks-enough}
 use Rattle.roff_store.proofs.NameSums.{map-with, once-map}
-use Rattle.roff_store.proofs.Places.{beside, name-in}
-use Rattle.roff_store.proofs.Pool.{All-behind, All-front, Holds-order, all-left, blank-held, blank-text, entries-left, extended, left-on, leases-left, opens-left, reshared, texts-shared}
+use Rattle.roff_store.proofs.Places.{back, beside, name-in, same-order, same-sum}
+use Rattle.roff_store.proofs.Pool.{All-behind, All-front, Holds-order, all-left, blank-held, blank-text, entries-left, held-text, left-on, opens-left, reshared}
 
 -- a name is to stand for an entry: what it stands for lies in the chunks, beside all else
 pub record IsReady (a : Inside) (name : List ℕ) (entry : Entry) (meaning : Meaning) (m : Chunks) (opens : List Strand) : Type 0 where
@@ -54,33 +54,25 @@ known-room name names was some tells test =
     ∙ ap (λ k. k || nat_lt (length names.entries) names.cap) (sym some) ∙ sym tells ∙ test
 
 module _ {a : Inside} (sound : IsSound a) {name : List ℕ} {entry : Entry} {meaning : Meaning} {m : Chunks} (opens : Vec Strand Global)
-    (ready : IsReady a name entry meaning m opens.items) (room : has_room name a.names ≡ true) (count : ℕ)
-    (counted : count
-    ≡ rest_in (strands_of (Some meaning)) + rest_in (bodies (without_entry name a.names.entries) ++ opens.items))
-    (within : count ≤ a.cap_bytes) (taken : vec_len opens ≤ a.cap_open) (reserved : vec_capacity opens ≡ a.cap_open) where
-  abbrev now : Inside
-  now =
-      record a {
-        names = record a.names { entries = with_entry name meaning a.names.entries };
-        chunks = m;
-        «open» = opens;
-        used = count;
-      }
-
+    (ready : IsReady a name entry meaning m opens.items) where
   -- the strands of all texts
-  order : IsPermutation (strands_of (Some meaning) ++ (bodies (without_entry name a.names.entries) ++ opens.items)) (texts_in now)
+  order : IsPermutation (strands_of (Some meaning) ++ (bodies (without_entry name a.names.entries) ++ opens.items))
+      (bodies (with_entry name meaning a.names.entries) ++ opens.items)
   order =
-      IsPermutation-sym (texts_in now) (strands_of (Some meaning) ++ (bodies (without_entry name a.names.entries) ++ opens.items))
-      (beside (bodies (with_entry name meaning a.names.entries)) (strands_of (Some meaning))
-      (bodies (without_entry name a.names.entries)) opens.items
-      (IsPermutation-sym (strands_of (Some meaning) ++ bodies (without_entry name a.names.entries))
-      (bodies (with_entry name meaning a.names.entries)) (name-in name meaning a.names.entries sound.once)))
+      back (beside (bodies (with_entry name meaning a.names.entries)) (strands_of (Some meaning))
+      (bodies (without_entry name a.names.entries)) opens.items (back (name-in name meaning a.names.entries sound.once)))
 
-  pub sound-put : IsSound now
-  sound-put =
+  -- the name is given what is ready
+  pub put-changed : has_room name a.names ≡ true → (count : ℕ)
+      → count ≡ rest_in (strands_of (Some meaning)) + rest_in (bodies (without_entry name a.names.entries) ++ opens.items)
+      → count ≤ a.cap_bytes → vec_len opens ≤ a.cap_open → vec_capacity opens ≡ a.cap_open
+      → IsChanged a m (with_entry name meaning a.names.entries) opens count
+  put-changed room count counted within taken reserved =
       let rest : Strand → ℕ = λ x. x.rest in
       record {
-        held = Holds-order order (IsPermutation-refl (living a.leases.items)) ready.held;
+        held = Holds-order order same-order ready.held;
+        leases = ready.leases;
+        most = ready.most;
         once = EachOnce-with_entry name meaning a.names.entries sound.once;
         few =
             let long = length-with_entry name meaning a.names.entries in
@@ -89,25 +81,19 @@ module _ {a : Inside} (sound : IsSound a) {name : List ℕ} {entry : Entry} {mea
             omega (
               arith,
               counted,
+              same-sum rest order,
               sum_by-append rest (strands_of (Some meaning)) (bodies (without_entry name a.names.entries) ++ opens.items),
-              sum_by-IsPermutation rest
-                  (strands_of (Some meaning) ++ (bodies (without_entry name a.names.entries) ++ opens.items)) (texts_in now) order,
             );
         within = within;
-        given = sound.given;
-        kept_within = sound.kept_within;
-        opens = taken;
-        opens_reserved = reserved;
-        leases = sound.leases;
-        leases_cap = sound.leases_cap;
-        room = rw ready.most sound.room;
-        most = rw ready.most sound.most;
+        taken = taken;
+        reserved = reserved;
       }
 
-  -- what the store keeps
-  pub texts-put : kept_by now ≡ record (with_name name entry (kept_by a)) { open_texts = map (bytes_of a.chunks) opens.items }
-  texts-put =
-      let others = bodies (without_entry name a.names.entries) in
+  pub put-texts : record (kept_by a) {
+    names = record { entries = entries_in m (with_entry name meaning a.names.entries); cap = a.names.cap };
+    open_texts = map (bytes_of m) opens.items;
+  } ≡ record (with_name name entry (kept_by a)) { open_texts = map (bytes_of a.chunks) opens.items }
+  put-texts =
       let names : entries_in m (with_entry name meaning a.names.entries)
       ≡ with_entry name entry (entries_in a.chunks a.names.entries) =
       map-with (entry_in a.chunks) (entry_in m) name meaning a.names.entries sound.once
@@ -116,14 +102,13 @@ module _ {a : Inside} (sound : IsSound a) {name : List ℕ} {entry : Entry} {mea
       ∙ ap (λ (x : Entry). with_entry name x (entries_in a.chunks a.names.entries)) ready.entry_is in
       let texts = opens-left a.chunks m opens.items
       (All-behind (IsLeft a.chunks m) (bodies (without_entry name a.names.entries)) opens.items ready.texts) in
-      let leases = leases-left a.chunks m a.leases.items ready.leases in
       cc
 
-  -- a table is the one in which the name is put
-  pub put-table : {names : Table Meaning} → names ≡ put_into name meaning a.names
-      → names ≡ record a.names { entries = with_entry name meaning a.names.entries }
-  put-table put =
-      put ∙ ap (λ b. if b then record a.names { entries = with_entry name meaning a.names.entries } else a.names) room
+-- a table is the one in which the name is put
+pub put-table : (name : List ℕ) (meaning : Meaning) (table : Table Meaning) {names : Table Meaning} → has_room name table ≡ true
+    → names ≡ put_into name meaning table → names ≡ record table { entries = with_entry name meaning table.entries }
+put-table name meaning table room put =
+    put ∙ ap (λ b. if b then record table { entries = with_entry name meaning table.entries } else table) room
 
 -- a name is set
 pub set-comes : {a : Inside} {t : Texts} → IsSound a → kept_by a ≡ t → {name : List ℕ} {entry : Entry} {meaning : Meaning} {m : Chunks}
@@ -131,16 +116,11 @@ pub set-comes : {a : Inside} {t : Texts} → IsSound a → kept_by a ≡ t → {
     → count ≡ rest_in (strands_of (Some meaning)) + rest_in (bodies (without_entry name a.names.entries) ++ a.open.items)
     → count ≤ a.cap_bytes → {names : Table Meaning} → names ≡ put_into name meaning a.names
     → Comes (Set name entry) t (record a { names = names; chunks = m; used = count })
-set-comes {a} {t} sound is {name} {entry} {meaning} {m} ready room count counted within {names} put =
-    let now_sound = sound-put sound a.open ready room count counted within sound.opens sound.opens_reserved in
-    let texts : kept_by (record a { names = record a.names { entries = with_entry name meaning a.names.entries }; chunks = m; used = count })
-    ≡ made (Set name entry) (kept_by a) = texts-put sound a.open ready room count counted within sound.opens sound.opens_reserved in
-    let allowed : answered (Set name entry) (kept_by a) ≡ Ok tt =
-    subst (λ (x : Texts). within_bytes x (admitted name (kept_by a).names) ≡ admitted name (kept_by a).names) texts
-    (within-sound now_sound (admitted name (kept_by a).names)) ∙ admitted-kept sound name true room in
-    subst (λ (x : Table Meaning). Comes (Set name entry) t (record a { names = x; chunks = m; used = count }))
-    (sym (put-table sound a.open ready room count counted within sound.opens sound.opens_reserved put))
-    (comes a (Set name entry) is now_sound texts allowed)
+set-comes {a} {t} sound is {name} {entry} {meaning} ready room count counted within put =
+    changed (Set name entry) sound is
+    (put-changed sound a.open ready room count counted within sound.opens sound.opens_reserved) (put-texts sound a.open ready)
+    (λ fits. ap (within_bytes (made (Set name entry) (kept_by a))) (admitted-kept sound name true room) ∙ fits)
+    (put-table name meaning a.names room put)
 
 module _ {a : Inside} {t : Texts} (sound : IsSound a) (is : kept_by a ≡ t) (name : List ℕ) {old : Option Meaning}
     (was : old ≡ entry_of name a.names.entries) {len : ℕ} (long : len ≡ rest_in (strands_of old)) where
@@ -211,20 +191,26 @@ module _ {a : Inside} {t : Texts} (sound : IsSound a) (is : kept_by a ≡ t) (na
       blank-room count fits =
           omega (arith, fits, room-left sound, sum, old-few sound name was, old-within, long, same.most, rest, none, sound.within)
 
+      pub blank-held-out : IsHeld m blank []
+      blank-held-out = record {
+        ts = bodies (without_entry name a.names.entries) ++ a.open.items;
+        ls = living a.leases.items;
+        held = blank-held blank gone blank-begun none;
+      }
+
       -- and bytes are put behind it
-      pub ready-body : {m' : Chunks} {longer : Strand} {bytes : List ℕ} → IsExtended (others m blank) m blank bytes m' longer
-          → shares_in m' + blank.chunks ≡ shares_in m + longer.chunks
+      pub ready-body : {m' : Chunks} {longer : Strand} {bytes : List ℕ} → IsLonger m blank [] bytes m' longer []
           → IsReady a name (Body bytes) (BodyIn longer) m' a.open.items
-      ready-body {m'} {longer} {bytes} more sum' =
+      ready-body {m'} {longer} {bytes} more =
           let rests = bodies (without_entry name a.names.entries) ++ a.open.items in
-          let had = extended (blank-held blank gone blank-begun none) more sum' in
+          let had = more.leaves rests (living a.leases.items) (blank-held blank gone blank-begun none) in
           let empty : bytes_of m blank ≡ [] = ap (λ n. take n (drop blank.at (chain_bytes m blank.chunks blank.first))) rest in
           record {
             held = had.held;
-            texts = left-on rests (all-left rests same) had.texts;
-            leases = left-on (living a.leases.items) (all-left (living a.leases.items) same) had.leases;
-            entry_is = ap (λ (x : List ℕ). Body x) (more.bytes ∙ ap (λ (x : List ℕ). x ++ bytes) empty);
-            most = more.leaves.most ∙ same.most;
+            texts = left-on rests (all-left rests same) had.texts_left;
+            leases = left-on (living a.leases.items) (all-left (living a.leases.items) same) had.leases_left;
+            entry_is = ap (λ (x : List ℕ). Body x) (more.bytes_are ∙ ap (λ (x : List ℕ). x ++ bytes) empty);
+            most = more.most ∙ same.most;
           }
 
 -- what is put behind nothing is the new body
@@ -237,13 +223,12 @@ behind-none {a} sound is name bytes was none =
 -- bytes are put behind a body
 module _ {a : Inside} {t : Texts} (sound : IsSound a) (is : kept_by a ≡ t) (name : List ℕ) {strand : Strand}
     (found : Some (BodyIn strand) ≡ entry_of name a.names.entries) where
-  pub body-text : IsText a.chunks strand
-  body-text = All-head (IsText a.chunks) strand (bodies (without_entry name a.names.entries) ++ a.open.items) (out sound name found).texts
-
-  pub body-shared : IsShared a.chunks strand
-  body-shared =
-      All-head (IsShared a.chunks) strand (bodies (without_entry name a.names.entries) ++ a.open.items)
-      (texts-shared (out sound name found))
+  pub body-held : IsHeld a.chunks strand []
+  body-held = record {
+    ts = bodies (without_entry name a.names.entries) ++ a.open.items;
+    ls = living a.leases.items;
+    held = out sound name found;
+  }
 
   used-body : a.used ≡ strand.rest + rest_in (bodies (without_entry name a.names.entries) ++ a.open.items)
   used-body = omega (arith, used-out sound name found)
@@ -262,24 +247,23 @@ module _ {a : Inside} {t : Texts} (sound : IsSound a) (is : kept_by a ≡ t) (na
   -- there is room
   pub append-room : (count : ℕ) → count ≤ a.cap_bytes - a.used
       → 120 * shares_in a.chunks + strand.rest + count + 119 ≤ 120 * (a.chunks.most + strand.chunks)
-  append-room count fits = omega (arith, fits, room-left sound, chunks-enough a.chunks strand body-text.strand)
+  append-room count fits = let text = held-text body-held in omega (arith, fits, room-left sound, chunks-enough a.chunks strand text.strand)
 
   pub append-short : (count : ℕ) → count ≤ a.cap_bytes - a.used → strand.rest + count ≤ a.cap_bytes
   append-short count fits = omega (arith, fits, used-body, sound.within)
 
   pub appended : {m : Chunks} {longer : Strand} {bytes : List ℕ} → length bytes ≤ a.cap_bytes - a.used
-      → IsExtended (others a.chunks strand) a.chunks strand bytes m longer
-      → shares_in m + strand.chunks ≡ shares_in a.chunks + longer.chunks → {names : Table Meaning}
+      → IsLonger a.chunks strand [] bytes m longer [] → {names : Table Meaning}
       → names ≡ put_into name (BodyIn longer) a.names
       → Comes (Append name bytes) t (record a { names = names; chunks = m; used = a.used + length bytes })
-  appended {m} {longer} {bytes} fits more sum {names} put =
-      let had = extended (out sound name found) more sum in
+  appended {m} {longer} {bytes} fits more {names} put =
+      let had = more.leaves (bodies (without_entry name a.names.entries) ++ a.open.items) (living a.leases.items) (out sound name found) in
       let ready : IsReady a name (Body (body_of name (kept_by a) ++ bytes)) (BodyIn longer) m a.open.items = record {
         held = had.held;
-        texts = had.texts;
-        leases = had.leases;
-        entry_is = ap (λ (x : List ℕ). Body x) (more.bytes ∙ ap (λ (x : List ℕ). x ++ bytes) (sym (body-kept sound name found)));
-        most = more.leaves.most;
+        texts = had.texts_left;
+        leases = had.leases_left;
+        entry_is = ap (λ (x : List ℕ). Body x) (more.bytes_are ∙ ap (λ (x : List ℕ). x ++ bytes) (sym (body-kept sound name found)));
+        most = more.most;
       } in
       let room : has_room name a.names ≡ true = rw (← found) refl in
       let set = set-comes sound refl ready room (a.used + length bytes)

@@ -5,6 +5,7 @@ pub mod Registers
 pub mod Laws
 pub mod Chains
 pub mod Chunks
+pub mod Pool
 pub mod Texts
 pub mod TextCalls
 pub mod Leased

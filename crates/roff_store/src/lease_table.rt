@@ -1,6 +1,7 @@
 //! Leases by their numbers: the number of one that has ended serves again.
 
-ghost use Rattle.std.specs.Prelude.{◌≡◌, ◌<◌, ◌≤◌, [], IfOk, IsSome, None, Some, get_or, length, set};
+ghost use Rattle.std.specs.Prelude.{◌≡◌, ◌<◌, ◌≤◌, [], IfOk, IsSome, IsTrue, None};
+ghost use Rattle.std.specs.Prelude.{◌↔◌, Some, get_or, length, set};
 ghost use Rattle.roff_store.specs.Leases.{begun, living};
 
 use crate::strand::Strand;
@@ -41,12 +42,12 @@ impl LeaseTable {
         })
     }
 
-    /// How many leases live.
+    /// Whether one lease more may live.
     #[inline]
-    pub(crate) fn living(&self) -> usize
-        ensures { result ≡ length (living self.now.items) }
+    pub(crate) fn has_room(&self) -> bool
+        ensures { IsTrue result ↔ (length (living self.now.items) < self.now.cap) }
     {
-        self.leases.len() - self.ended.len()
+        self.leases.len() - self.ended.len() < self.cap as usize
     }
 
     /// The lease of a number, if it lives.
@@ -61,11 +62,11 @@ impl LeaseTable {
 
     /// The lease of a number that one has or had.
     #[inline(always)]
-    pub(crate) fn at(&self, id: u32) -> Option<Strand>
+    pub(crate) fn at(&self, id: u32) -> &Option<Strand>
         requires { id < length self.now.items }
-        ensures { result ≡ get_or self.now.items id None }
+        ensures { result.now ≡ get_or self.now.items id None }
     {
-        self.leases[id as usize]
+        &self.leases[id as usize]
     }
 
     /// Begins a lease.

@@ -52,7 +52,6 @@ pub struct TextStore {
     kept: usize,
     cap_bytes: u32,
     cap_open: u32,
-    cap_leases: u32,
     cap_kept: u32,
 }
 
@@ -105,7 +104,6 @@ impl TextStore {
             kept: 0,
             cap_bytes,
             cap_open,
-            cap_leases,
             cap_kept,
         })
     }

@@ -2,12 +2,13 @@
 use Rattle.std.specs.Prelude.{◌≡◌, ◌^◌, ◌<◌, ◌≤◌, List, ◌++◌, length, map, vec_len, vec_capacity}
 use Rattle.roff_store.specs.declared.strand.Strand.{Strand}
 use Rattle.roff_store.specs.declared.text_store.TextStore.TheInside.{Inside}
+use Rattle.roff_store.specs.Pool.{Holds, rest_in}
 use Rattle.roff_store.specs.Chains.{bytes_of}
 use Rattle.roff_store.specs.Leases.{living}
 use Rattle.roff_store.specs.Named.{EachOnce}
 use Rattle.roff_store.specs.Texts.{Texts}
 use Rattle.roff_store.specs.TextStore.Room.{bytes_wanted, IsLeastFor}
-use Rattle.roff_store.specs.TextStore.Strands.{Holds, bodies, entries_in, lease_in, rest_in}
+use Rattle.roff_store.specs.TextStore.Strands.{bodies, entries_in, lease_in}
 
 -- what the fields keep
 abbrev pub kept_by : Inside → Texts
@@ -18,7 +19,7 @@ kept_by a = record {
   cap_bytes = a.cap_bytes;
   cap_kept = a.cap_kept;
   cap_open = a.cap_open;
-  cap_leases = a.cap_leases;
+  cap_leases = a.leases.cap;
 }
 
 -- the strands of the texts
@@ -37,6 +38,5 @@ pub record IsSound (a : Inside) : Type 0 where
   pub opens : vec_len a.open ≤ a.cap_open
   pub opens_reserved : vec_capacity a.open ≡ a.cap_open
   pub leases : length (living a.leases.items) ≤ a.leases.cap
-  pub leases_cap : a.leases.cap ≡ a.cap_leases
-  pub room : IsLeastFor (bytes_wanted a.cap_bytes a.cap_kept a.names.cap a.cap_open a.cap_leases) a.chunks.most
+  pub room : IsLeastFor (bytes_wanted a.cap_bytes a.cap_kept a.names.cap a.cap_open a.leases.cap) a.chunks.most
   pub most : a.chunks.most < 2 ^ 64

@@ -1,9 +1,9 @@
 -- The strands of a store of texts.
-use Rattle.std.specs.Prelude.{◌≡◌, ℕ, ◌+◌, ◌≤◌, List, [], ◌∷◌, ◌++◌, length, map, All, Option, Some, None, option_map, sum_by, ◌&&◌, ◌==◌, nat_lt, if◌then◌else◌}
+use Rattle.std.specs.Prelude.{ℕ, List, [], ◌∷◌, ◌++◌, map, Option, Some, None, option_map}
 use Rattle.roff_store.specs.declared.strand.Strand.{Strand}
 use Rattle.roff_store.specs.declared.text_store.Meaning.{Meaning}
 use Rattle.roff_store.specs.declared.text_store.Meaning.TheVariants.{Body as BodyIn, Request as RequestOf}
-use Rattle.roff_store.specs.Chains.{Chunks, IsStrand, IsText, bytes_of, has, share, shares_in}
+use Rattle.roff_store.specs.Chains.{Chunks, bytes_of}
 use Rattle.roff_store.specs.Named.{Named}
 use Rattle.roff_store.specs.Texts.{Entry, Body, Request}
 
@@ -30,26 +30,3 @@ strands_of (Some (RequestOf number)) = []
 abbrev pub bodies : Named Meaning → List Strand
 bodies [] = []
 bodies (e ∷ names) = strands_of (Some e.1) ++ bodies names
-
--- how many bytes strands have, how many chunks, and how often they have one
-abbrev pub rest_in : List Strand → ℕ
-rest_in strands = sum_by (λ strand. strand.rest) strands
-
-abbrev pub chunks_in : List Strand → ℕ
-chunks_in strands = sum_by (λ strand. strand.chunks) strands
-
-abbrev pub shares_by : Chunks → ℕ → List Strand → ℕ
-shares_by m chunk strands = sum_by (λ strand. has m strand chunk) strands
-
--- whether a text ends with a chunk
-abbrev pub ends_in : ℕ → Strand → ℕ
-ends_in chunk s = if nat_lt 0 s.chunks && (chunk == s.last) then 1 else 0
-
--- the chunks hold texts and leases, and nothing else: they know how many strands have each, and no two texts end with the same
-pub record Holds (m : Chunks) (ts ls : List Strand) : Type 0 where
-  pub texts : All (IsText m) ts
-  pub leases : All (IsStrand m) ls
-  pub shares : (chunk : ℕ) → share m chunk ≡ shares_by m chunk ts + shares_by m chunk ls
-  pub sum : shares_in m ≡ chunks_in ts + chunks_in ls
-  pub apart : (chunk : ℕ) → sum_by (ends_in chunk) ts ≤ 1
-  pub within : length m.contents ≤ m.most

@@ -19,7 +19,7 @@ impl TextStore {
         ensures { IsTrue result ↔ ((live self.now < self.now.cap_leases)
             × (kept self.now + length (body_of name.now self.now) ≤ self.now.cap_kept)) }
     {
-        self.leases.living() < self.cap_leases as usize
+        self.leases.has_room()
             && body_len(self.names.get(name)) <= self.cap_kept as usize - self.kept
     }
 
@@ -78,7 +78,7 @@ impl TextStore {
         ensures byte { result ≡ next_byte (lease_of id.0 self.old) }
         ensures taken { self.new ≡ after (Take id.0 1) self.old }
     {
-        match self.leases.at(id.0) {
+        match *self.leases.at(id.0) {
             Some(strand) if strand.goes_on_inside(1) => {
                 let byte = self.lease_front(id)[0];
                 self.lease_pass(id, 1);
@@ -109,7 +109,7 @@ impl TextStore {
             ≡ take (length result.now) (lease_bytes (lease_of id.0 self.now)) }
         ensures some { 0 < rest_of (lease_of id.0 self.now) → 0 < length result.now }
     {
-        match self.leases.at(id.0) {
+        match *self.leases.at(id.0) {
             Some(strand) => self.chunks.front(strand),
             None => &[],
         }
@@ -122,7 +122,7 @@ impl TextStore {
         requires within { count ≤ rest_of (lease_of id.0 self.old) }
         ensures { self.new ≡ after (Take id.0 count) self.old }
     {
-        match self.leases.at(id.0) {
+        match *self.leases.at(id.0) {
             Some(strand) if strand.goes_on_inside(count) => {
                 let rest = self.chunks.pass_inside(strand, count);
                 self.leases.put(id.0, rest);
@@ -140,7 +140,7 @@ impl TextStore {
         requires within { count ≤ rest_of (lease_of id.0 self.old) }
         ensures { self.new ≡ after (Take id.0 count) self.old }
     {
-        if let Some(strand) = self.leases.at(id.0) {
+        if let Some(strand) = *self.leases.at(id.0) {
             let rest = self.chunks.pass(strand, count);
             self.leases.put(id.0, rest);
             self.kept -= count;
@@ -153,7 +153,7 @@ impl TextStore {
         requires { IsSome (lease_of id.0 self.now) }
         ensures { result ≡ rest_of (lease_of id.0 self.now) }
     {
-        match self.leases.at(id.0) {
+        match *self.leases.at(id.0) {
             Some(strand) => strand.rest,
             None => 0,
         }
@@ -165,7 +165,7 @@ impl TextStore {
         requires { IsSome (lease_of id.0 self.old) }
         ensures { self.new ≡ after (Release id.0) self.old }
     {
-        if let Some(strand) = self.leases.at(id.0) {
+        if let Some(strand) = *self.leases.at(id.0) {
             self.leases.end(id.0);
             self.kept -= strand.rest;
             self.chunks.release(strand);

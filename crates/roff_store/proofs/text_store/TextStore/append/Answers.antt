@@ -4,7 +4,7 @@ use Rattle.roff_store.specs.Texts.{Body, body_of}
 use Rattle.roff_store.specs.TextCalls.{Append, Set, after, answered}
 use Rattle.roff_store.specs.TextStore.Strands.{strands_of}
 use Rattle.roff_store.proofs.Keeping.{Comes, refused}
-use Rattle.roff_store.proofs.Putting.{append-refused, append-room, append-short, appended, behind-none, body-shared, body-text, put-found}
+use Rattle.roff_store.proofs.Putting.{append-refused, append-room, append-short, appended, behind-none, body-held, put-found}
 use Rattle.roff_store.proofs.text_store.TextStore.append.Goals as goal
 use Rattle.roff_store.proofs.text_store.TextStore.append.Goals.{in_default-via-in-Some+in_default, in_default-via-in_default}
 
@@ -34,11 +34,8 @@ returns-then-self-text-clause-answer c = store c
 pub returns-then-self-text-clause-texts : goal.returns-then-self-text-clause-texts
 returns-then-self-text-clause-texts c = refused (Append c.args.name.now c.args.text.now) c.args.self.now (store c)
 
-pub extend-longer-requires-clause-strand : goal.extend-longer-requires-clause-strand
-extend-longer-requires-clause-strand c = body-text c.self.invariant c.self.view_is c.args.name.now (sym (c.in-Some-Body.is ∙ ap Some c.in-Some-Body.field-0-is) ∙ c.get.ensures)
-
-pub extend-longer-requires-clause-shared : goal.extend-longer-requires-clause-shared
-extend-longer-requires-clause-shared c = body-shared c.self.invariant c.self.view_is c.args.name.now (sym (c.in-Some-Body.is ∙ ap Some c.in-Some-Body.field-0-is) ∙ c.get.ensures)
+pub extend-longer-requires-clause-held : goal.extend-longer-requires-clause-held
+extend-longer-requires-clause-held c = body-held c.self.invariant c.self.view_is c.args.name.now (sym (c.in-Some-Body.is ∙ ap Some c.in-Some-Body.field-0-is) ∙ c.get.ensures)
 
 pub extend-longer-requires-clause-room : goal.extend-longer-requires-clause-room
 extend-longer-requires-clause-room c =
@@ -57,8 +54,8 @@ made : (c : goal.After-put) → Comes (Append c.args.name.now c.args.text.now) c
       used = c.self.inside.used + length c.args.text.now;
     })
 made c =
-    appended c.self.invariant c.self.view_is c.args.name.now (sym (c.in-Some-Body.is ∙ ap Some c.in-Some-Body.field-0-is) ∙ c.get.ensures) c.if-self-text.false c.extend-longer.ensures.extended
-    c.extend-longer.ensures.sum c.put.ensures.table
+    appended c.self.invariant c.self.view_is c.args.name.now (sym (c.in-Some-Body.is ∙ ap Some c.in-Some-Body.field-0-is) ∙ c.get.ensures) c.if-self-text.false c.extend-longer.ensures.longer
+    c.put.ensures.table
 
 pub invariant_of-self : goal.invariant_of-self
 invariant_of-self c = (made c).sound

@@ -1,20 +1,16 @@
-use Rattle.std.proofs.Common.{sym, ap, ◌∙◌, arith}
-use Rattle.std.proofs.lemmas.Bool.Decides.{nat_tests}
-use Rattle.roff_store.specs.Texts.{Texts}
-use Rattle.roff_store.proofs.Lending.{can-tested, live-read}
+use Rattle.std.proofs.Common.{sym, ◌∙◌, rules}
+use Rattle.roff_store.proofs.Lending.{can-tested, live-tested}
 use Rattle.roff_store.proofs.Naming.{body-length}
 use Rattle.roff_store.proofs.text_store.TextStore.can_lease.Goals as goal
 
-pub returns-then-living-self : goal.returns-then-living-self
-returns-then-living-self c =
+pub returns-then-has_room : goal.returns-then-has_room
+returns-then-has_room c =
     let long = body-length c.self.invariant c.self.view_is c.args.name.now c.get.ensures in
-    let tested = can-tested c.self.invariant c.self.view_is c.body_len.result (omega (arith, c.living.ensures)) in
-    rw (long ∙ sym c.body_len.ensures) tested
+    let lives = live-tested c.self.invariant c.self.view_is c.has_room.result c.has_room.ensures in
+    let fewer = lives.0 (rw c.if-has_room.true (search rules)) in
+    rw (long ∙ sym c.body_len.ensures) (can-tested c.self.invariant c.self.view_is c.body_len.result fewer)
 
-pub returns-else-living-self : goal.returns-else-living-self
-returns-else-living-self c =
-    let lives = live-read c.self.invariant c.self.view_is in
-    let counted = c.living.ensures in
-    let cap = ap (λ (x : Texts). x.cap_leases) c.self.view_is in
-    let full = c.if-living-self.false in
-    grind (arith, nat_tests)
+pub returns-else-has_room : goal.returns-else-has_room
+returns-else-has_room c =
+    let lives = live-tested c.self.invariant c.self.view_is c.has_room.result c.has_room.ensures in
+    (λ yes. absurd (let no = c.if-has_room.false in let it = yes in cc), λ both. lives.1 both.0)

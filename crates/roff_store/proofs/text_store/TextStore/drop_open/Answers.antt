@@ -1,5 +1,6 @@
 use Rattle.std.proofs.Common.{arith}
-use Rattle.roff_store.proofs.Opening.{dropped, open-inside, open-shared, open-text, used-text}
+use Rattle.roff_store.proofs.Opening.{dropped, open-inside, open-text, text-held, used-text}
+use Rattle.roff_store.proofs.Pool.{held-shared}
 use Rattle.roff_store.proofs.text_store.TextStore.drop_open.Goals as goal
 
 pub remove-text-requires : goal.remove-text-requires
@@ -14,7 +15,8 @@ release-requires-clause-strand c =
     (open-text c.self.invariant c.self.view_is c.args.id.0 c.requires c.remove-text.ensures.value).strand
 
 pub release-requires-clause-shared : goal.release-requires-clause-shared
-release-requires-clause-shared c = open-shared c.self.invariant c.self.view_is c.args.id.0 c.requires c.remove-text.ensures.value
+release-requires-clause-shared c =
+    held-shared (text-held c.self.invariant c.self.view_is c.args.id.0 c.requires c.remove-text.ensures.value)
 
 pub invariant_of-self : goal.invariant_of-self
 invariant_of-self c =

@@ -1,8 +1,8 @@
 use Rattle.std.proofs.Common.{sym, ◌∙◌, arith}
 use Rattle.roff_store.specs.TextCalls.{Enter}
 use Rattle.roff_store.proofs.Keeping.{refused, shared-out, strands-out}
-use Rattle.roff_store.proofs.Entering.{enter-refused, entered-alone, entered-behind, room-behind, shared-behind, short-behind, text-behind}
-use Rattle.roff_store.proofs.Opening.{open-inside, open-text}
+use Rattle.roff_store.proofs.Entering.{enter-refused, entered-alone, entered-behind, held-behind, room-behind, short-behind}
+use Rattle.roff_store.proofs.Opening.{open-inside}
 use Rattle.roff_store.proofs.Putting.{old-within, put-answer}
 use Rattle.roff_store.proofs.text_store.TextStore.enter.Goals as goal
 
@@ -27,14 +27,8 @@ release_body-requires-clause-strands c = strands-out c.self.invariant c.args.nam
 pub release_body-requires-clause-shared : goal.release_body-requires-clause-shared
 release_body-requires-clause-shared c = shared-out c.self.invariant c.args.name.now c.get-old.ensures
 
-pub append-body-requires-clause-text : goal.append-body-requires-clause-text
-append-body-requires-clause-text c = text-behind c.self.invariant c.self.view_is c.args.id.0 c.requires c.remove-text.ensures.value c.args.name.now c.get-old.ensures c.in-Some.ensures.some.1
-
-pub append-body-requires-clause-strand : goal.append-body-requires-clause-strand
-append-body-requires-clause-strand c = (open-text c.self.invariant c.self.view_is c.args.id.0 c.requires c.remove-text.ensures.value).strand
-
-pub append-body-requires-clause-shared : goal.append-body-requires-clause-shared
-append-body-requires-clause-shared c = shared-behind c.self.invariant c.self.view_is c.args.id.0 c.requires c.remove-text.ensures.value c.args.name.now c.get-old.ensures c.in-Some.ensures.some.1
+pub append-body-requires-clause-held : goal.append-body-requires-clause-held
+append-body-requires-clause-held c = held-behind c.self.invariant c.self.view_is c.args.id.0 c.requires c.remove-text.ensures.value c.args.name.now c.get-old.ensures c.in-Some.ensures.some.1
 
 pub append-body-requires-clause-room : goal.append-body-requires-clause-room
 append-body-requires-clause-room c = room-behind c.self.invariant c.self.view_is c.args.id.0 c.requires c.remove-text.ensures.value c.args.name.now c.get-old.ensures c.in-Some.ensures.some.1
@@ -46,18 +40,18 @@ append-body-requires-clause-short c =
 
 pub invariant_of-self : goal.invariant_of-self
 invariant_of-self c = (entered-behind c.self.invariant c.self.view_is c.args.id.0 c.requires c.remove-text.ensures.value c.args.name.now c.get-old.ensures c.in-Some.ensures.some.1
-    (sym c.has_room.ensures ∙ c.if-not-has_room.false) c.in-Some.ensures.some.0 c.append-body.ensures.extended c.append-body.ensures.sum
+    (sym c.has_room.ensures ∙ c.if-not-has_room.false) c.in-Some.ensures.some.0 c.append-body.ensures
     {opens = c.remove-text.new.self} c.remove-text.ensures.items c.remove-text.ensures.len c.remove-text.ensures.capacity c.put.ensures.table).sound
 
 pub returns-in-Some-clause-answer : goal.returns-in-Some-clause-answer
 returns-in-Some-clause-answer c =
     put-answer c.args.name.now c.self.inside.names c.put.ensures.answer (sym c.has_room.ensures ∙ c.if-not-has_room.false) ∙ (entered-behind c.self.invariant c.self.view_is c.args.id.0 c.requires c.remove-text.ensures.value c.args.name.now c.get-old.ensures c.in-Some.ensures.some.1
-    (sym c.has_room.ensures ∙ c.if-not-has_room.false) c.in-Some.ensures.some.0 c.append-body.ensures.extended c.append-body.ensures.sum
+    (sym c.has_room.ensures ∙ c.if-not-has_room.false) c.in-Some.ensures.some.0 c.append-body.ensures
     {opens = c.remove-text.new.self} c.remove-text.ensures.items c.remove-text.ensures.len c.remove-text.ensures.capacity c.put.ensures.table).answer
 
 pub returns-in-Some-clause-texts : goal.returns-in-Some-clause-texts
 returns-in-Some-clause-texts c = (entered-behind c.self.invariant c.self.view_is c.args.id.0 c.requires c.remove-text.ensures.value c.args.name.now c.get-old.ensures c.in-Some.ensures.some.1
-    (sym c.has_room.ensures ∙ c.if-not-has_room.false) c.in-Some.ensures.some.0 c.append-body.ensures.extended c.append-body.ensures.sum
+    (sym c.has_room.ensures ∙ c.if-not-has_room.false) c.in-Some.ensures.some.0 c.append-body.ensures
     {opens = c.remove-text.new.self} c.remove-text.ensures.items c.remove-text.ensures.len c.remove-text.ensures.capacity c.put.ensures.table).texts
 
 pub invariant_of-self-in-None : goal.invariant_of-self-in-None

@@ -2,7 +2,7 @@ use Rattle.std.proofs.Common.{◌≡◌, Err, length, arith}
 use Rattle.roff_num.specs.declared.limit.Limit.TheVariants.{Store}
 use Rattle.roff_store.specs.TextCalls.{PushOpen, answered}
 use Rattle.roff_store.proofs.Keeping.{refused}
-use Rattle.roff_store.proofs.Opening.{open-inside, open-shared, open-text, push-refused, push-room, push-short, pushed}
+use Rattle.roff_store.proofs.Opening.{open-inside, push-refused, push-room, push-short, pushed, text-held}
 use Rattle.roff_store.proofs.text_store.TextStore.push_open.Goals as goal
 
 -- too many bytes
@@ -18,11 +18,8 @@ returns-then-self-text-clause-texts c = refused (PushOpen c.args.id.0 c.args.tex
 pub index-requires : goal.index-requires
 index-requires c = let inside = open-inside c.self.invariant c.self.view_is c.args.id.0 c.requires in omega (arith, inside, c.self.inside.open.ok.0)
 
-pub extend-longer-requires-clause-strand : goal.extend-longer-requires-clause-strand
-extend-longer-requires-clause-strand c = open-text c.self.invariant c.self.view_is c.args.id.0 c.requires c.index.ensures
-
-pub extend-longer-requires-clause-shared : goal.extend-longer-requires-clause-shared
-extend-longer-requires-clause-shared c = open-shared c.self.invariant c.self.view_is c.args.id.0 c.requires c.index.ensures
+pub extend-longer-requires-clause-held : goal.extend-longer-requires-clause-held
+extend-longer-requires-clause-held c = text-held c.self.invariant c.self.view_is c.args.id.0 c.requires c.index.ensures
 
 pub extend-longer-requires-clause-room : goal.extend-longer-requires-clause-room
 extend-longer-requires-clause-room c =
@@ -35,12 +32,12 @@ extend-longer-requires-clause-short c =
 
 pub invariant_of-self : goal.invariant_of-self
 invariant_of-self c = (pushed c.self.invariant c.self.view_is c.args.id.0 c.requires c.index.ensures c.if-self-text.false
-    c.extend-longer.ensures.extended c.extend-longer.ensures.sum).sound
+    c.extend-longer.ensures.longer).sound
 
 pub returns-clause-answer : goal.returns-clause-answer
 returns-clause-answer c = (pushed c.self.invariant c.self.view_is c.args.id.0 c.requires c.index.ensures c.if-self-text.false
-    c.extend-longer.ensures.extended c.extend-longer.ensures.sum).answer
+    c.extend-longer.ensures.longer).answer
 
 pub returns-clause-texts : goal.returns-clause-texts
 returns-clause-texts c = (pushed c.self.invariant c.self.view_is c.args.id.0 c.requires c.index.ensures c.if-self-text.false
-    c.extend-longer.ensures.extended c.extend-longer.ensures.sum).texts
+    c.extend-longer.ensures.longer).texts

@@ -3,7 +3,7 @@ use Rattle.roff_num.specs.declared.limit.Limit.TheVariants.{Store, Names}
 use Rattle.roff_store.specs.Texts.{Body}
 use Rattle.roff_store.specs.TextCalls.{Set, answered}
 use Rattle.roff_store.proofs.Keeping.{Comes, refused, shared-out, strands-out, used-out}
-use Rattle.roff_store.proofs.Putting.{blank-begun, blank-room, known-room, names-refused, old-within, put-answer, ready-body, set-comes, store-refused}
+use Rattle.roff_store.proofs.Putting.{blank-held-out, blank-room, known-room, names-refused, old-within, put-answer, ready-body, set-comes, store-refused}
 use Rattle.roff_store.proofs.text_store.TextStore.set_body.Goals as goal
 
 pub overflow_sub-others : goal.overflow_sub-others
@@ -41,9 +41,9 @@ release_body-requires-clause-strands c = strands-out c.self.invariant c.args.nam
 pub release_body-requires-clause-shared : goal.release_body-requires-clause-shared
 release_body-requires-clause-shared c = shared-out c.self.invariant c.args.name.now c.get-old.ensures
 
-pub extend-body-requires-clause-strand : goal.extend-body-requires-clause-strand
-extend-body-requires-clause-strand c =
-    blank-begun c.self.invariant c.self.view_is c.args.name.now c.get-old.ensures c.body_len.ensures c.release_body.ensures.shares
+pub extend-body-requires-clause-held : goal.extend-body-requires-clause-held
+extend-body-requires-clause-held c =
+    blank-held-out c.self.invariant c.self.view_is c.args.name.now c.get-old.ensures c.body_len.ensures c.release_body.ensures.shares
     c.release_body.ensures.sum c.release_body.ensures.same
     c.empty.result c.empty.ensures.chunks c.empty.ensures.at c.empty.ensures.rest c.empty.ensures.last
 
@@ -66,7 +66,7 @@ made c =
     (ready-body c.self.invariant c.self.view_is c.args.name.now c.get-old.ensures c.body_len.ensures c.release_body.ensures.shares
     c.release_body.ensures.sum c.release_body.ensures.same
     c.empty.result c.empty.ensures.chunks c.empty.ensures.at c.empty.ensures.rest c.empty.ensures.last
-    c.extend-body.ensures.extended c.extend-body.ensures.sum)
+    c.extend-body.ensures.longer)
     (known-room c.args.name.now c.self.inside.names c.get-old.ensures c.is_some.ensures c.has_room_for.ensures
     c.if-not-has_room_for.false)
     (c.self.inside.used - c.body_len.result + length c.args.text.now)
@@ -74,7 +74,7 @@ made c =
       arith,
       used-out c.self.invariant c.args.name.now c.get-old.ensures,
       c.body_len.ensures,
-      c.extend-body.ensures.extended.len,
+      c.extend-body.ensures.longer.len,
       c.empty.ensures.rest,
     ))
     (omega (
