@@ -13,7 +13,7 @@ use Rattle.roff_store.specs.TextLaws.{IsCounted, entry_after, entry_moved}
 use Rattle.roff_store.specs.Texts.{Entry, Body, Texts, body_if_any, body_of, bytes_in, bytes_of, used}
 use Rattle.roff_store.proofs.Calls.{length-with_entry_le, length-without_entry_le}
 use Rattle.roff_store.proofs.Entries.{entry_of-with_entry, entry_of-without_entry, length-with_entry, length-without_entry, EachOnce-with_entry, EachOnce-without_entry}
-use Rattle.roff_store.proofs.HandSums.{if_any, sum-with, sum-without}
+use Rattle.roff_store.proofs.NameSums.{if_any, sum-with, sum-without}
 
 -- the store behind a call that isn't refused, or the one before it
 IsCounted-unless : (answer : Result (Unit {0}) Limit) (before now : Texts) → IsCounted before

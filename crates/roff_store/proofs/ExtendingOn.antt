@@ -7,9 +7,11 @@ use Rattle.arrayvec.specs.ArrayVec.{ArrayVec as Bytes}
 use Rattle.roff_store.specs.declared.strand.Strand.{Strand}
 use Rattle.roff_store.specs.declared.chunks.Chunks.TheInside.{Inside}
 use Rattle.roff_store.specs.Chunks.Kept.{kept_by, IsSound}
-use Rattle.roff_store.specs.Chains.{Chunks, bytes_of, content, has, link, others, share, shares_in, IsChain, IsExtended, IsShared, IsText, LeavesOthers}
+use Rattle.roff_store.specs.Chains.{Chunks, bytes_of, content, link, others, share, shares_in, IsChain, IsExtended, IsShared, IsText, LeavesOthers}
+use Rattle.roff_store.specs.Pool.{IsLonger}
 use Rattle.roff_store.proofs.Filling.{IsGrown}
 use Rattle.roff_store.proofs.Extending.{IsClaimed, IsPut}
+use Rattle.roff_store.proofs.Pool.{longer, longer-on}
 
 -- no bytes behind a text
 pub extended-none : (m : Chunks) (s : Strand) → IsText m s → IsShared m s → length m.contents ≤ m.most
@@ -30,58 +32,11 @@ extended-none m s text shared within = record {
   within = within;
 }
 
--- a text that was extended shares its chunks with the others
-pub extended-shared : (claims : ℕ → ℕ) (m0 m : Chunks) (s0 s : Strand) (done : List ℕ) → IsExtended claims m0 s0 done m s
-    → IsShared m s
-extended-shared claims m0 m s0 s done e chunk = let here = e.shared chunk in omega arith
-
--- bytes behind a text, and then more
-pub extended-on : (claims : ℕ → ℕ) (m0 m1 m2 : Chunks) (s0 s1 s2 : Strand) (done more : List ℕ)
-    → IsExtended claims m0 s0 done m1 s1 → IsExtended (others m1 s1) m1 s1 more m2 s2
-    → IsExtended claims m0 s0 (done ++ more) m2 s2
-extended-on claims m0 m1 m2 s0 s1 s2 done more before behind =
-    let same : (chunk : ℕ) → others m1 s1 chunk ≡ claims chunk = λ chunk. (let here = before.shared chunk in omega arith) in
-    let had : (chunk : ℕ) → 0 < claims chunk → 0 < others m1 s1 chunk = λ chunk some. rw (same chunk) some in
-    record {
-      text = behind.text;
-      bytes = behind.bytes ∙ ap (λ bytes. bytes ++ more) before.bytes ∙ append_assoc (bytes_of m0 s0) done more;
-      len = let a = before.len in let b = behind.len in rw (length-append done more) (omega arith);
-      shared = λ chunk. behind.shared chunk ∙ ap (λ n. n + has m2 s2 chunk) (same chunk);
-      leaves = record {
-        most = behind.leaves.most ∙ before.leaves.most;
-        chunks = let a = before.leaves.chunks in let b = behind.leaves.chunks in omega arith;
-        same_bytes = λ chunk some other. behind.leaves.same_bytes chunk (had chunk some) (before.apart chunk some other)
-            ∙ before.leaves.same_bytes chunk some other;
-        same_link = λ chunk some other. behind.leaves.same_link chunk (had chunk some) (before.apart chunk some other)
-            ∙ before.leaves.same_link chunk some other;
-        grown = λ some.
-            let first = before.leaves.grown some in
-            elim (cases_eq s0.last s1.last) [
-              | inl e ↦ (
-                  let last_had : 0 < others m1 s1 s1.last = subst (λ chunk. 0 < others m1 s1 chunk) e (had s0.last some) in
-                  let second = behind.leaves.grown last_had in
-                  record {
-                    more = first.more ++ second.more;
-                    grown = ap (λ chunk. content m2 chunk) e ∙ second.grown
-                        ∙ ap (λ chunk. content m1 chunk ++ second.more) (sym e)
-                        ∙ ap (λ bytes. bytes ++ second.more) first.grown
-                        ∙ append_assoc (content m0 s0.last) first.more second.more;
-                  })
-              | inr e ↦ record {
-                more = first.more;
-                grown = behind.leaves.same_bytes s0.last (had s0.last some) e ∙ first.grown;
-              }
-            ];
-      };
-      apart = λ chunk some other. behind.apart chunk (had chunk some) (before.apart chunk some other);
-      within = behind.within;
-    }
-
 -- while bytes are put behind a text: where some are left, its chunks are full
 pub record Extending (m0 : Chunks) (s0 : Strand) (text : List ℕ) (m : Chunks) (s : Strand) (behind : List ℕ) : Type 0 where
   pub done : List ℕ
   pub split : done ++ behind ≡ text
-  pub extended : IsExtended (others m0 s0) m0 s0 done m s
+  pub longer : IsLonger m0 s0 [] done m s []
   pub full : 0 < length behind → s.rest ≡ 120 * s.chunks
   pub sum : shares_in m + s0.chunks ≡ shares_in m0 + s.chunks
 
@@ -155,12 +110,14 @@ extending-first m0 m s0 s text front behind room is_text none left split count e
     let full = room-full m0 s0 room is_text none left in
     let len = extended.len in
     let all : length front + length behind ≡ length text = sym (length-append front behind) ∙ ap length split in
+    let all_shares : shares_in m + s0.chunks ≡ shares_in m0 + s.chunks =
+    ap (λ shares. sum shares + s0.chunks) shares ∙ ap (λ n. shares_in m0 + n) (sym chunks) in
     record {
       done = front;
       split = split;
-      extended = extended;
+      longer = longer extended all_shares;
       full = λ some. omega arith;
-      sum = ap (λ shares. sum shares + s0.chunks) shares ∙ ap (λ n. shares_in m0 + n) (sym chunks);
+      sum = all_shares;
     }
 
 -- there is room for one more chunk
@@ -170,8 +127,8 @@ pub extending-room : (m0 m : Chunks) (s0 s : Strand) (text behind : List ℕ) �
 extending-room m0 m s0 s text behind e room some =
     let full = e.full some in
     let sum = e.sum in
-    let len = e.extended.len in
-    let most = e.extended.leaves.most in
+    let len = e.longer.len in
+    let most = e.longer.most in
     let all : length e.done + length behind ≡ length text = sym (length-append e.done behind) ∙ ap length e.split in
     omega arith
 
@@ -179,7 +136,7 @@ extending-room m0 m s0 s text behind e room some =
 pub extending-short : (m0 m : Chunks) (s0 s : Strand) (text behind : List ℕ) → Extending m0 s0 text m s behind
     → s.rest + length behind ≡ s0.rest + length text
 extending-short m0 m s0 s text behind e =
-    let len = e.extended.len in
+    let len = e.longer.len in
     let all : length e.done + length behind ≡ length text = sym (length-append e.done behind) ∙ ap length e.split in
     omega arith
 
@@ -196,15 +153,15 @@ extending-next m0 m m' s0 s s' text behind piece later e some split count extend
     record {
       done = e.done ++ piece;
       split = append_assoc e.done piece later ∙ ap (λ behind. e.done ++ behind) split ∙ e.split;
-      extended = extended-on (others m0 s0) m0 m m' s0 s s' e.done piece e.extended extended;
+      longer = longer-on e.longer (longer extended (omega (arith, chunks, more)));
       full = λ left. omega arith;
       sum = omega arith;
     }
 
 -- once no bytes are left, all are behind the text
 pub extending-last : (m0 m : Chunks) (s0 s : Strand) (text behind : List ℕ) → Extending m0 s0 text m s behind
-    → length behind ≡ 0 → IsExtended (others m0 s0) m0 s0 text m s
+    → length behind ≡ 0 → IsLonger m0 s0 [] text m s []
 extending-last m0 m s0 s text behind e none =
     let all : e.done ≡ text =
     sym (append-nil e.done) ∙ ap (λ behind. e.done ++ behind) (sym (nil_from_length behind none)) ∙ e.split in
-    subst (λ done. IsExtended (others m0 s0) m0 s0 done m s) all e.extended
+    subst (λ done. IsLonger m0 s0 [] done m s []) all e.longer

@@ -1,18 +1,11 @@
 -- The last byte of a body.
 use Rattle.std.proofs.Common.{◌≡◌, ℕ, zero, suc, ◌-◌, ◌<◌, ◌≤◌, List, [], ◌∷◌, ◌++◌, length, Some, None, refl, sym, ap, subst, ◌∙◌, arith}
-use Rattle.std.specs.Prelude.{Option, option_map, slice_get}
+use Rattle.std.specs.Prelude.{Option, slice_get}
 use Rattle.std.specs.List.{last_or}
 use Rattle.std.proofs.lemmas.List.{append-nil}
 use Rattle.roff_store.specs.declared.strand.Strand.{Strand}
-use Rattle.roff_store.specs.declared.text_store.Meaning.{Meaning}
-use Rattle.roff_store.specs.declared.text_store.TextStore.TheInside.{Inside}
 use Rattle.roff_store.specs.Chains.{Chunks, bytes_of, chain_bytes, content, last_of, link, IsText}
-use Rattle.roff_store.specs.Named.{entry_of}
-use Rattle.roff_store.specs.Texts.{Texts, body_if_any, body_of}
-use Rattle.roff_store.specs.TextStore.Kept.{kept_by}
-use Rattle.roff_store.specs.TextStore.Strands.{entry_in}
 use Rattle.roff_store.proofs.Extending.{length-text, text-filled, whole-bytes}
-use Rattle.roff_store.proofs.Hands.{entry-in, entry-none}
 use Rattle.roff_store.proofs.Leaving.{chunks-enough, chunks-few}
 
 -- the last element is the one at the last place
@@ -63,12 +56,3 @@ last-text m s within fits text some =
     ap (last_or None) (whole-bytes m s whole (omega arith))
     ∙ subst (λ n. last_or None (chain_bytes m n s.first) ≡ last_or None (content m s.last)) count
     (subst (λ c. last_or None (chain_bytes m (suc (s.chunks - 1)) s.first) ≡ last_or None (content m c)) ends.last chain)
-
--- the body of a name, by what the name stands for
-pub body-read : (a : Inside) (t : Texts) → kept_by a ≡ t → (name : List ℕ) (old : Option Meaning)
-    → old ≡ entry_of name a.names.entries → body_of name t ≡ body_if_any (option_map (entry_in a.chunks) old)
-body-read a t is name None was =
-    subst (λ (x : Texts). body_of name x ≡ []) is (ap body_if_any (entry-none a.chunks a.names.entries name (sym was)))
-body-read a t is name (Some meaning) was =
-    subst (λ (x : Texts). body_of name x ≡ body_if_any (Some (entry_in a.chunks meaning))) is
-    (ap body_if_any (entry-in a.chunks a.names.entries name meaning (sym was)))

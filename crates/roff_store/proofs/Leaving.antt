@@ -5,12 +5,8 @@ use Rattle.std.proofs.Math.Seq.{take-append-add}
 use Rattle.std.proofs.lemmas.Bool.{cases_eq, cases_lt, eq-eqb}
 use Rattle.std.proofs.lemmas.List.{append_assoc, drop-take, length-take-le, take-append-le}
 use Rattle.roff_store.specs.declared.strand.Strand.{Strand}
+use Rattle.roff_store.specs.Pool.{IsLeft}
 use Rattle.roff_store.specs.Chains.{Chunks, bytes_of, chain_bytes, content, has, last_of, link, times_in, AreSameChunks, IsChain, IsPart, IsStrand, IsText, LeavesOthers}
-
--- a strand is as it was
-pub record IsLeft (m m' : Chunks) (s : Strand) : Type 0 where
-  pub bytes : bytes_of m' s ≡ bytes_of m s
-  pub has : (chunk : ℕ) → has m' s chunk ≡ has m s chunk
 
 -- two lists that begin alike begin alike a shorter way too
 take-less : (k n : ℕ) (x y : List ℕ) → k ≤ n → take n x ≡ take n y → take k x ≡ take k y

@@ -1,142 +1,173 @@
--- A store of texts once a name stands for something else.
-use Rattle.std.proofs.Common.{◌≡◌, ℕ, ◌+◌, ◌-◌, ◌≤◌, List, [], ◌++◌, length, sum_by, All, Some, None, refl, sym, ap, subst, ◌∙◌, arith}
-use Rattle.std.specs.Prelude.{Option, option_map}
+-- A store of texts once a name is removed or renamed, and what is read of one.
+use Rattle.std.proofs.Common.{◌≡◌, ℕ, ◌+◌, ◌-◌, ◌<◌, ◌≤◌, true, false, Bool, All, inl, inr, List, [], ◌∷◌, ◌++◌, length, Some, None, refl, sym, ap, subst, ◌∙◌, arith}
+use Rattle.std.specs.Prelude.{Option, Ok, IsTrue, IsPermutation, option_map}
+use Rattle.std.specs.Str.{bytes_eq}
+use Rattle.std.proofs.lemmas.Bool.Decides.{nat_tests}
+use Rattle.std.proofs.lemmas.List.Elements.{All-head}
+use Rattle.std.proofs.lemmas.List.Sorted.{IsPermutation-append_left}
 use Rattle.roff_store.specs.declared.strand.Strand.{Strand}
 use Rattle.roff_store.specs.declared.text_store.Meaning.{Meaning}
 use Rattle.roff_store.specs.declared.text_store.Meaning.TheVariants.{Body as BodyIn, Request as RequestIn}
 use Rattle.roff_store.specs.declared.text_store.TextStore.TheInside.{Inside}
-use Rattle.roff_store.specs.Chains.{Chunks, has, share, shares_in, AreSameChunks, IsShared, IsStrand}
-use Rattle.roff_store.specs.Named.{Table, EachOnce, entry_of, without_entry, removed_from}
-use Rattle.roff_store.specs.Texts.{Texts, Kind, BodyOf, RequestOf, body_of, kind_of}
-use Rattle.roff_store.specs.TextCalls.{Remove, after}
-use Rattle.roff_store.specs.TextStore.Kept.{kept_by, strands_in, IsSound}
-use Rattle.roff_store.specs.TextStore.Strands.{Strands, AreApart, Lie, entries_in, in_texts, of_meaning, strands_of}
-use Rattle.roff_store.proofs.Calls.{length-without_entry_le}
-use Rattle.roff_store.proofs.HandSums.{if_any, sum-without}
-use Rattle.roff_store.proofs.Hands.{without_name, name-out, name-apart-out, name-is-body, entries-without, entry-in, entry-none, once-without}
+use Rattle.roff_store.specs.Pool.{chunks_in, rest_in, shares_by}
+use Rattle.roff_store.specs.Chains.{Chunks, share, shares_in, AreSameChunks, IsText}
+use Rattle.roff_store.specs.Leases.{living}
+use Rattle.roff_store.specs.Named.{Named, Table, EachOnce, admitted, entry_of, has_room, put_into, removed_from, with_entry, without_entry}
+use Rattle.roff_store.specs.Texts.{Texts, Kind, BodyOf, RequestOf, body_if_any, body_of, kind_of}
+use Rattle.roff_store.specs.TextCalls.{Remove, Rename, after, renamed}
+use Rattle.roff_store.specs.TextStore.Kept.{IsSound, kept_by}
+use Rattle.roff_store.specs.TextStore.Strands.{bodies, entries_in, entry_in, strands_of}
+use Rattle.roff_store.proofs.Calls.{length-with_entry_le, length-without_entry_le}
+use Rattle.roff_store.proofs.Entries.{EachOnce-with_entry, EachOnce-without_entry, bytes_eq_tells, entry_of-without_entry, length-without_entry}
+use Rattle.roff_store.proofs.Keeping.{Comes, IsChanged, body-kept, body-long, changed, entry-kept, texts-out, used-out}
 use Rattle.roff_store.proofs.Leaving.{length-bytes_of}
-use Rattle.roff_store.proofs.Lying.{GiveTheSame, give-same, released}
-use Rattle.roff_store.proofs.Opening.{IsChanged, IsSound-changed, All-one, used-by}
+use Rattle.roff_store.proofs.NameSums.{map-with, map-without}
+use Rattle.roff_store.proofs.Places.{name-in, name-out, onward, same-order, same-sum}
+use Rattle.roff_store.proofs.Pool.{Holds-order, all-left, entries-left, opens-left}
+use Rattle.roff_store.proofs.Putting.{gone}
 
--- a number of the strand of what a name stands for
-pub sum-strands : (f : Strand → ℕ) (meaning : Option Meaning) → sum_by f (strands_of meaning) ≡ if_any (of_meaning f) meaning
-sum-strands f None = refl
-sum-strands f (Some (BodyIn strand)) = omega arith
-sum-strands f (Some (RequestIn number)) = refl
+-- names that a test tells apart
+pub names-apart : (from to : List ℕ) (same : Bool) → (IsTrue same → from ≡ to) × (from ≡ to → IsTrue same) → same ≡ false
+    → bytes_eq from to ≡ false
+names-apart from to same tells differ =
+    elim (bytes_eq_tells from to) [ inl both ↦ (let it = tells.1 both.1 in cc) | inr other ↦ other.0 ]
 
--- what a name stands for is in hand
-module _ (m : Chunks) (s : Strands) (name : List ℕ) (once : EachOnce s.names) (lie : Lie m s []) where
-  -- its strand is one
-  pub strands-in-hand : (old : Option Meaning) → old ≡ entry_of name s.names → All (IsStrand m) (strands_of old)
-  strands-in-hand None was = λ k d inside. absurd (omega arith)
-  strands-in-hand (Some (BodyIn strand)) was =
-      All-one (IsStrand m) strand (name-is-body m s [] name (BodyIn strand) lie (sym was)).strand
-  strands-in-hand (Some (RequestIn number)) was = λ k d inside. absurd (omega arith)
+-- two names are taken away in either order
+without-both : {E : Type 0} (from to : List ℕ) (es : Named E)
+    → without_entry from (without_entry to es) ≡ without_entry to (without_entry from es)
+without-both from to [] = refl
+without-both from to (e ∷ es) = let others = without-both from to es in grind arith
 
-  -- and has its chunks
-  shared-by : (old : Option Meaning) → Lie m (without_name name s) (strands_of old ++ []) → All (IsShared m) (strands_of old)
-  shared-by None out = λ k d inside. absurd (omega arith)
-  shared-by (Some (BodyIn strand)) out = All-one (IsShared m) strand (λ chunk. let shares = out.shares chunk in omega arith)
-  shared-by (Some (RequestIn number)) out = λ k d inside. absurd (omega arith)
+-- there is room for a name where one is taken away
+room-renamed : (from to : List ℕ) (names : Table Meaning) (meaning : Meaning) → EachOnce names.entries
+    → entry_of from names.entries ≡ Some meaning → length names.entries ≤ names.cap → has_room to (removed_from from names) ≡ true
+room-renamed from to names meaning once found few =
+    let fewer = rw found at (length-without_entry from names.entries once) in
+    let less : length (without_entry from names.entries) < names.cap = omega (arith, fewer, few) in
+    grind (arith, nat_tests)
 
-  pub shared-in-hand : (old : Option Meaning) → old ≡ entry_of name s.names → All (IsShared m) (strands_of old)
-  shared-in-hand old was =
-      shared-by old (subst (λ (x : Option Meaning). Lie m (without_name name s) (strands_of x ++ [])) (sym was) (name-out m s [] name once lie))
+pub admitted-renamed : (from to : List ℕ) (names : Table Meaning) (meaning : Meaning) → EachOnce names.entries
+    → entry_of from names.entries ≡ Some meaning → length names.entries ≤ names.cap
+    → admitted to (removed_from from names) ≡ Ok tt
+admitted-renamed from to names meaning once found few = rw (room-renamed from to names meaning once found few) refl
 
--- what a name stands for is taken out of a store
-module _ (a : Inside) (t : Texts) (sound : IsSound a) (is : kept_by a ≡ t) (name : List ℕ) (old : Option Meaning)
-    (was : old ≡ entry_of name a.names.entries) (count : ℕ) (long : count ≡ sum_by (λ strand. strand.rest) (strands_of old)) where
-  lie-out : Lie a.chunks (without_name name (strands_in a)) (strands_of old ++ [])
-  lie-out =
-      subst (λ (x : Option Meaning). Lie a.chunks (without_name name (strands_in a)) (strands_of x ++ [])) (sym was)
-      (name-out a.chunks (strands_in a) [] name sound.once sound.lie)
+module _ {a : Inside} {t : Texts} (sound : IsSound a) (is : kept_by a ≡ t) (name : List ℕ) {old : Option Meaning}
+    (was : old ≡ entry_of name a.names.entries) {len : ℕ} (long : len ≡ rest_in (strands_of old)) {m : Chunks}
+    (shares : (chunk : ℕ) → share m chunk ≡ share a.chunks chunk - shares_by a.chunks chunk (strands_of old))
+    (sum : shares_in m + chunks_in (strands_of old) ≡ shares_in a.chunks) (same : AreSameChunks a.chunks m) where
+  -- a name goes
+  without-name : IsChanged a m (without_entry name a.names.entries) a.open (a.used - len)
+  without-name = record {
+    held = gone sound is name was long shares sum same;
+    leases = all-left (living a.leases.items) same;
+    most = same.most;
+    taken = sound.opens;
+    reserved = sound.opens_reserved;
+    once = EachOnce-without_entry name a.names.entries sound.once;
+    few = omega (arith, length-without_entry_le name a.names.entries, sound.few);
+    counted = omega (arith, used-out sound name was, long);
+    within = omega (arith, sound.within);
+  }
 
-  apart-out : AreApart (without_name name (strands_in a)) (strands_of old ++ [])
-  apart-out =
-      subst (λ (x : Option Meaning). AreApart (without_name name (strands_in a)) (strands_of x ++ [])) (sym was)
-      (name-apart-out (strands_in a) [] name sound.once sound.apart)
+  pub removed : {names : Table Meaning} → names ≡ removed_from name a.names
+      → Comes (Remove name) t (record a { names = names; chunks = m; used = a.used - len })
+  removed is_gone =
+      let names : entries_in m (without_entry name a.names.entries) ≡ without_entry name (entries_in a.chunks a.names.entries) =
+      entries-left a.chunks m (without_entry name a.names.entries) (all-left (bodies (without_entry name a.names.entries)) same)
+      ∙ map-without (entry_in a.chunks) name a.names.entries in
+      let opens = opens-left a.chunks m a.open.items (all-left a.open.items same) in
+      changed (Remove name) sound is without-name (cc) (λ _. refl) is_gone
 
-  -- its bytes are counted
-  pub used-out : a.used ≡ in_texts (λ s. s.rest) (without_name name (strands_in a)) + count
-  used-out =
-      let all : a.used ≡ in_texts (λ s. s.rest) (strands_in a) = sound.counted ∙ used-by a sound.lie in
-      let out = sum-without (of_meaning (λ s. s.rest)) name a.names.entries sound.once in
-      let one : count ≡ if_any (of_meaning (λ s. s.rest)) (entry_of name a.names.entries) =
-      long ∙ (sum-strands (λ s. s.rest) old ∙ ap (if_any (of_meaning (λ s. s.rest))) was) in
-      omega arith
+  -- or another name stands for what it stood for
+  module _ (from : List ℕ) (other : bytes_eq from name ≡ false) (meaning : Meaning) (found : entry_of from a.names.entries ≡ Some meaning) where
+    once-from : EachOnce (without_entry from a.names.entries)
+    once-from = EachOnce-without_entry from a.names.entries sound.once
 
-  pub counted-out : count ≤ a.used
-  counted-out = let all = used-out in omega arith
+    order : IsPermutation (bodies (without_entry name a.names.entries)) (bodies (with_entry name meaning (without_entry from a.names.entries)))
+    order =
+        let still : entry_of from (without_entry name a.names.entries) ≡ Some meaning =
+        entry_of-without_entry from name a.names.entries ∙ (rw other found) in
+        let taken : IsPermutation (bodies (without_entry name a.names.entries))
+        (strands_of (Some meaning) ++ bodies (without_entry name (without_entry from a.names.entries))) =
+        rw (still, without-both from name a.names.entries) at
+        (name-out from (without_entry name a.names.entries) (EachOnce-without_entry name a.names.entries sound.once)) in
+        onward taken (name-in name meaning (without_entry from a.names.entries) once-from)
 
-  -- and let go
-  module _ (m : Chunks)
-      (shares : (chunk : ℕ) → share m chunk ≡ share a.chunks chunk - sum_by (λ strand. has a.chunks strand chunk) (strands_of old))
-      (sum : shares_in m + sum_by (λ strand. strand.chunks) (strands_of old) ≡ shares_in a.chunks) (same : AreSameChunks a.chunks m) where
-    pub lie-gone : Lie m (without_name name (strands_in a)) []
-    lie-gone = released a.chunks m (without_name name (strands_in a)) (strands_of old) [] lie-out same shares sum
+    order-beside : IsPermutation (bodies (without_entry name a.names.entries) ++ a.open.items)
+        (bodies (with_entry name meaning (without_entry from a.names.entries)) ++ a.open.items)
+    order-beside =
+        IsPermutation-append_left a.open.items (bodies (without_entry name a.names.entries))
+        (bodies (with_entry name meaning (without_entry from a.names.entries))) order
 
-    pub apart-gone : AreApart (without_name name (strands_in a)) []
-    apart-gone chunk = let apart = apart-out chunk in omega arith
-
-    pub same-gone : GiveTheSame a.chunks m (without_name name (strands_in a))
-    same-gone = give-same a.chunks m (without_name name (strands_in a)) same
-
-    -- the name goes
-    changed-removed : IsChanged a (removed_from name a.names) m a.open (a.used - count)
-    changed-removed = record {
-      lie = lie-gone;
-      apart = apart-gone;
-      once = once-without a.names.entries name sound.once;
-      leases = same-gone.leases;
+    with-name : IsChanged a m (with_entry name meaning (without_entry from a.names.entries)) a.open (a.used - len)
+    with-name = record {
+      held = Holds-order order-beside same-order (gone sound is name was long shares sum same);
+      leases = all-left (living a.leases.items) same;
       most = same.most;
-      cap = refl;
-      few = let fewer = length-without_entry_le name a.names.entries in let few = sound.few in omega arith;
-      counted = let all = used-out in omega arith;
-      within = let within = sound.within in omega arith;
       taken = sound.opens;
       reserved = sound.opens_reserved;
+      once = EachOnce-with_entry name meaning (without_entry from a.names.entries) once-from;
+      few =
+          let fewer = rw found at (length-without_entry from a.names.entries sound.once) in
+          omega (arith, fewer, length-with_entry_le name meaning (without_entry from a.names.entries), sound.few);
+      counted =
+          omega (arith, used-out sound name was, long, same-sum (λ (x : Strand). x.rest) order-beside);
+      within = omega (arith, sound.within);
     }
 
-    module _ (names : Table Meaning) (gone : names ≡ removed_from name a.names) where
-      pub sound-removed : IsSound (record a { names = names; chunks = m; used = a.used - count })
-      sound-removed =
-          subst (λ (n : Table Meaning). IsSound (record a { names = n; chunks = m; used = a.used - count })) (sym gone)
-          (IsSound-changed a (removed_from name a.names) m a.open (a.used - count) sound changed-removed)
+    entries-renamed : entries_in a.chunks (with_entry name meaning (without_entry from a.names.entries))
+        ≡ renamed from name (entries_in a.chunks a.names.entries)
+    entries-renamed =
+        let there = entry-kept sound from (sym found) in
+        let set = map-with (entry_in a.chunks) (entry_in a.chunks) name meaning (without_entry from a.names.entries) once-from refl in
+        rw (other, there) (set ∙ ap (with_entry name (entry_in a.chunks meaning)) (map-without (entry_in a.chunks) from a.names.entries))
 
-      pub after-removed : kept_by (record a { names = names; chunks = m; used = a.used - count }) ≡ after (Remove name) t
-      after-removed =
-          let entries : entries_in m (without_entry name a.names.entries) ≡ without_entry name (entries_in a.chunks a.names.entries) =
-          same-gone.names ∙ entries-without a.chunks a.names.entries name in
-          let opens = same-gone.opens in
-          let leases = same-gone.leases in
-          let made : kept_by (record a { names = removed_from name a.names; chunks = m; used = a.used - count }) ≡ after (Remove name) (kept_by a) = cc in
-          subst (λ (n : Table Meaning). kept_by (record a { names = n; chunks = m; used = a.used - count }) ≡ after (Remove name) t) (sym gone)
-          (subst (λ (x : Texts). kept_by (record a { names = removed_from name a.names; chunks = m; used = a.used - count }) ≡ after (Remove name) x) is made)
+    pub moved : {names : Table Meaning} → names ≡ put_into name meaning (removed_from from a.names)
+        → Comes (Rename from name) t (record a { names = names; chunks = m; used = a.used - len })
+    moved {names} put =
+        let table : names ≡ record a.names { entries = with_entry name meaning (without_entry from a.names.entries) } =
+        put ∙ (rw (room-renamed from name a.names meaning sound.once found sound.few) refl) in
+        let all = with_entry name meaning (without_entry from a.names.entries) in
+        let entries : entries_in m (with_entry name meaning (without_entry from a.names.entries))
+        ≡ renamed from name (entries_in a.chunks a.names.entries) =
+        entries-left a.chunks m (with_entry name meaning (without_entry from a.names.entries)) (all-left (bodies all) same)
+        ∙ entries-renamed in
+        let opens = opens-left a.chunks m a.open.items (all-left a.open.items same) in
+        changed (Rename from name) sound is with-name (cc) (λ _. refl) table
+
+module _ {a : Inside} {t : Texts} (sound : IsSound a) (is : kept_by a ≡ t) (name : List ℕ) {old : Option Meaning}
+    (was : old ≡ entry_of name a.names.entries) where
+  -- a name that stands for nothing
+  pub nothing-moved : (to : List ℕ) → bytes_eq name to ≡ false → old ≡ None → t ≡ after (Rename name to) t
+  nothing-moved to other none =
+      let there = entry-kept sound name was ∙ ap (option_map (entry_in a.chunks)) none in
+      let same : renamed name to (entries_in a.chunks a.names.entries) ≡ entries_in a.chunks a.names.entries = rw (other, there) refl in
+      subst (λ (x : Texts). x ≡ after (Rename name to) x) is
+      (sym (ap (λ e. record (kept_by a) { names = record { entries = e; cap = a.names.cap } }) same))
+
+  -- the body of a name, its length and its kind
+  pub body-read : body_of name t ≡ body_if_any (option_map (entry_in a.chunks) old)
+  body-read = subst (λ (x : Texts). body_of name x ≡ body_if_any (option_map (entry_in a.chunks) old)) is (body-kept sound name was)
+
+  pub body-length : length (body_of name t) ≡ rest_in (strands_of old)
+  body-length = subst (λ (x : Texts). length (body_of name x) ≡ rest_in (strands_of old)) is (body-long sound name was)
+
+  pub entry-read : entry_of name t.names.entries ≡ option_map (entry_in a.chunks) old
+  entry-read = subst (λ (x : Texts). entry_of name x.names.entries ≡ option_map (entry_in a.chunks) old) is (entry-kept sound name was)
 
 -- the kind of what a name stands for
 abbrev pub kind_in : Meaning → Kind
 kind_in (BodyIn strand) = BodyOf strand.rest
 kind_in (RequestIn number) = RequestOf number
 
-pub kind-of-entry : (a : Inside) (t : Texts) → IsSound a → kept_by a ≡ t → (name : List ℕ) (old : Option Meaning) → old ≡ entry_of name a.names.entries
-    → option_map kind_in old ≡ option_map kind_of (entry_of name t.names.entries)
-kind-of-entry a t sound is name None was =
-    let none = entry-none a.chunks a.names.entries name (sym was) in rw (← is, none) refl
-kind-of-entry a t sound is name (Some (BodyIn strand)) was =
-    let found = entry-in a.chunks a.names.entries name (BodyIn strand) (sym was) in
-    let long = length-bytes_of a.chunks strand (name-is-body a.chunks (strands_in a) [] name (BodyIn strand) sound.lie (sym was)).strand in
-    rw (← is, found, long) refl
-kind-of-entry a t sound is name (Some (RequestIn number)) was =
-    let found = entry-in a.chunks a.names.entries name (RequestIn number) (sym was) in rw (← is, found) refl
+kind-entry : (m : Chunks) (old : Option Meaning) → All (IsText m) (strands_of old)
+    → option_map kind_in old ≡ option_map kind_of (option_map (entry_in m) old)
+kind-entry m None texts = refl
+kind-entry m (Some (BodyIn strand)) texts =
+    ap (λ n. Some (BodyOf n)) (sym (length-bytes_of m strand (All-head (IsText m) strand [] texts).strand))
+kind-entry m (Some (RequestIn number)) texts = refl
 
--- the body of a name has as many bytes as the strand of what it stands for
-pub body-length : (a : Inside) (t : Texts) → IsSound a → kept_by a ≡ t → (name : List ℕ) (old : Option Meaning) → old ≡ entry_of name a.names.entries
-    → length (body_of name t) ≡ sum_by (λ strand. strand.rest) (strands_of old)
-body-length a t sound is name None was =
-    let none = entry-none a.chunks a.names.entries name (sym was) in rw (← is, none) refl
-body-length a t sound is name (Some (BodyIn strand)) was =
-    let found = entry-in a.chunks a.names.entries name (BodyIn strand) (sym was) in
-    let long = length-bytes_of a.chunks strand (name-is-body a.chunks (strands_in a) [] name (BodyIn strand) sound.lie (sym was)).strand in
-    rw (← is, found, long) (omega arith)
-body-length a t sound is name (Some (RequestIn number)) was =
-    let found = entry-in a.chunks a.names.entries name (RequestIn number) (sym was) in rw (← is, found) refl
+pub kind-of-entry : {a : Inside} {t : Texts} → IsSound a → kept_by a ≡ t → (name : List ℕ) {old : Option Meaning}
+    → old ≡ entry_of name a.names.entries → option_map kind_in old ≡ option_map kind_of (entry_of name t.names.entries)
+kind-of-entry {a} sound is name {old} was =
+    kind-entry a.chunks old (texts-out sound name was) ∙ ap (option_map kind_of) (sym (entry-read sound is name was))

@@ -1,80 +1,28 @@
 -- A store of texts once texts in the making change.
-use Rattle.std.proofs.Common.{◌≡◌, ℕ, zero, suc, ◌+◌, ◌-◌, ◌*◌, ◌<◌, ◌≤◌, false, List, [], ◌∷◌, ◌++◌, length, map, get_or, All, nat_lt, refl, sym, ap, subst, ◌∙◌, arith, Vec, Global}
-use Rattle.std.specs.Prelude.{set, remove, vec_len, vec_capacity, Result, Ok, Err, if◌then◌else◌}
+use Rattle.std.proofs.Common.{◌≡◌, ℕ, zero, suc, ◌+◌, ◌-◌, ◌*◌, ◌<◌, ◌≤◌, true, List, [], ◌∷◌, ◌++◌, length, map, get_or, nat_lt, Ok, Err, refl, sym, ap, subst, ◌∙◌, arith, Vec, Global, take, drop, length-append}
+use Rattle.std.specs.Prelude.{set, remove, vec_len, vec_capacity, if◌then◌else◌}
 use Rattle.std.specs.Vec.{with_item}
-use Rattle.std.proofs.lemmas.List.{get_or-map, length-map}
-use Rattle.std.proofs.lemmas.List.Edits.{length-remove}
-use Rattle.std.proofs.lemmas.List.Sums.{sum_by-append, sum_by-set, sum_by-remove}
-use Rattle.std.proofs.lemmas.List.Elements.{All-append}
 use Rattle.std.proofs.lemmas.Bool.Decides.{nat_tests}
-use Rattle.roff_num.specs.declared.limit.Limit.{Limit}
+use Rattle.std.proofs.lemmas.List.{get_or-map, length-map, map-append}
+use Rattle.std.proofs.lemmas.List.Elements.{All-nil}
+use Rattle.std.proofs.lemmas.List.Sums.{sum_by-cons, sum_by-set}
 use Rattle.roff_num.specs.declared.limit.Limit.TheVariants.{Store}
 use Rattle.roff_store.specs.declared.strand.Strand.{Strand}
-use Rattle.roff_store.specs.declared.text_store.Meaning.{Meaning}
 use Rattle.roff_store.specs.declared.text_store.TextStore.TheInside.{Inside}
-use Rattle.roff_store.specs.Chains.{Chunks, bytes_of, has, others, share, shares_in, AreSameChunks, IsChain, IsExtended, IsText, times_in}
-use Rattle.roff_store.specs.Named.{Table, EachOnce}
+use Rattle.roff_store.specs.Pool.{Holds, IsHeld, IsLeft, IsLonger, rest_in}
+use Rattle.roff_store.specs.Chains.{Chunks, bytes_of, chain_bytes, others, share, shares_in, AreSameChunks, IsStrand, IsText}
+use Rattle.roff_store.specs.Leases.{living}
 use Rattle.roff_store.specs.Texts.{Texts, used}
-use Rattle.roff_store.specs.TextCalls.{DropOpen, PushOpen, after, made, unless_refused, within_bytes}
-use Rattle.roff_store.specs.TextStore.Kept.{kept_by, strands_in, IsSound}
-use Rattle.roff_store.specs.TextStore.Strands.{Strands, AreApart, Lie, ends_in, in_texts, lease_in}
-use Rattle.roff_store.proofs.Hands.{without_open, open-out, open-apart-out, open-is-text, open-in, open-apart-in}
-use Rattle.roff_store.proofs.Lying.{HasGrown, bytes-leases, bytes-names, chunks-in, give-same, grown, released}
+use Rattle.roff_store.specs.TextCalls.{DropOpen, Open, PushOpen, answered, made, open_text}
+use Rattle.roff_store.specs.TextStore.Kept.{IsSound, kept_by}
+use Rattle.roff_store.specs.TextStore.Strands.{bodies}
+use Rattle.roff_store.proofs.Keeping.{Comes, IsChanged, changed, open-held, open-used, room-left, used-kept}
+use Rattle.roff_store.proofs.Leaving.{chunks-enough}
+use Rattle.roff_store.proofs.Places.{open-behind, open-in, same-order, same-sum}
+use Rattle.roff_store.proofs.Pool.{All-behind, All-front, Holds-order, all-left, blank-held, blank-text, entries-left, held-text, opens-left, reshared}
 
--- the bytes of bodies and texts in the making, by their strands
-pub used-by : (a : Inside) → Lie a.chunks (strands_in a) [] → used (kept_by a) ≡ in_texts (λ strand. strand.rest) (strands_in a)
-used-by a lie = bytes-names a.chunks (strands_in a) [] lie
-
--- texts and names in other chunks, which the leases don't notice
-pub record IsChanged (a : Inside) (names : Table Meaning) (m : Chunks) (opens : Vec Strand Global) (count : ℕ) : Type 0 where
-  pub lie : Lie m (record { names = names.entries; opens = opens.items; leases = a.leases.items }) []
-  pub apart : AreApart (record { names = names.entries; opens = opens.items; leases = a.leases.items }) []
-  pub once : EachOnce names.entries
-  pub leases : map (lease_in m) a.leases.items ≡ map (lease_in a.chunks) a.leases.items
-  pub most : m.most ≡ a.chunks.most
-  pub cap : names.cap ≡ a.names.cap
-  pub few : length names.entries ≤ names.cap
-  pub counted : count ≡ in_texts (λ strand. strand.rest)
-      (record { names = names.entries; opens = opens.items; leases = a.leases.items })
-  pub within : count ≤ a.cap_bytes
-  pub taken : vec_len opens ≤ a.cap_open
-  pub reserved : vec_capacity opens ≡ a.cap_open
-
--- the store stays sound
-pub IsSound-changed : (a : Inside) (names : Table Meaning) (m : Chunks) (opens : Vec Strand Global) (count : ℕ) → IsSound a
-    → IsChanged a names m opens count → IsSound (record a { names = names; chunks = m; «open» = opens; used = count })
-IsSound-changed a names m opens count sound changed = record {
-  lie = changed.lie;
-  apart = changed.apart;
-  once = changed.once;
-  counted = changed.counted ∙ sym (used-by (record a { names = names; chunks = m; «open» = opens; used = count }) changed.lie);
-  within = changed.within;
-  kept_counted = sound.kept_counted;
-  given = rw changed.leases sound.given;
-  living = rw changed.leases sound.living;
-  few = changed.few;
-  opens = changed.taken;
-  room = rw (changed.most, changed.cap) sound.room;
-  most = rw changed.most sound.most;
-  ended_known = sound.ended_known;
-  ended_dead = sound.ended_dead;
-  ended_once = sound.ended_once;
-  ended_count = rw changed.leases sound.ended_count;
-  leases_taken = sound.leases_taken;
-  opens_reserved = changed.reserved;
-  leases_reserved = sound.leases_reserved;
-  ended_reserved = sound.ended_reserved;
-}
-
--- a sound store has passed no limit of bytes
-pub within-sound : (a : Inside) (answer : Result (Unit {0}) Limit) → IsSound a → within_bytes (kept_by a) answer ≡ answer
-within-sound a answer sound =
-    let within : used (kept_by a) ≤ a.cap_bytes = subst (λ n. n ≤ a.cap_bytes) sound.counted sound.within in
-    let test : nat_lt a.cap_bytes (used (kept_by a)) ≡ false = grind (arith, nat_tests) in
-    ap (λ b. if b then Err Store else answer) test
-
--- an element is written where it is left out
-pub map-set-out : {X Y : Type 0} (f g : X → Y) (xs : List X) (i : ℕ) (x : X) → map f (remove xs i) ≡ map g (remove xs i)
+-- an element is written where it is left out, or taken away
+map-set-out : {X Y : Type 0} (f g : X → Y) (xs : List X) (i : ℕ) (x : X) → map f (remove xs i) ≡ map g (remove xs i)
     → map f (set xs i x) ≡ set (map g xs) i (f x)
 map-set-out f g [] i x same = refl
 map-set-out f g (y ∷ ys) zero x same = ap (λ l. f x ∷ l) same
@@ -89,222 +37,147 @@ map-remove f [] (suc i) = refl
 map-remove f (y ∷ ys) zero = refl
 map-remove f (y ∷ ys) (suc i) = ap (λ l. f y ∷ l) (map-remove f ys i)
 
--- a strand without chunks has none, and is a text
-pub has-none : (m : Chunks) (s : Strand) (chunk : ℕ) → s.chunks ≡ 0 → has m s chunk ≡ 0
-has-none m s chunk none = ap (λ n. times_in m n s.first chunk) none
-
-pub text-none : (m : Chunks) (s : Strand) → m.most ≤ s.last → s.chunks ≡ 0 → s.at ≡ 0 → s.rest ≡ 0 → IsText m s
-text-none m s last none at rest = record {
-  strand = record {
-    chain = subst (λ (n : ℕ). IsChain m n s.first (s.at + s.rest)) (sym none) (omega arith);
-    start = omega arith;
-    some = λ some. omega arith;
-  };
-  whole = at;
-  ends = λ some. absurd (omega arith);
-  none = λ _. last;
-}
-
--- nor does it end with one
-pub ends-none : (chunk : ℕ) (s : Strand) → s.chunks ≡ 0 → ends_in chunk s ≡ 0
-ends-none chunk s none = rw none refl
-
--- what holds of an element holds of all of a list of one
-pub All-one : {X : Type 0} (P : X → Type 0) (x : X) → P x → All P (x ∷ [])
-All-one P x holds zero d within = holds
-All-one P x holds (suc k) d within = absurd (omega arith)
-
--- a text without bytes comes behind the texts in the making
-pub open-behind : (m : Chunks) (s : Strands) (more : List Strand) (blank : Strand) → IsText m blank → blank.chunks ≡ 0
-    → Lie m s more
-    → Lie m (record s { opens = s.opens ++ blank ∷ [] }) more
-open-behind m s more blank text none lie = record {
-  names = lie.names;
-  opens = All-append (IsText m) s.opens (blank ∷ []) lie.opens (All-one (IsText m) blank text);
-  leases = lie.leases;
-  shares = λ chunk.
-      let all = sum_by-append (λ (strand : Strand). has m strand chunk) s.opens (blank ∷ []) in
-      let nothing = has-none m blank chunk none in
-      let shares = lie.shares chunk in omega arith;
-  sum =
-      let all = sum_by-append (λ (strand : Strand). strand.chunks) s.opens (blank ∷ []) in
-      let sum = lie.sum in omega arith;
-  within = lie.within;
-}
-
-module _ (a : Inside) (t : Texts) (sound : IsSound a) (is : kept_by a ≡ t) (id : ℕ) (given : id < length t.open_texts)
-    (strand : Strand)
-    (was : strand ≡ get_or a.open.items id strand) where
-  -- the text is one of those in the making
-  pub inside : id < length a.open.items
-  inside =
-      let all : length (map (bytes_of a.chunks) a.open.items)
-      ≡ length t.open_texts = ap (λ (x : Texts). length x.open_texts) is in
-      let n = length-map a.open.items (bytes_of a.chunks) in
-      omega arith
-
-  -- the text is in hand
-  pub in-hand : Lie a.chunks (without_open id (strands_in a)) (strand ∷ [])
-  in-hand =
-      subst (λ (x : Strand). Lie a.chunks (without_open id (strands_in a)) (x ∷ [])) (sym was)
-      (open-out a.chunks (strands_in a) [] id strand inside sound.lie)
-
-  pub apart-in-hand : AreApart (without_open id (strands_in a)) (strand ∷ [])
-  apart-in-hand =
-      subst (λ (x : Strand). AreApart (without_open id (strands_in a)) (x ∷ [])) (sym was)
-      (open-apart-out (strands_in a) [] id strand inside sound.apart)
-
-  pub text-in-hand : IsText a.chunks strand
-  text-in-hand =
-      subst (λ (x : Strand). IsText a.chunks x) (sym was) (open-is-text a.chunks (strands_in a) [] id strand inside sound.lie)
-
-  -- and its bytes are counted
-  pub used-in-hand : a.used ≡ in_texts (λ s. s.rest) (without_open id (strands_in a)) + strand.rest
-  used-in-hand =
-      let out = sum_by-remove (λ (s : Strand). s.rest) a.open.items id strand inside in
-      let at : strand.rest ≡ (get_or a.open.items id strand).rest = ap (λ (x : Strand). x.rest) was in
-      let all : a.used ≡ in_texts (λ s. s.rest) (strands_in a) = sound.counted ∙ used-by a sound.lie in
-      omega arith
-
-  -- there is room to put bytes behind it
-  pub room-in-hand : (count : ℕ) → count ≤ a.cap_bytes - a.used
-      → 120 * shares_in a.chunks + strand.rest + count + 119 ≤ 120 * (a.chunks.most + strand.chunks)
-  room-in-hand count fits =
-      let chunks = chunks-in a.chunks (without_open id (strands_in a)) (strand ∷ []) in-hand in
-      let sum = in-hand.sum in
-      let given = bytes-leases a.chunks (strands_in a) [] sound.lie in
-      let few = length-remove a.open.items id inside in
-      let all = used-in-hand in
-      let leases : length a.leases.items ≤ a.cap_leases = omega arith in
-      omega arith
-
-  -- what is behind it fits
-  pub short-in-hand : (count : ℕ) → count ≤ a.cap_bytes - a.used → strand.rest + count ≤ a.cap_bytes
-  short-in-hand count fits = let all = used-in-hand in let within = sound.within in omega arith
-
-  module _ (m : Chunks) (longer : Strand) (bytes : List ℕ) (room : length bytes ≤ a.cap_bytes - a.used)
-      (extended : IsExtended (others a.chunks strand) a.chunks strand bytes m longer)
-      (sum : shares_in m + strand.chunks ≡ shares_in a.chunks + longer.chunks) where
-    -- bytes are put behind it
-    pub grown-in-hand : HasGrown a.chunks m (without_open id (strands_in a)) longer
-    grown-in-hand =
-        grown (others a.chunks strand) a.chunks m (without_open id (strands_in a)) (strand ∷ []) strand longer bytes in-hand
-        apart-in-hand
-        text-in-hand (λ chunk. let e = in-hand.shares chunk in omega arith) extended (let e = in-hand.sum in omega arith)
-
-    -- and it is put back
-    pub changed-pushed : IsChanged a a.names m (with_item a.open id longer) (a.used + length bytes)
-    changed-pushed = record {
-      lie = open-in m (strands_in a) [] id longer inside grown-in-hand.lie extended.text;
-      apart = open-apart-in (strands_in a) [] id longer inside grown-in-hand.apart;
-      once = sound.once;
-      leases = grown-in-hand.same.leases;
-      most = extended.leaves.most;
-      cap = refl;
-      few = sound.few;
-      counted =
-          let all = used-in-hand in
-          let one = sum_by-set (λ (s : Strand). s.rest) a.open.items id longer strand inside in
-          let out = sum_by-remove (λ (s : Strand). s.rest) a.open.items id strand inside in
-          let long = extended.len in
-          omega arith;
-      within = let within = sound.within in omega arith;
-      taken = sound.opens;
-      reserved = sound.opens_reserved;
-    }
-
-    pub sound-pushed : IsSound (record a { chunks = m; «open» = with_item a.open id longer; used = a.used + length bytes })
-    sound-pushed = IsSound-changed a a.names m (with_item a.open id longer) (a.used + length bytes) sound changed-pushed
-
-    made-pushed : kept_by (record a { chunks = m; «open» = with_item a.open id longer; used = a.used + length bytes })
-        ≡ made (PushOpen id bytes) (kept_by a)
-    made-pushed =
-        let same = grown-in-hand.same in
-        let text : get_or (map (bytes_of a.chunks) a.open.items) id [] ≡ bytes_of a.chunks strand =
-        get_or-map (bytes_of a.chunks) a.open.items id strand [] inside ∙ ap (bytes_of a.chunks) (sym was) in
-        let all : map (bytes_of m) (set a.open.items id longer)
-        ≡ set (map (bytes_of a.chunks) a.open.items) id (get_or (map (bytes_of a.chunks) a.open.items) id [] ++ bytes) =
-        map-set-out (bytes_of m) (bytes_of a.chunks) a.open.items id longer same.opens
-        ∙ ap (λ x. set (map (bytes_of a.chunks) a.open.items) id x) (extended.bytes ∙ ap (λ x. x ++ bytes) (sym text)) in
-        let names = same.names in
-        let leases = same.leases in
-        cc
-
-    pub after-pushed : kept_by (record a { chunks = m; «open» = with_item a.open id longer; used = a.used + length bytes })
-        ≡ after (PushOpen id bytes) t
-    after-pushed =
-        let b : Inside = record a { chunks = m; «open» = with_item a.open id longer; used = a.used + length bytes } in
-        subst (λ (x : Texts). kept_by b ≡ after (PushOpen id bytes) x) is
-        (subst (λ (x : Texts). kept_by b ≡ unless_refused (within_bytes x (Ok tt)) (kept_by a) x) made-pushed
-        (sym (ap (λ r. unless_refused r (kept_by a) (kept_by b)) (within-sound b (Ok tt) sound-pushed))))
-
-  -- the text is dropped
-  module _ (m : Chunks) (opens : Vec Strand Global) (items : opens.items ≡ remove a.open.items id)
-      (len : vec_len opens + 1 ≡ vec_len a.open) (capacity : vec_capacity opens ≡ vec_capacity a.open)
-      (shares : (chunk : ℕ) → share m chunk ≡ others a.chunks strand chunk)
-      (sum : shares_in m + strand.chunks ≡ shares_in a.chunks)
-      (same : AreSameChunks a.chunks m) where
-    changed-dropped : IsChanged a a.names m opens (a.used - strand.rest)
-    changed-dropped =
-        let gives = give-same a.chunks m (without_open id (strands_in a)) same in
-        let lie : Lie m (without_open id (strands_in a)) [] =
-        released a.chunks m (without_open id (strands_in a)) (strand ∷ []) [] in-hand same
-        (λ chunk. let e = shares chunk in omega arith) (omega (arith, sum)) in
-        record {
-          lie = rw items lie;
-          apart = rw items (λ chunk. let e = apart-in-hand chunk in omega arith);
-          once = sound.once;
-          leases = gives.leases;
-          most = same.most;
-          cap = refl;
-          few = sound.few;
-          counted = rw items (let all = used-in-hand in omega arith);
-          within = let within = sound.within in omega arith;
-          taken = let n = sound.opens in omega arith;
-          reserved = capacity ∙ sound.opens_reserved;
-        }
-
-    pub sound-dropped : IsSound (record a { chunks = m; «open» = opens; used = a.used - strand.rest })
-    sound-dropped = IsSound-changed a a.names m opens (a.used - strand.rest) sound changed-dropped
-
-    pub after-dropped : kept_by (record a { chunks = m; «open» = opens; used = a.used - strand.rest }) ≡ after (DropOpen id) t
-    after-dropped =
-        let gives = give-same a.chunks m (without_open id (strands_in a)) same in
-        let all : map (bytes_of m) opens.items ≡ remove (map (bytes_of a.chunks) a.open.items) id =
-        ap (map (bytes_of m)) items ∙ (gives.opens ∙ map-remove (bytes_of a.chunks) a.open.items id) in
-        let names = gives.names in
-        let leases = gives.leases in
-        subst (λ (x : Texts). kept_by (record a { chunks = m; «open» = opens; used = a.used - strand.rest })
-        ≡ after (DropOpen id) x) is (cc)
-
 -- a text is begun
-module _ (a : Inside) (t : Texts) (sound : IsSound a) (is : kept_by a ≡ t) (given : length t.open_texts < t.cap_open)
-    (opens : Vec Strand Global) (blank : Strand) (none : blank.chunks ≡ 0) (at : blank.at ≡ 0)
-    (rest : blank.rest ≡ 0) (last : a.chunks.most ≤ blank.last) (items : opens.items ≡ a.open.items ++ blank ∷ [])
-    (len : vec_len opens ≡ vec_len a.open + 1) (capacity : vec_capacity opens ≡ vec_capacity a.open) where
-  changed-begun : IsChanged a a.names a.chunks opens a.used
-  changed-begun = record {
-    lie = rw items (open-behind a.chunks (strands_in a) [] blank (text-none a.chunks blank last none at rest) none sound.lie);
-    apart = rw items (λ chunk.
-        let all = sum_by-append (ends_in chunk) a.open.items (blank ∷ []) in
-        let nothing = ends-none chunk blank none in
-        let apart = sound.apart chunk in omega arith);
-    once = sound.once;
-    leases = refl;
-    most = refl;
-    cap = refl;
-    few = sound.few;
-    counted = rw items (
-        let counted : a.used ≡ in_texts (λ s. s.rest) (strands_in a) = sound.counted ∙ used-by a sound.lie in
-        let all = sum_by-append (λ (strand : Strand). strand.rest) a.open.items (blank ∷ []) in omega arith);
-    within = sound.within;
-    taken =
-        let room : length (map (bytes_of a.chunks) a.open.items) < a.cap_open =
-        subst (λ (x : Texts). length x.open_texts < x.cap_open) (sym is) given in
-        let n = length-map a.open.items (bytes_of a.chunks) in
-        omega arith;
-    reserved = capacity ∙ sound.opens_reserved;
-  }
+pub begun : {a : Inside} {t : Texts} → IsSound a → kept_by a ≡ t → length t.open_texts < t.cap_open → (opens : Vec Strand Global)
+    (blank : Strand) → blank.chunks ≡ 0 → blank.at ≡ 0 → blank.rest ≡ 0 → blank.last ≡ 18446744073709551615
+    → opens.items ≡ a.open.items ++ blank ∷ [] → vec_len opens ≡ vec_len a.open + 1 → vec_capacity opens ≡ vec_capacity a.open
+    → Comes Open t (record a { «open» = opens })
+begun {a} {t} sound is given opens blank none at rest last items len capacity =
+    let text = blank-text a.chunks blank (omega (arith, sound.most, last)) none at rest in
+    let order = open-behind (bodies a.names.entries) a.open.items blank in
+    let held : Holds a.chunks (bodies a.names.entries ++ opens.items) (living a.leases.items) =
+    rw items (Holds-order order same-order (blank-held blank sound.held text none)) in
+    let fewer : length (map (bytes_of a.chunks) a.open.items) < a.cap_open =
+    subst (λ (x : Texts). length x.open_texts < x.cap_open) (sym is) given in
+    let counted : a.used ≡ rest_in (bodies a.names.entries ++ opens.items) =
+    rw items (omega (
+      arith,
+      sound.counted,
+      rest,
+      sum_by-cons (λ (x : Strand). x.rest) blank (bodies a.names.entries ++ a.open.items),
+      same-sum (λ (x : Strand). x.rest) order,
+    )) in
+    let opened : IsChanged a a.chunks a.names.entries opens a.used = record {
+      held = held;
+      once = sound.once;
+      few = sound.few;
+      leases = λ k d inside. record { bytes = refl; has = λ chunk. refl };
+      most = refl;
+      counted = counted;
+      within = sound.within;
+      taken = omega (arith, fewer, len, length-map a.open.items (bytes_of a.chunks), a.open.ok.0);
+      reserved = capacity ∙ sound.opens_reserved;
+    } in
+    let empty : bytes_of a.chunks blank ≡ [] = ap (λ n. take n (drop blank.at (chain_bytes a.chunks blank.chunks blank.first))) rest in
+    let opens_now : map (bytes_of a.chunks) opens.items ≡ map (bytes_of a.chunks) a.open.items ++ [] ∷ [] =
+    ap (map (bytes_of a.chunks)) items ∙ (map-append (bytes_of a.chunks) a.open.items (blank ∷ [])
+    ∙ ap (λ (x : List ℕ). map (bytes_of a.chunks) a.open.items ++ x ∷ []) empty) in
+    changed Open sound is opened (ap (λ o. record (kept_by a) { open_texts = o }) opens_now) (λ _. refl) refl
 
-  pub sound-begun : IsSound (record a { «open» = opens })
-  sound-begun = IsSound-changed a a.names a.chunks opens a.used sound changed-begun
+module _ {a : Inside} {t : Texts} (sound : IsSound a) (is : kept_by a ≡ t) (id : ℕ) (given : id < length t.open_texts) where
+  -- the text is one of those in the making
+  pub open-inside : id < length a.open.items
+  open-inside =
+      let all : id < length (map (bytes_of a.chunks) a.open.items) = subst (λ (x : Texts). id < length x.open_texts) (sym is) given in
+      omega (arith, all, length-map a.open.items (bytes_of a.chunks))
+
+  -- too many bytes would be put behind it
+  pub push-refused : (bytes : List ℕ) → a.cap_bytes - a.used < length bytes → Err Store ≡ answered (PushOpen id bytes) t
+  push-refused bytes over =
+      let all = used-kept sound in
+      let inside : id < length (map (bytes_of a.chunks) a.open.items) =
+      omega (arith, open-inside, length-map a.open.items (bytes_of a.chunks)) in
+      let set = sum_by-set (λ (x : List ℕ). length x) (map (bytes_of a.chunks) a.open.items) id
+      (open_text id (kept_by a) ++ bytes) [] inside in
+      let long = length-append (open_text id (kept_by a)) bytes in
+      let within = sound.within in
+      let test : nat_lt a.cap_bytes (used (made (PushOpen id bytes) (kept_by a))) ≡ true = grind (arith, nat_tests) in
+      subst (λ (x : Texts). Err Store ≡ answered (PushOpen id bytes) x) is
+      (sym (ap (λ b. if b then Err Store else Ok tt) test))
+
+  module _ {text : Strand} (was : text ≡ get_or a.open.items id text) where
+    held-text-out : Holds a.chunks (text ∷ (bodies a.names.entries ++ remove a.open.items id)) (living a.leases.items)
+    held-text-out = open-held sound id open-inside was
+
+    pub text-held : IsHeld a.chunks text []
+    text-held = record { ts = bodies a.names.entries ++ remove a.open.items id; ls = living a.leases.items; held = held-text-out }
+
+    pub open-text : IsText a.chunks text
+    open-text = held-text text-held
+
+    pub used-text : a.used ≡ text.rest + rest_in (bodies a.names.entries ++ remove a.open.items id)
+    used-text = open-used sound id open-inside was
+
+    -- its bytes
+    pub text-read : open_text id (kept_by a) ≡ bytes_of a.chunks text
+    text-read =
+        get_or-map (bytes_of a.chunks) a.open.items id text [] open-inside ∙ ap (bytes_of a.chunks) (sym was)
+
+    -- there is room to put bytes behind it
+    pub push-room : (count : ℕ) → count ≤ a.cap_bytes - a.used
+        → 120 * shares_in a.chunks + text.rest + count + 119 ≤ 120 * (a.chunks.most + text.chunks)
+    push-room count fits = omega (arith, fits, room-left sound, chunks-enough a.chunks text open-text.strand)
+
+    pub push-short : (count : ℕ) → count ≤ a.cap_bytes - a.used → text.rest + count ≤ a.cap_bytes
+    push-short count fits = omega (arith, fits, used-text, sound.within)
+
+    -- bytes are put behind it
+    pub pushed : {m : Chunks} {longer : Strand} {bytes : List ℕ} → length bytes ≤ a.cap_bytes - a.used
+        → IsLonger a.chunks text [] bytes m longer []
+        → Comes (PushOpen id bytes) t (record a { chunks = m; «open» = with_item a.open id longer; used = a.used + length bytes })
+    pushed {m} {longer} {bytes} room more =
+        let had = more.leaves (bodies a.names.entries ++ remove a.open.items id) (living a.leases.items) held-text-out in
+        let order = open-in (bodies a.names.entries) a.open.items id longer open-inside in
+        let opened : IsChanged a m a.names.entries (with_item a.open id longer) (a.used + length bytes) = record {
+          held = Holds-order order same-order had.held;
+          once = sound.once;
+          few = sound.few;
+          leases = had.leases_left;
+          most = more.most;
+          counted =
+              omega (
+                arith,
+                used-text,
+                more.len,
+                same-sum (λ (x : Strand). x.rest) order,
+                sum_by-cons (λ (x : Strand). x.rest) longer (bodies a.names.entries ++ remove a.open.items id),
+              );
+          within = omega (arith, room, sound.within);
+          taken = sound.opens;
+          reserved = sound.opens_reserved;
+        } in
+        let others_same = opens-left a.chunks m (remove a.open.items id)
+        (All-behind (IsLeft a.chunks m) (bodies a.names.entries) (remove a.open.items id) had.texts_left) in
+        let opens_now : map (bytes_of m) (set a.open.items id longer)
+        ≡ set (map (bytes_of a.chunks) a.open.items) id (open_text id (kept_by a) ++ bytes) =
+        map-set-out (bytes_of m) (bytes_of a.chunks) a.open.items id longer others_same
+        ∙ ap (λ x. set (map (bytes_of a.chunks) a.open.items) id x) (more.bytes_are ∙ ap (λ x. x ++ bytes) (sym text-read)) in
+        let names = entries-left a.chunks m a.names.entries
+        (All-front (IsLeft a.chunks m) (bodies a.names.entries) (remove a.open.items id) had.texts_left) in
+        changed (PushOpen id bytes) sound is opened (cc) (λ fits. fits) refl
+
+    -- or it is dropped
+    pub dropped : {m : Chunks} {opens : Vec Strand Global} → opens.items ≡ remove a.open.items id
+        → vec_len opens + 1 ≡ vec_len a.open → vec_capacity opens ≡ vec_capacity a.open
+        → ((chunk : ℕ) → share m chunk ≡ others a.chunks text chunk) → shares_in m + text.chunks ≡ shares_in a.chunks
+        → AreSameChunks a.chunks m → Comes (DropOpen id) t (record a { chunks = m; «open» = opens; used = a.used - text.rest })
+    dropped {m} {opens} items len capacity shares sum same =
+        let held : Holds m (bodies a.names.entries ++ remove a.open.items id) (living a.leases.items) =
+        reshared (text ∷ []) [] [] (living a.leases.items) held-text-out same (All-nil (IsStrand m))
+        (λ chunk. omega (arith, shares chunk)) (omega (arith, sum)) in
+        let opened : IsChanged a m a.names.entries opens (a.used - text.rest) = record {
+          held = rw items held;
+          once = sound.once;
+          few = sound.few;
+          leases = all-left (living a.leases.items) same;
+          most = same.most;
+          counted = rw items (omega (arith, used-text));
+          within = omega (arith, sound.within);
+          taken = omega (arith, len, sound.opens);
+          reserved = capacity ∙ sound.opens_reserved;
+        } in
+        let opens_now : map (bytes_of m) opens.items ≡ remove (map (bytes_of a.chunks) a.open.items) id =
+        ap (map (bytes_of m)) items ∙ (opens-left a.chunks m (remove a.open.items id) (all-left (remove a.open.items id) same)
+        ∙ map-remove (bytes_of a.chunks) a.open.items id) in
+        let names = entries-left a.chunks m a.names.entries (all-left (bodies a.names.entries) same) in
+        changed (DropOpen id) sound is opened (cc) (λ _. refl) refl

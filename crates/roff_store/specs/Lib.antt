@@ -5,9 +5,12 @@ pub mod Registers
 pub mod Laws
 pub mod Chains
 pub mod Chunks
+pub mod Pool
 pub mod Texts
 pub mod TextCalls
 pub mod Leased
+pub mod Leases
+pub mod LeaseTable
 pub mod TextRows
 pub mod TextStore
 pub mod TextLaws

@@ -2,10 +2,11 @@
 //! strand has any more serves again.
 
 ghost use Rattle.std.specs.Prelude.{◌≡◌, ◌≢◌, ◌==◌, if◌then◌else◌, ℕ, ◌<◌, ◌≤◌, ◌+◌, ◌-◌, ◌*◌, ◌^◌};
-ghost use Rattle.std.specs.Prelude.{[], length, take, drop, IfOk, None};
+ghost use Rattle.std.specs.Prelude.{[], ◌∷◌, length, take, drop, IfOk, None};
 ghost use Rattle.roff_store.specs.Chains.{content, has, link, others, share, shares_in};
 ghost use Rattle.roff_store.specs.Chains.{AreSameChunks, IsExtended, IsShared, IsStrand, IsText};
 ghost use Rattle.roff_store.specs.Chains.{LeavesOthers, bytes_of};
+ghost use Rattle.roff_store.specs.Pool.{IsHeld, IsLonger};
 ghost use Rattle.std.specs.List.{last_or};
 
 use crate::strand::{NO_CHUNK, Strand};
@@ -161,13 +162,11 @@ impl Chunks {
 
     /// A text with these bytes behind those of another one.
     pub(crate) fn extend(&mut self, strand: Strand, text: &[u8]) -> Strand
-        requires strand { IsText self.old strand }
-        requires shared { IsShared self.old strand }
+        requires held { IsHeld self.old strand [] }
         requires room { 120 * shares_in self.old + strand.rest + length text.now + 119
             ≤ 120 * (self.old.most + strand.chunks) }
         requires short { strand.rest + length text.now < 2 ^ 64 }
-        ensures extended { IsExtended (others self.old strand) self.old strand
-            text.now self.new result }
+        ensures longer { IsLonger self.old strand [] text.now self.new result [] }
         ensures sum { shares_in self.new + strand.chunks ≡ shares_in self.old + result.chunks }
     {
         let room = self.room_behind(strand);
@@ -184,16 +183,10 @@ impl Chunks {
 
     /// Puts the bytes of a strand behind a text, and releases the strand.
     pub(crate) fn append(&mut self, to: Strand, from: Strand) -> Strand
-        requires text { IsText self.old to }
-        requires strand { IsStrand self.old from }
-        requires shared { (chunk : ℕ)
-            → has self.old to chunk + has self.old from chunk ≤ share self.old chunk }
+        requires held { IsHeld self.old to (from ∷ []) }
         requires room { shares_in self.old + 3 ≤ self.old.most }
         requires short { to.rest + from.rest < 2 ^ 64 }
-        ensures extended { IsExtended (λ chunk. others self.old to chunk - has self.old from chunk)
-            self.old to (bytes_of self.old from) self.new result }
-        ensures sum { shares_in self.new + to.chunks + from.chunks
-            ≡ shares_in self.old + result.chunks }
+        ensures { IsLonger self.old to (from ∷ []) (bytes_of self.old from) self.new result [] }
     {
         // the invariant is known where a field is named
         let _ = &self.contents;

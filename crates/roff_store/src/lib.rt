@@ -6,6 +6,7 @@
 
 mod chunks;
 pub mod laws;
+mod lease_table;
 mod name_table;
 mod reg_table;
 mod register;

@@ -1,6 +1,6 @@
 //! Entries by name, found through a number made of the name's bytes.
 
-ghost use Rattle.std.specs.Prelude.{◌≡◌, ℕ, ◌<◌, ◌≤◌, ◌^◌, ◌+◌, ◌==◌, [], length, slice_index};
+ghost use Rattle.std.specs.Prelude.{◌≡◌, ℕ, ◌<◌, ◌≤◌, ◌^◌, ◌+◌, ◌||◌, [], length, slice_index, nat_lt};
 ghost use Rattle.std.specs.Prelude.{Option, IfOk, IfSome, IfNone, vec_len, vec_capacity};
 ghost use Rattle.roff_store.specs.Named.{EachOnce, entry_of, with_entry, without_entry};
 ghost use Rattle.roff_store.specs.Buckets.{bucket_of};
@@ -78,11 +78,11 @@ impl<E: Copy> NameTable<E> {
         self.count as usize
     }
 
-    /// Whether a new name would be refused.
-    pub(crate) fn is_full(&self) -> bool
-        ensures { result ≡ (length self.now.entries == self.now.cap) }
+    /// Whether a name may be given an entry that is known to have one, or to have none.
+    pub(crate) fn has_room_for(&self, known: bool) -> bool
+        ensures { result ≡ (known || nat_lt (length self.now.entries) self.now.cap) }
     {
-        self.count == self.cap
+        known || self.count < self.cap
     }
 
     /// Whether a name may be given an entry: the table isn't full, or the name has one.

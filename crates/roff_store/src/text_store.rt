@@ -2,7 +2,7 @@
 //! section 7).
 
 ghost use Rattle.std.specs.Prelude.{◌≡◌, ◌≤◌, ◌+◌, ◌-◌, ℕ, [], All, length, option_map, sum_by};
-ghost use Rattle.std.specs.Prelude.{IsTrue, ◌↔◌, ◌*◌, IfOk, None, vec_capacity};
+ghost use Rattle.std.specs.Prelude.{IsTrue, ◌↔◌, ◌*◌, IfOk, None};
 ghost use Rattle.std.specs.List.{last_or};
 ghost use Rattle.roff_store.specs.Chains.{has, share, shares_in, AreSameChunks, IsShared, IsStrand};
 ghost use Rattle.roff_store.specs.Named.{entry_of};
@@ -14,6 +14,7 @@ mod naming;
 mod opening;
 
 use crate::chunks::{CHUNK, Chunks};
+use crate::lease_table::LeaseTable;
 use crate::name_table::NameTable;
 use crate::strand::Strand;
 use crate::text::{BodyEnd, Kind};
@@ -34,9 +35,6 @@ const SPARE: usize = 3;
 /// Texts in the making.
 type Strands = Vec<Strand>;
 
-/// For each number that a lease has or had, what it still gives, if it lives.
-type Leases = Vec<Option<Strand>>;
-
 /// Strings, macros, diversions and requests under their names, texts in the making, and leases.
 ///
 /// All its memory is reserved as it is made. A body is read where it lies, by a lease, which goes
@@ -47,17 +45,13 @@ pub struct TextStore {
     chunks: Chunks,
     /// The texts in the making.
     open: Strands,
-    /// For each number that a lease has or had, what it still gives, if it lives.
-    leases: Leases,
-    /// The numbers of leases that have ended.
-    ended: Vec<u32>,
+    leases: LeaseTable,
     /// How many bytes bodies and texts in the making have.
     used: usize,
     /// How many bytes the leases still give.
     kept: usize,
     cap_bytes: u32,
     cap_open: u32,
-    cap_leases: u32,
     cap_kept: u32,
 }
 
@@ -99,18 +93,17 @@ impl TextStore {
         let most = chunks_wanted(cap_bytes, cap_names, cap_open, cap_leases, cap_kept);
         let names = NameTable::new(alloc, cap_names)?;
         let chunks = Chunks::new(alloc, most)?;
-        let (open, leases, ended) = no_strands(alloc, cap_open, cap_leases)?;
+        let open: Strands = Vec::with_capacity(alloc, cap_open as usize)?;
+        let leases = LeaseTable::new(alloc, cap_leases)?;
         Ok(TextStore {
             names,
             chunks,
             open,
             leases,
-            ended,
             used: 0,
             kept: 0,
             cap_bytes,
             cap_open,
-            cap_leases,
             cap_kept,
         })
     }
@@ -214,21 +207,4 @@ fn chunks_wanted(
     let full = (cap_bytes as usize + cap_kept as usize).div_ceil(CHUNK);
     let begun = cap_names as usize + cap_open as usize + 2 * cap_leases as usize;
     full + begun + SPARE
-}
-
-/// No text in the making and no lease, with room for so many of each.
-fn no_strands(
-    alloc: Global,
-    cap_open: u32,
-    cap_leases: u32,
-) -> Result<(Strands, Leases, Vec<u32>), AllocError>
-    ensures none { IfOk result (λ t. (t.0.items ≡ []) × (t.1.items ≡ []) × (t.2.items ≡ [])) }
-    ensures open { IfOk result (λ t. vec_capacity t.0 ≡ cap_open) }
-    ensures leases { IfOk result (λ t. vec_capacity t.1 ≡ cap_leases) }
-    ensures ended { IfOk result (λ t. vec_capacity t.2 ≡ cap_leases) }
-{
-    let open = Vec::with_capacity(alloc, cap_open as usize)?;
-    let leases = Vec::with_capacity(alloc, cap_leases as usize)?;
-    let ended = Vec::with_capacity(alloc, cap_leases as usize)?;
-    Ok((open, leases, ended))
 }

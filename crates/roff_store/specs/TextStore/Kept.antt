@@ -1,11 +1,14 @@
 -- What a store of texts keeps.
-use Rattle.std.specs.Prelude.{◌≡◌, ◌≢◌, ◌+◌, ◌^◌, ◌<◌, ◌≤◌, [], length, map, get_or, All, AllPairs, None, sum_by, vec_len, vec_capacity}
+use Rattle.std.specs.Prelude.{◌≡◌, ◌^◌, ◌<◌, ◌≤◌, List, ◌++◌, length, map, vec_len, vec_capacity}
+use Rattle.roff_store.specs.declared.strand.Strand.{Strand}
 use Rattle.roff_store.specs.declared.text_store.TextStore.TheInside.{Inside}
+use Rattle.roff_store.specs.Pool.{Holds, rest_in}
 use Rattle.roff_store.specs.Chains.{bytes_of}
+use Rattle.roff_store.specs.Leases.{living}
 use Rattle.roff_store.specs.Named.{EachOnce}
-use Rattle.roff_store.specs.Texts.{Texts, kept, live, used}
+use Rattle.roff_store.specs.Texts.{Texts}
 use Rattle.roff_store.specs.TextStore.Room.{bytes_wanted, IsLeastFor}
-use Rattle.roff_store.specs.TextStore.Strands.{Strands, AreApart, Lie, entries_in, lease_in, of_lease}
+use Rattle.roff_store.specs.TextStore.Strands.{bodies, entries_in, lease_in}
 
 -- what the fields keep
 abbrev pub kept_by : Inside → Texts
@@ -16,32 +19,24 @@ kept_by a = record {
   cap_bytes = a.cap_bytes;
   cap_kept = a.cap_kept;
   cap_open = a.cap_open;
-  cap_leases = a.cap_leases;
+  cap_leases = a.leases.cap;
 }
 
--- the strands of the fields
-abbrev pub strands_in : Inside → Strands
-strands_in a = record { names = a.names.entries; opens = a.open.items; leases = a.leases.items }
+-- the strands of the texts
+abbrev pub texts_in : Inside → List Strand
+texts_in a = bodies a.names.entries ++ a.open.items
 
--- the strands lie in the chunks, the bytes are counted, and as much room is reserved as is wanted, and no more
+-- the chunks hold the strands, the bytes are counted, and as much room is reserved as is wanted, and no more
 pub record IsSound (a : Inside) : Type 0 where
-  pub lie : Lie a.chunks (strands_in a) []
-  pub apart : AreApart (strands_in a) []
+  pub held : Holds a.chunks (texts_in a) (living a.leases.items)
   pub once : EachOnce a.names.entries
-  pub counted : a.used ≡ used (kept_by a)
-  pub within : a.used ≤ a.cap_bytes
-  pub kept_counted : a.kept ≡ sum_by (of_lease (λ strand. strand.rest)) a.leases.items
-  pub given : kept (kept_by a) ≤ a.cap_kept
-  pub living : live (kept_by a) ≤ a.cap_leases
   pub few : length a.names.entries ≤ a.names.cap
+  pub counted : a.used ≡ rest_in (texts_in a)
+  pub within : a.used ≤ a.cap_bytes
+  pub given : a.kept ≡ rest_in (living a.leases.items)
+  pub kept_within : a.kept ≤ a.cap_kept
   pub opens : vec_len a.open ≤ a.cap_open
-  pub room : IsLeastFor (bytes_wanted a.cap_bytes a.cap_kept a.names.cap a.cap_open a.cap_leases) a.chunks.most
-  pub most : a.chunks.most < 2 ^ 64
-  pub ended_known : All (λ id. id < vec_len a.leases) a.ended.items
-  pub ended_dead : All (λ id. get_or a.leases.items id None ≡ None) a.ended.items
-  pub ended_once : AllPairs (λ id later. id ≢ later) a.ended.items
-  pub ended_count : live (kept_by a) + vec_len a.ended ≡ vec_len a.leases
-  pub leases_taken : vec_len a.leases ≤ a.cap_leases
   pub opens_reserved : vec_capacity a.open ≡ a.cap_open
-  pub leases_reserved : vec_capacity a.leases ≡ a.cap_leases
-  pub ended_reserved : vec_capacity a.ended ≡ a.cap_leases
+  pub leases : length (living a.leases.items) ≤ a.leases.cap
+  pub room : IsLeastFor (bytes_wanted a.cap_bytes a.cap_kept a.names.cap a.cap_open a.leases.cap) a.chunks.most
+  pub most : a.chunks.most < 2 ^ 64

@@ -19,7 +19,7 @@ impl TextStore {
         ensures { IsTrue result ↔ ((live self.now < self.now.cap_leases)
             × (kept self.now + length (body_of name.now self.now) ≤ self.now.cap_kept)) }
     {
-        self.leases.len() - self.ended.len() < self.cap_leases as usize
+        self.leases.has_room()
             && body_len(self.names.get(name)) <= self.cap_kept as usize - self.kept
     }
 
@@ -27,10 +27,7 @@ impl TextStore {
     pub fn lives(&self, id: LeaseId) -> bool
         ensures { result ≡ is_some (lease_of id.0 self.now) }
     {
-        match self.leases.get(id.0 as usize) {
-            Some(lease) => lease.is_some(),
-            None => false,
-        }
+        self.leases.get(id.0).is_some()
     }
 
     /// Leases the body of a name, if it has one.
@@ -71,16 +68,7 @@ impl TextStore {
         let last = self.chunks.last_byte(body);
         self.chunks.share(body);
         self.kept += body.rest;
-        match self.ended.pop() {
-            Some(id) => {
-                self.leases[id as usize] = Some(body);
-                Leased::Body(LeaseId(id), last)
-            }
-            None => {
-                self.leases.push_reserved(Some(body));
-                Leased::Body(LeaseId(self.leases.len() as u32 - 1), last)
-            }
-        }
+        Leased::Body(LeaseId(self.leases.begin(body)), last)
     }
 
     /// The next byte that a lease gives, if it has one.
@@ -90,7 +78,7 @@ impl TextStore {
         ensures byte { result ≡ next_byte (lease_of id.0 self.old) }
         ensures taken { self.new ≡ after (Take id.0 1) self.old }
     {
-        match self.leases[id.0 as usize] {
+        match *self.leases.at(id.0) {
             Some(strand) if strand.goes_on_inside(1) => {
                 let byte = self.lease_front(id)[0];
                 self.lease_pass(id, 1);
@@ -121,7 +109,7 @@ impl TextStore {
             ≡ take (length result.now) (lease_bytes (lease_of id.0 self.now)) }
         ensures some { 0 < rest_of (lease_of id.0 self.now) → 0 < length result.now }
     {
-        match self.leases[id.0 as usize] {
+        match *self.leases.at(id.0) {
             Some(strand) => self.chunks.front(strand),
             None => &[],
         }
@@ -134,9 +122,10 @@ impl TextStore {
         requires within { count ≤ rest_of (lease_of id.0 self.old) }
         ensures { self.new ≡ after (Take id.0 count) self.old }
     {
-        match self.leases[id.0 as usize] {
+        match *self.leases.at(id.0) {
             Some(strand) if strand.goes_on_inside(count) => {
-                self.leases[id.0 as usize] = Some(self.chunks.pass_inside(strand, count));
+                let rest = self.chunks.pass_inside(strand, count);
+                self.leases.put(id.0, rest);
                 self.kept -= count;
             }
             _ => self.lease_pass_chunks(id, count),
@@ -151,8 +140,9 @@ impl TextStore {
         requires within { count ≤ rest_of (lease_of id.0 self.old) }
         ensures { self.new ≡ after (Take id.0 count) self.old }
     {
-        if let Some(strand) = self.leases[id.0 as usize] {
-            self.leases[id.0 as usize] = Some(self.chunks.pass(strand, count));
+        if let Some(strand) = *self.leases.at(id.0) {
+            let rest = self.chunks.pass(strand, count);
+            self.leases.put(id.0, rest);
             self.kept -= count;
         }
     }
@@ -163,7 +153,7 @@ impl TextStore {
         requires { IsSome (lease_of id.0 self.now) }
         ensures { result ≡ rest_of (lease_of id.0 self.now) }
     {
-        match self.leases[id.0 as usize] {
+        match *self.leases.at(id.0) {
             Some(strand) => strand.rest,
             None => 0,
         }
@@ -175,9 +165,8 @@ impl TextStore {
         requires { IsSome (lease_of id.0 self.old) }
         ensures { self.new ≡ after (Release id.0) self.old }
     {
-        if let Some(strand) = self.leases[id.0 as usize] {
-            self.leases[id.0 as usize] = None;
-            self.ended.push_reserved(id.0);
+        if let Some(strand) = *self.leases.at(id.0) {
+            self.leases.end(id.0);
             self.kept -= strand.rest;
             self.chunks.release(strand);
         }

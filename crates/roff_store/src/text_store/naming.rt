@@ -8,7 +8,7 @@ use crate::text::Entry;
 use roff_num::{Limit, Name};
 
 impl TextStore {
-    ghost use Rattle.roff_store.specs.Texts.{entry_given};
+    ghost use Rattle.roff_store.specs.Texts.{Body, Request, entry_given};
     ghost use Rattle.roff_store.specs.TextCalls.{Append, Remove, Rename, Set, after, answered};
 
     /// Lets a name stand for an entry from now on.
@@ -21,25 +21,43 @@ impl TextStore {
         ensures answer { result ≡ answered (Set name.now (entry_given entry.entry)) self.old }
         ensures texts { self.new ≡ after (Set name.now (entry_given entry.entry)) self.old }
     {
-        let text: &[u8] = match entry {
-            Entry::Body(text) => text,
-            Entry::Request(_) => &[],
-        };
+        match entry {
+            Entry::Body(text) => self.set_body(name, text),
+            Entry::Request(number) => self.set_request(name, number),
+        }
+    }
+
+    /// Lets a name stand for a body of these bytes from now on.
+    fn set_body(&mut self, name: &Name, text: &[u8]) -> Result<(), Limit>
+        ensures answer { result ≡ answered (Set name.now (Body text.now)) self.old }
+        ensures texts { self.new ≡ after (Set name.now (Body text.now)) self.old }
+    {
         let old = self.names.get(name);
         let others = self.used - body_len(old);
         if self.cap_bytes as usize - others < text.len() {
             return Err(Limit::Store);
         }
-        if old.is_none() && self.names.is_full() {
+        if !self.names.has_room_for(old.is_some()) {
             return Err(Limit::Names);
         }
         release_body(&mut self.chunks, old);
-        let meaning = match entry {
-            Entry::Body(text) => Meaning::Body(self.chunks.extend(Strand::empty(), text)),
-            Entry::Request(number) => Meaning::Request(number),
-        };
+        let body = self.chunks.extend(Strand::empty(), text);
         self.used = others + text.len();
-        self.names.put(name, meaning)
+        self.names.put(name, Meaning::Body(body))
+    }
+
+    /// Lets a name stand for a request from now on.
+    fn set_request(&mut self, name: &Name, number: u16) -> Result<(), Limit>
+        ensures answer { result ≡ answered (Set name.now (Request number)) self.old }
+        ensures texts { self.new ≡ after (Set name.now (Request number)) self.old }
+    {
+        let old = self.names.get(name);
+        if !self.names.has_room_for(old.is_some()) {
+            return Err(Limit::Names);
+        }
+        release_body(&mut self.chunks, old);
+        self.used -= body_len(old);
+        self.names.put(name, Meaning::Request(number))
     }
 
     /// Puts bytes behind the body of a name (`.as`, `.am`). A request is replaced, and a name that
@@ -53,7 +71,7 @@ impl TextStore {
         ensures texts { self.new ≡ after (Append name.now text.now) self.old }
     {
         let Some(Meaning::Body(body)) = self.names.get(name) else {
-            return self.set(name, Entry::Body(text));
+            return self.set_body(name, text);
         };
         if self.cap_bytes as usize - self.used < text.len() {
             return Err(Limit::Store);

@@ -1,35 +1,27 @@
-use Rattle.std.proofs.lemmas.Int.{ints}
-use Rattle.std.proofs.lemmas.Grind.{common_steps}
 use Rattle.std.proofs.Common.{arith}
-use Rattle.roff_store.proofs.Leasing.{sound-passed, after-passed}
+use Rattle.roff_store.proofs.Lending.{lease-inside, lease-kept, lease-lives, lease-shared, lease-strand, passed, rest-read}
 use Rattle.roff_store.proofs.Sharing.{AreSameChunks-refl}
 use Rattle.roff_store.proofs.text_store.TextStore.lease_pass.Goals as goal
 
-pub invariant_of-self : goal.invariant_of-self
-invariant_of-self c =
-    sound-passed c.self.inside c.args.self.now c.self.invariant c.self.view_is c.args.id.0 c.requires.lives c.index.result.now
-    c.index.ensures c.in-Some.strand c.in-Some.is c.self.inside.chunks c.pass_inside.result c.args.count c.requires.within
-    c.pass_inside.ensures.strand c.pass_inside.ensures.bytes c.pass_inside.ensures.length c.pass_inside.ensures.shares
-    (omega (arith, c.pass_inside.ensures.chunks)) (AreSameChunks-refl c.self.inside.chunks)
+pub at-requires : goal.at-requires
+at-requires c = lease-inside c.self.invariant c.self.view_is c.args.id.0 c.requires.lives
 
-pub returns-in-Some : goal.returns-in-Some
-returns-in-Some c =
-    after-passed c.self.inside c.args.self.now c.self.invariant c.self.view_is c.args.id.0 c.requires.lives c.index.result.now
-    c.index.ensures c.in-Some.strand c.in-Some.is c.self.inside.chunks c.pass_inside.result c.args.count c.requires.within
-    c.pass_inside.ensures.strand c.pass_inside.ensures.bytes c.pass_inside.ensures.length c.pass_inside.ensures.shares
-    (omega (arith, c.pass_inside.ensures.chunks)) (AreSameChunks-refl c.self.inside.chunks)
+pub pass_inside-rest-requires-clause-strand : goal.pass_inside-rest-requires-clause-strand
+pass_inside-rest-requires-clause-strand c = lease-strand c.self.invariant c.self.view_is c.args.id.0 c.at.ensures c.in-Some.is
 
-pub index-requires : goal.index-requires
-index-requires c = grind (ints, arith, common_steps)
+pub pass_inside-rest-requires-clause-shared : goal.pass_inside-rest-requires-clause-shared
+pass_inside-rest-requires-clause-shared c = lease-shared c.self.invariant c.self.view_is c.args.id.0 c.at.ensures c.in-Some.is
 
-pub pass_inside-requires-clause-strand : goal.pass_inside-requires-clause-strand
-pass_inside-requires-clause-strand c = grind (ints, arith, common_steps)
-
-pub pass_inside-requires-clause-shared : goal.pass_inside-requires-clause-shared
-pass_inside-requires-clause-shared c = grind (ints, arith, common_steps)
-
-pub index_mut-requires : goal.index_mut-requires
-index_mut-requires c = grind (ints, arith, common_steps)
+pub put-requires : goal.put-requires
+put-requires c = lease-lives c.self.invariant c.self.view_is c.args.id.0 c.requires.lives
 
 pub overflow_sub-self : goal.overflow_sub-self
-overflow_sub-self c = grind (ints, arith, common_steps)
+overflow_sub-self c = omega (arith, c.requires.within, rest-read c.self.invariant c.self.view_is c.args.id.0 c.at.ensures c.in-Some.is, lease-kept c.self.invariant c.self.view_is c.args.id.0 c.at.ensures c.in-Some.is)
+
+pub invariant_of-self : goal.invariant_of-self
+invariant_of-self c = (passed c.self.invariant c.self.view_is c.args.id.0 c.at.ensures c.in-Some.is c.requires.within c.pass_inside-rest.ensures.strand
+    c.pass_inside-rest.ensures.bytes c.pass_inside-rest.ensures.length c.pass_inside-rest.ensures.shares (omega (arith, c.pass_inside-rest.ensures.chunks)) (AreSameChunks-refl c.self.inside.chunks) c.put.ensures).sound
+
+pub returns-in-Some : goal.returns-in-Some
+returns-in-Some c = (passed c.self.invariant c.self.view_is c.args.id.0 c.at.ensures c.in-Some.is c.requires.within c.pass_inside-rest.ensures.strand
+    c.pass_inside-rest.ensures.bytes c.pass_inside-rest.ensures.length c.pass_inside-rest.ensures.shares (omega (arith, c.pass_inside-rest.ensures.chunks)) (AreSameChunks-refl c.self.inside.chunks) c.put.ensures).texts

@@ -1,40 +1,29 @@
 use Rattle.std.proofs.Common.{arith}
-use Rattle.std.proofs.lemmas.Int.{ints}
-use Rattle.std.proofs.lemmas.Grind.{common_steps}
-use Rattle.roff_store.proofs.Leasing.{sound-passed, after-passed}
+use Rattle.roff_store.proofs.Lending.{lease-inside, lease-kept, lease-lives, lease-shared, lease-strand, passed, rest-read}
 use Rattle.roff_store.proofs.text_store.TextStore.lease_pass_chunks.Goals as goal
 
-pub invariant_of-self : goal.invariant_of-self
-invariant_of-self c =
-    sound-passed c.self.inside c.args.self.now c.self.invariant c.self.view_is c.args.id.0 c.requires.lives c.index.result.now
-    c.index.ensures c.in-Some.strand c.in-Some.is c.pass.new.self c.pass.result c.args.count c.requires.within
-    c.pass.ensures.strand
-    c.pass.ensures.bytes c.pass.ensures.length c.pass.ensures.shares c.pass.ensures.sum c.pass.ensures.same
+pub at-requires : goal.at-requires
+at-requires c = lease-inside c.self.invariant c.self.view_is c.args.id.0 c.requires.lives
 
-pub returns-in-Some : goal.returns-in-Some
-returns-in-Some c =
-    after-passed c.self.inside c.args.self.now c.self.invariant c.self.view_is c.args.id.0 c.requires.lives c.index.result.now
-    c.index.ensures c.in-Some.strand c.in-Some.is c.pass.new.self c.pass.result c.args.count c.requires.within
-    c.pass.ensures.strand
-    c.pass.ensures.bytes c.pass.ensures.length c.pass.ensures.shares c.pass.ensures.sum c.pass.ensures.same
+pub pass-rest-requires-clause-strand : goal.pass-rest-requires-clause-strand
+pass-rest-requires-clause-strand c = lease-strand c.self.invariant c.self.view_is c.args.id.0 c.at.ensures c.in-Some.is
 
-pub index-requires : goal.index-requires
-index-requires c = grind (ints, arith, common_steps)
+pub pass-rest-requires-clause-shared : goal.pass-rest-requires-clause-shared
+pass-rest-requires-clause-shared c = lease-shared c.self.invariant c.self.view_is c.args.id.0 c.at.ensures c.in-Some.is
 
-pub pass-requires-clause-strand : goal.pass-requires-clause-strand
-pass-requires-clause-strand c = grind (ints, arith, common_steps)
+pub pass-rest-requires-clause-within : goal.pass-rest-requires-clause-within
+pass-rest-requires-clause-within c = omega (arith, c.requires.within, rest-read c.self.invariant c.self.view_is c.args.id.0 c.at.ensures c.in-Some.is)
 
-pub pass-requires-clause-shared : goal.pass-requires-clause-shared
-pass-requires-clause-shared c = grind (ints, arith, common_steps)
-
-pub pass-requires-clause-within : goal.pass-requires-clause-within
-pass-requires-clause-within c = grind (ints, arith, common_steps)
-
-pub index_mut-requires : goal.index_mut-requires
-index_mut-requires c = grind (ints, arith, common_steps)
+pub put-requires : goal.put-requires
+put-requires c = lease-lives c.self.invariant c.self.view_is c.args.id.0 c.requires.lives
 
 pub overflow_sub-self : goal.overflow_sub-self
-overflow_sub-self c = grind (ints, arith, common_steps)
+overflow_sub-self c = omega (arith, c.requires.within, rest-read c.self.invariant c.self.view_is c.args.id.0 c.at.ensures c.in-Some.is, lease-kept c.self.invariant c.self.view_is c.args.id.0 c.at.ensures c.in-Some.is)
 
-pub returns-in_default : goal.returns-in_default
-returns-in_default c = grind (ints, arith, common_steps)
+pub invariant_of-self : goal.invariant_of-self
+invariant_of-self c = (passed c.self.invariant c.self.view_is c.args.id.0 c.at.ensures c.in-Some.is c.requires.within c.pass-rest.ensures.strand
+    c.pass-rest.ensures.bytes c.pass-rest.ensures.length c.pass-rest.ensures.shares c.pass-rest.ensures.sum c.pass-rest.ensures.same c.put.ensures).sound
+
+pub returns-in-Some : goal.returns-in-Some
+returns-in-Some c = (passed c.self.invariant c.self.view_is c.args.id.0 c.at.ensures c.in-Some.is c.requires.within c.pass-rest.ensures.strand
+    c.pass-rest.ensures.bytes c.pass-rest.ensures.length c.pass-rest.ensures.shares c.pass-rest.ensures.sum c.pass-rest.ensures.same c.put.ensures).texts

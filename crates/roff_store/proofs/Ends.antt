@@ -1,9 +1,9 @@
 -- Where the chains of texts end.
-use Rattle.std.proofs.Common.{◌≡◌, ◌≢◌, ℕ, zero, suc, ◌+◌, ◌-◌, ◌<◌, ◌≤◌, [], ◌∷◌, length, refl, sym, subst, ◌⊎◌, ⊎_elim, ◌==◌, if◌then◌else◌, arith}
+use Rattle.std.proofs.Common.{◌≡◌, ◌≢◌, ℕ, zero, suc, ◌+◌, ◌-◌, ◌<◌, ◌≤◌, length, refl, sym, subst, ◌⊎◌, ◌==◌, if◌then◌else◌, arith}
 use Rattle.std.proofs.lemmas.Bool.Decides.{nat_tests}
 use Rattle.roff_store.specs.declared.strand.Strand.{Strand}
+use Rattle.roff_store.specs.Pool.{ends_in}
 use Rattle.roff_store.specs.Chains.{Chunks, has, last_of, link, times_in, IsChain, IsStrand, IsText}
-use Rattle.roff_store.specs.TextStore.Strands.{Strands, AreApart, ends_in, in_texts}
 
 -- a chunk is one of its own
 one-same : (a : ℕ) → 0 < (if a == a then 1 else 0)
@@ -14,7 +14,7 @@ one-other : (a b : ℕ) → b < a → (if a == b then 1 else 0) ≤ 0
 one-other a b less = grind (arith, nat_tests)
 
 -- a text that has chunks ends in its last one
-ends_in-last : (s : Strand) → 0 < s.chunks → ends_in s.last s ≡ 1
+pub ends_in-last : (s : Strand) → 0 < s.chunks → ends_in s.last s ≡ 1
 ends_in-last s some = grind (arith, nat_tests)
 
 -- a text that doesn't end with a chunk doesn't count
@@ -28,20 +28,17 @@ ends_in-cases chunk s = grind (arith, nat_tests)
 module _ (m : Chunks) where
   -- the last chunk of a chain is one of the chunks
   last_of-lt : (count first need : ℕ) → IsChain m (suc count) first need → last_of m count first < length m.contents
-  unfolding IsChain last_of
   last_of-lt zero first need chain = chain.0.chunk
   last_of-lt (suc count) first need chain = last_of-lt count (link m first) (need - 120) chain.1
 
   -- and stands in the chain
   times_in-last : (count first : ℕ) → 0 < times_in m (suc count) first (last_of m count first)
-  unfolding times_in last_of
   times_in-last zero first = omega (arith, one-same first)
   times_in-last (suc count) first = let more = times_in-last count (link m first) in omega arith
 
   -- a chain has no others than the chunks
   times_in-past : (count first need chunk : ℕ) → IsChain m count first need → length m.contents ≤ chunk
       → times_in m count first chunk ≡ 0
-  unfolding IsChain times_in
   times_in-past zero first need chunk chain past = refl
   times_in-past (suc count) first need chunk chain past =
       let more = times_in-past count (link m first) (need - 120) chunk chain.1 past in
@@ -68,20 +65,3 @@ module _ (m : Chunks) where
         has = subst (λ c. 0 < has m s c) ends.last
             (subst (λ n. 0 < times_in m n s.first (last_of m (s.chunks - 1) s.first)) count there);
       }
-
-  -- no text of a store ends where one in hand does
-  pub ends-elsewhere : (s : Strands) (text x : Strand) → length m.contents ≤ m.most → AreApart s (text ∷ []) → IsText m text
-      → ((chunk : ℕ) → ends_in chunk x ≤ in_texts (ends_in chunk) s) → IsText m x → 0 < x.chunks → x.last ≢ text.last
-  ends-elsewhere s text x within apart is_text counted is_x some same =
-      ⊎_elim
-      (λ (e : text.chunks ≡ 0). absurd (omega (arith, is_text.none e, (HasLast-text x is_x some).chunk, same)))
-      (λ (e : 0 < text.chunks).
-      let here = subst (λ c. ends_in c x ≡ 1) same (ends_in-last x some) in
-      absurd (omega (arith, apart text.last, counted text.last, ends_in-last text e, here)))
-      (let cases : (text.chunks ≡ 0) ⊎ (0 < text.chunks) = grind arith in cases)
-
-  -- where a text may get longer, none comes behind its last chunk, if a strand has it
-  pub end-of_text : (text : Strand) (claims : ℕ) → IsText m text → (text.chunks ≡ 0 → claims ≡ 0)
-      → 0 < claims → m.most ≤ link m text.last
-  end-of_text text claims is_text none claimed =
-      let some : 0 < text.chunks = grind arith in (is_text.ends some).end

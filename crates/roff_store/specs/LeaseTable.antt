@@ -1,0 +1,2 @@
+-- The table of leases.
+pub mod Kept
