@@ -128,8 +128,7 @@ pub(crate) fn hold_line<S: ByteSource>(
 }
 
 /// Takes the escape of a register, a string or an argument that stands whole in front of arguments,
-/// and bytes of its text and behind it. Returns whether it took one, and another may stand behind
-/// it.
+/// and bytes of its text and behind it. Returns whether it took one, and another may be behind it.
 #[inline(always)]
 pub(crate) fn hold_on<S: ByteSource>(run: &mut Running, most: Option<usize>, source: &mut S) -> bool
     requires { IsRun (run_holding most) run.old.interpreter.reader.reading
@@ -260,9 +259,8 @@ fn tell_named<S: ByteSource>(run: &mut Running, ahead: TextAhead, source: &mut S
     run.unread.stays_within();
 }
 
-/// Takes bytes of plain text together that stand in front, and tells them, and then takes the
-/// escape of a register or a string behind them, or reads the front of one. Returns whether it took
-/// a whole one.
+/// Takes bytes of plain text that stand in front, and tells them; then takes the escape of a
+/// register or a string behind them, or reads its front. Returns whether it took a whole one.
 #[inline(always)]
 pub(crate) fn tell_line<S: ByteSource>(run: &mut Running, source: &mut S) -> bool
     requires { IsRun TextRun run.old.interpreter.reader.reading run.old.unread.input.escapes }

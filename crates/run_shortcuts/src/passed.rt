@@ -11,7 +11,7 @@ use run_model::Status;
 pub enum Passed {
     /// Nothing.
     Not,
-    /// Bytes that stood in front, or none: the run goes on behind them, by an item that is taken alone.
+    /// Bytes that stood in front, or none: an item is taken alone behind them.
     On,
     /// Bytes behind which a line begins.
     Line,
