@@ -17,7 +17,7 @@ use Rattle.run_model.specs.Reading.Waiting.{line_waits}
 use Rattle.run_model.specs.Registers.{Known}
 use Rattle.read_shortcuts.specs.declared.control.ControlFront.{ControlFront}
 use Rattle.read_shortcuts.specs.declared.control.ControlRead.{ControlRead}
-use Rattle.read_shortcuts.specs.declared.control.ControlRead.TheVariants.{Nothing, Escape, Front, Dropped, Condition, Decided, Held, HeldToEscape, HeldForCall, HeldToEnd}
+use Rattle.read_shortcuts.specs.declared.control.ControlRead.TheVariants.{Nothing, Escape, Short, Front, Dropped, Condition, Decided, Held, HeldToEscape, HeldForCall, HeldToEnd}
 use Rattle.run_model.specs.declared.line_state.LineState.{LineState}
 use Rattle.run_model.specs.declared.line_state.LineState.TheVariants.{Control}
 
@@ -50,6 +50,7 @@ pub record StandsReady (bytes ready : List ℕ) (u : PageUnread) : Type 0 where
 abbrev pub is_read : ControlRead → Bool
 is_read Nothing = false
 is_read Escape = false
+is_read Short = false
 is_read Front = true
 is_read Dropped = true
 is_read Condition = true
@@ -63,6 +64,7 @@ is_read HeldToEnd = true
 abbrev pub is_past : ControlRead → Bool
 is_past Nothing = false
 is_past Escape = false
+is_past Short = false
 is_past Front = true
 is_past Dropped = true
 is_past Condition = true
@@ -108,11 +110,23 @@ pub record StandsName (front : ControlFront) (there reading : LineState) (ready 
 abbrev pub prints_in_name : ℕ → Bool
 prints_in_name b = nat_lt blank b && (not (b == 127) && not (b == backslash))
 
--- whether these two bytes are read at once behind it: a backslash is, a name of two bytes that print, and one of such a byte in front of a newline
+-- whether these two bytes are read at once behind it: a backslash is, and a name of two bytes that print
 abbrev pub is_front_read : ℕ → ℕ → Bool
-is_front_read first second = first == backslash || (prints_in_name first && (prints_in_name second || second == newline))
+is_front_read first second = first == backslash || (prints_in_name first && prints_in_name second)
+
+-- whether they are a name of one byte that prints, and a newline
+abbrev pub ends_short : ℕ → ℕ → Bool
+ends_short first second = prints_in_name first && second == newline
+
+-- whether a dot or apostrophe stands in front of two bytes of which this is so
+abbrev pub begins_line : (ℕ → ℕ → Bool) → List ℕ → Bool
+begins_line of (mark ∷ first ∷ second ∷ rest) = (mark == dot || mark == apostrophe) && of first second
+begins_line of (_) = false
 
 -- whether the front of a control line is read at once, with which these bytes begin
 abbrev pub reads_front : List ℕ → Bool
-reads_front (mark ∷ first ∷ second ∷ rest) = (mark == dot || mark == apostrophe) && is_front_read first second
-reads_front (_) = false
+reads_front bytes = begins_line is_front_read bytes
+
+-- and whether it is where its name has one byte, with the newline that ends the line
+abbrev pub reads_short : List ℕ → Bool
+reads_short bytes = begins_line ends_short bytes

@@ -1,6 +1,6 @@
 //! The front of a control line, read at once where it stands ready.
 
-ghost use Rattle.std.specs.Prelude.{◌≡◌, ◌≤◌, ◌-◌, ◌∷◌, [], None, Some, true, false, IfSome, take};
+ghost use Rattle.std.specs.Prelude.{◌≡◌, ◌≤◌, ◌∷◌, ℕ, Bool, [], None, true, false, IfSome};
 ghost use Rattle.input_model.specs.Unread.{asks_to_take};
 ghost use Rattle.run_model.specs.Reading.ControlLines.{BelongsToName};
 ghost use Rattle.read_lines.specs.Clauses.{due};
@@ -8,9 +8,11 @@ ghost use Rattle.read_shortcuts.specs.ControlFronts.{BeginsControl, Fronts, Stan
 ghost use Rattle.read_shortcuts.specs.ControlFronts.{control_byte, HoldsArguments, StandsName};
 ghost use Rattle.read_shortcuts.specs.ControlFronts.{TakesAtBeginning, is_past, is_read};
 ghost use Rattle.read_shortcuts.specs.ControlFronts.{read_dropped, read_for_call, read_to};
-ghost use Rattle.read_shortcuts.specs.declared.control.ControlRead.TheVariants.{HeldToEnd};
+ghost use Rattle.read_shortcuts.specs.declared.control.ControlRead.TheVariants.{HeldToEnd, Short};
+ghost use Rattle.read_shortcuts.specs.Runs.{ready_allowed};
 ghost use Rattle.roff_scan.specs.Unread.Lines.{StandsNewline, begins_with_newline};
-ghost use Rattle.read_shortcuts.specs.ControlFronts.{is_front_read, prints_in_name, reads_front};
+ghost use Rattle.read_shortcuts.specs.ControlFronts.{begins_line, ends_short, is_front_read};
+ghost use Rattle.read_shortcuts.specs.ControlFronts.{prints_in_name, reads_front, reads_short};
 ghost use Rattle.read_shortcuts.specs.ControlReads.{ReadsControl};
 ghost use Rattle.read_shortcuts.specs.Stages.{ReadsLine};
 ghost use Rattle.roff_scan.specs.Unread.Calls.{IsFront, NoNewline, PassesFront, front_bytes};
@@ -18,7 +20,6 @@ ghost use Rattle.roff_scan.specs.Unread.Calls.{IsFront, NoNewline, PassesFront, 
 use crate::conditions::read_condition;
 use crate::dropped::drop_line;
 use crate::other_branch::take_other;
-use crate::short_names::read_short;
 use read_lines::{CALL_ARGUMENTS, Reader};
 use read_names::{begin_deciding, behind_called, called_by};
 use roff_num::ShortName;
@@ -43,6 +44,9 @@ pub enum ControlRead {
     Nothing,
     /// Nothing, and the escape of a string, a register or an argument may stand in front.
     Escape,
+    /// Nothing, and the name may have one byte: [`read_short_front`](crate::read_short_front) reads
+    /// such fronts.
+    Short,
     /// The bytes up to its name's end, or a dropped line's beginning.
     Front,
     /// All of a dropped line, with its newline: a line begins.
@@ -82,8 +86,8 @@ pub fn begins_control_line(reader: &Reader) -> bool
 }
 
 /// Reads at once the front of a control line, if it stands in front: the dot or apostrophe and a
-/// name of two bytes, or of one with the blank or newline behind it, or a backslash, behind which
-/// the line is dropped. Else nothing happens. Returns what was read.
+/// name of two bytes, or a backslash, behind which the line is dropped. Else nothing happens.
+/// Returns what was read, or that the name may have one byte.
 #[inline(always)]
 pub fn read_control_front<S: ByteSource>(
     reader: &mut Reader,
@@ -96,9 +100,12 @@ pub fn read_control_front<S: ByteSource>(
     requires none_half { unread.old.input.escapes ≡ [] }
     ensures read { ReadsControl S.ByteSource source.old source.new composer.now
         reader.old reader.new unread.old unread.new result }
-    ensures whole { asks_to_take unread.old ≡ true → reads_front
-        (take (unread.old.limits.bytes - unread.old.input.charge) (S.ready source.old)) ≡ true
+    ensures whole { asks_to_take unread.old ≡ true
+        → reads_front (ready_allowed unread.old (S.ready source.old)) ≡ true
         → is_read result ≡ true }
+    ensures short { asks_to_take unread.old ≡ true
+        → reads_short (ready_allowed unread.old (S.ready source.old)) ≡ true
+        → result ≡ Short }
 {
     let bytes = unread.front(source);
     match control_front(bytes) {
@@ -127,6 +134,7 @@ fn read_control<S: ByteSource>(
         reader.old reader.new unread.old unread.new result }
     ensures whole { is_front_read front.first front.second ≡ true
         → is_read result ≡ true }
+    ensures short { ends_short front.first front.second ≡ true → result ≡ Short }
 {
     if front.first == b'\\' {
         return dropped_to(drop_line(reader, unread, source, 2));
@@ -135,7 +143,7 @@ fn read_control<S: ByteSource>(
         return ControlRead::Nothing;
     }
     if !belongs_to_name(front.second) {
-        return read_short(reader, front, unread, source);
+        return ControlRead::Short;
     }
     let name = ShortName {
         first: front.first,
@@ -293,9 +301,9 @@ pub(super) fn dropped_to(is_ended: bool) -> ControlRead
 
 /// The first three bytes of a control line, if these bytes begin with such.
 #[inline(always)]
-fn control_front(bytes: &[u8]) -> Option<ControlFront>
+pub(super) fn control_front(bytes: &[u8]) -> Option<ControlFront>
     ensures fronts { IfSome result (λ front. Fronts bytes.now front) }
-    ensures none { result ≡ None → reads_front bytes.now ≡ false }
+    ensures none { (of : ℕ → ℕ → Bool) → result ≡ None → begins_line of bytes.now ≡ false }
 {
     match bytes {
         [b'.', first, second, rest @ ..] => Some(ControlFront {
@@ -324,7 +332,7 @@ fn is_newline_next(bytes: &[u8]) -> bool
 
 /// Whether a byte belongs to a name behind a dot or apostrophe. Of a byte that prints nothing it
 /// may say no, though it does.
-fn belongs_to_name(byte: u8) -> bool
+pub(super) fn belongs_to_name(byte: u8) -> bool
     ensures belongs { result ≡ true → BelongsToName byte }
     ensures prints { result ≡ prints_in_name byte }
 {

@@ -22,6 +22,7 @@ pub use fonts::{begin_with_font, take_font};
 pub use registers::{TextAhead, hold_text, pass_text, text_ahead};
 pub use roff_scan::RunKind;
 pub use runs::{run_half_read, run_kind, take_arguments, take_branch_blanks, take_run};
+pub use short_names::read_short_front;
 pub use stepped::step_register;
 pub use strings::{begins_apart, take_string_front, take_string_name};
 pub use strings_ahead::put_string;

@@ -2,15 +2,17 @@
 //! the newline that ends them.
 
 ghost use Rattle.std.specs.Prelude.{◌≡◌, ◌∷◌, [], None, true, false};
-ghost use Rattle.input_source.specs.Bytes.{newline};
+ghost use Rattle.input_model.specs.Unread.{asks_to_take};
 ghost use Rattle.read_lines.specs.Clauses.{ComposerOf, due};
 ghost use Rattle.read_shortcuts.specs.ControlFronts.{BeginsControl, StandsReady, control_byte};
-ghost use Rattle.read_shortcuts.specs.ControlFronts.{is_read};
+ghost use Rattle.read_shortcuts.specs.ControlFronts.{ends_short, is_read, reads_short};
 ghost use Rattle.read_shortcuts.specs.ControlReads.{ReadsControl};
+ghost use Rattle.read_shortcuts.specs.Runs.{ready_allowed};
 ghost use Rattle.read_shortcuts.specs.ShortNames.{HoldsBlank, StandsShort};
-ghost use Rattle.run_model.specs.Reading.ControlLines.{BelongsToName};
 
-use crate::control::{ControlFront, ControlRead, dropped_to, held_for_call, held_to};
+use crate::control::{
+    ControlFront, ControlRead, belongs_to_name, control_front, dropped_to, held_for_call, held_to,
+};
 use crate::dropped::drop_line;
 use read_lines::{CALL_ARGUMENTS, Reader};
 use read_names::{behind_called, called_by};
@@ -18,11 +20,35 @@ use roff_num::ShortName;
 use roff_scan::{ByteSource, Unread};
 use run_model::{LineState, PageEvent, Purpose};
 
-/// Reads at once a dot or apostrophe with a name of one byte: up to the newline behind it, which is
-/// taken too; or with a blank behind it, where a request's arguments or a body's are read then, or
-/// the line is dropped, and what stands behind the blank. Else nothing happens.
-#[inline(never)]
-pub(super) fn read_short<S: ByteSource>(
+/// Reads at once the front of a control line whose name has one byte, if it stands in front: up to
+/// the newline behind the name, which is taken too; or with a blank behind it, where a request's
+/// arguments or a body's are read then, or the line is dropped, and what stands behind the blank.
+/// Else nothing happens. Returns what was read.
+#[inline(always)]
+pub fn read_short_front<S: ByteSource>(
+    reader: &mut Reader,
+    unread: &mut Unread<PageEvent>,
+    source: &mut S,
+) -> ControlRead
+    requires begins { BeginsControl reader.old.reading }
+    requires none_due { due reader.old.reading ≡ None }
+    requires none_half { unread.old.input.escapes ≡ [] }
+    ensures read { (es : ComposerOf) → ReadsControl S.ByteSource source.old source.new es
+        reader.old reader.new unread.old unread.new result }
+    ensures whole { asks_to_take unread.old ≡ true
+        → reads_short (ready_allowed unread.old (S.ready source.old)) ≡ true
+        → is_read result ≡ true }
+{
+    match control_front(unread.front(source)) {
+        Some(front) => read_short(reader, front, unread, source),
+        None => ControlRead::Nothing,
+    }
+}
+
+/// Reads at once this front of a control line, if its name has one byte. Else nothing happens.
+/// Returns what was read.
+#[inline(always)]
+fn read_short<S: ByteSource>(
     reader: &mut Reader,
     front: ControlFront,
     unread: &mut Unread<PageEvent>,
@@ -33,11 +59,13 @@ pub(super) fn read_short<S: ByteSource>(
     requires none_half { unread.old.input.escapes ≡ [] }
     requires ready { StandsReady (control_byte front.breaks ∷ front.first ∷ front.second ∷ [])
         (S.ready source.old) unread.old }
-    requires named { BelongsToName front.first }
     ensures read { (es : ComposerOf) → ReadsControl S.ByteSource source.old source.new es
         reader.old reader.new unread.old unread.new result }
-    ensures ended { front.second ≡ newline → is_read result ≡ true }
+    ensures whole { ends_short front.first front.second ≡ true → is_read result ≡ true }
 {
+    if !belongs_to_name(front.first) {
+        return ControlRead::Nothing;
+    }
     if front.second == b'\n' {
         unread.stays_within();
         unread.pass_line(source, 2);

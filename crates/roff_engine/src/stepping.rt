@@ -9,7 +9,7 @@ ghost use Rattle.run_model.specs.declared.line_state.LineState.TheVariants.{Text
 use page_bytes::{ByteSink, MessageSink};
 use roff_scan::ByteSource;
 use run_model::{LineState, Status, TextLine};
-use run_shortcuts::{Begun, begin_text_at_once, pass_over, tell_behind};
+use run_shortcuts::{begin_text_at_once, pass_over, tell_behind};
 use run_turns::Running;
 
 /// Takes bytes at once that stand in front, or else does what is due, and takes an item of the
@@ -117,9 +117,10 @@ fn turn_beginning<S: ByteSource, O: ByteSink, E: MessageSink>(
         run.old run.new (going_on result) }
 {
     match begin_text_at_once(run, source, out, err) {
-        Ok(Begun::Line) => Ok(true),
-        Ok(Begun::Front(may_be_control)) => {
-            if is_told & may_be_control {
+        Ok(passed) => {
+            if passed.begins_line() {
+                Ok(true)
+            } else if is_told & passed.is_nothing() {
                 Ok(false)
             } else {
                 turn_alone(run, source, out, err)

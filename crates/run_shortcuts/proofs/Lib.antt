@@ -7,6 +7,9 @@ pub mod EndsAtOnce
 pub mod Telling
 pub mod GlyphsTold
 pub mod BehindTexts
+pub mod BytesCounted
+pub mod PassedOver
+pub mod TextsBegun
 pub mod Beginning
 pub mod TitleRuns
 pub mod PutRegisters

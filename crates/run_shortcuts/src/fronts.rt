@@ -1,9 +1,10 @@
 //! Runs: bytes in front that do alike, and are taken together.
 
-ghost use Rattle.std.specs.Prelude.{◌≡◌, [], false, true};
+ghost use Rattle.std.specs.Prelude.{◌≡◌, ◌≤◌, [], false, true};
 ghost use Rattle.run_shortcuts.specs.BehindText.{begins_above_controls, behind_ready, behind_text};
 ghost use Rattle.read_shortcuts.specs.Registers.{IsTextAhead};
-ghost use Rattle.read_shortcuts.specs.Runs.{IsRun, run_holding};
+ghost use Rattle.run_shortcuts.specs.Beginning.{TellsText};
+ghost use Rattle.read_shortcuts.specs.Runs.{IsRun, ready_allowed, run_holding};
 ghost use Rattle.input_model.specs.Unread.{asks_to_take};
 ghost use Rattle.roff_scan.specs.declared.run_kind.RunKind.TheVariants.{CallArguments};
 ghost use Rattle.roff_scan.specs.declared.run_kind.RunKind.TheVariants.{Text as TextRun};
@@ -127,8 +128,7 @@ pub(crate) fn hold_line<S: ByteSource>(
 }
 
 /// Takes the escape of a register, a string or an argument that stands whole in front of arguments,
-/// and bytes of its text and behind it. Returns whether it took one, and another may stand behind
-/// it.
+/// and bytes of its text and behind it. Returns whether it took one, and another may be behind it.
 #[inline(always)]
 pub(crate) fn hold_on<S: ByteSource>(run: &mut Running, most: Option<usize>, source: &mut S) -> bool
     requires { IsRun (run_holding most) run.old.interpreter.reader.reading
@@ -189,6 +189,7 @@ pub(crate) fn take_named<S: ByteSource>(run: &mut Running, source: &mut S) -> bo
     ensures half { run.new.unread.input.escapes ≡ run.old.unread.input.escapes }
     ensures reads { run.new.interpreter.reader.reading
         ≡ run.old.interpreter.reader.reading }
+    ensures more { run.old.unread.input.charge ≤ run.new.unread.input.charge }
 {
     match text_ahead(&run.interpreter.reader, &run.unread, source) {
         Some(ahead) => {
@@ -209,6 +210,7 @@ pub(crate) fn tell_string<S: ByteSource>(run: &mut Running, source: &mut S) -> b
         run.old run.new }
     ensures half { run.new.unread.input.escapes ≡ run.old.unread.input.escapes }
     ensures reads { run.new.interpreter.reader ≡ run.old.interpreter.reader }
+    ensures more { run.old.unread.input.charge ≤ run.new.unread.input.charge }
 {
     if !put_string(run, source) {
         return false;
@@ -226,6 +228,7 @@ pub(crate) fn put_string<S: ByteSource>(run: &mut Running, source: &mut S) -> bo
         run.old run.new }
     ensures half { run.new.unread.input.escapes ≡ run.old.unread.input.escapes }
     ensures reads { run.new.interpreter ≡ run.old.interpreter }
+    ensures more { run.old.unread.input.charge ≤ run.new.unread.input.charge }
 {
     read_shortcuts::put_string(&run.interpreter.reader, &mut run.unread, source)
 }
@@ -241,6 +244,7 @@ fn tell_named<S: ByteSource>(run: &mut Running, ahead: TextAhead, source: &mut S
         run.old run.new }
     ensures half { run.new.unread.input.escapes ≡ run.old.unread.input.escapes }
     ensures reads { run.new.interpreter.reader ≡ run.old.interpreter.reader }
+    ensures more { run.old.unread.input.charge ≤ run.new.unread.input.charge }
 {
     let text = pass_text(
         &run.interpreter.reader,
@@ -255,9 +259,8 @@ fn tell_named<S: ByteSource>(run: &mut Running, ahead: TextAhead, source: &mut S
     run.unread.stays_within();
 }
 
-/// Takes bytes of plain text together that stand in front, and tells them, and then takes the
-/// escape of a register or a string behind them, or reads the front of one. Returns whether it took
-/// a whole one.
+/// Takes bytes of plain text that stand in front, and tells them; then takes the escape of a
+/// register or a string behind them, or reads its front. Returns whether it took a whole one.
 #[inline(always)]
 pub(crate) fn tell_line<S: ByteSource>(run: &mut Running, source: &mut S) -> bool
     requires { IsRun TextRun run.old.interpreter.reader.reading run.old.unread.input.escapes }
@@ -354,6 +357,10 @@ pub(crate) fn tell_front<S: ByteSource>(run: &mut Running, source: &mut S) -> Be
     ensures reads { run.new.interpreter.reader ≡ run.old.interpreter.reader }
     ensures behind { asks_to_take run.old.unread ≡ true → result
         ≡ behind_ready (S.ready source.old) run.old.unread run.new.unread }
+    ensures more { run.old.unread.input.charge ≤ run.new.unread.input.charge }
+    ensures told { asks_to_take run.old.unread ≡ true
+        → begins_above_controls (ready_allowed run.old.unread (S.ready source.old)) ≡ true
+        → TellsText (ready_allowed run.old.unread (S.ready source.old)) run.old run.new }
 {
     let front = run.unread.front(source);
     if !begins_above_controls(front) {

@@ -7,9 +7,11 @@ mod conditions;
 mod fronts;
 mod glyphs;
 mod line_ends;
+mod passed;
 mod passing;
 mod stepping;
 mod unfilled;
 
-pub use beginnings::{Begun, begin_text_at_once, tell_behind};
+pub use beginnings::{begin_text_at_once, tell_behind};
+pub use passed::Passed;
 pub use passing::pass_over;

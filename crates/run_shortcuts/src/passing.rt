@@ -21,7 +21,8 @@ use crate::line_ends::end_control_line;
 use page_bytes::{ByteSink, MessageSink};
 use read_lines::CALL_ARGUMENTS;
 use read_shortcuts::{
-    ControlRead, RunKind, begins_apart, begins_control_line, read_control_front, run_kind,
+    ControlRead, RunKind, begins_apart, begins_control_line, read_control_front, read_short_front,
+    run_kind,
 };
 use roff_scan::ByteSource;
 use run_model::Status;
@@ -93,6 +94,7 @@ fn pass_control_front<S: ByteSource, O: ByteSink, E: MessageSink>(
     ) {
         ControlRead::Nothing => Ok(pass_return(run)),
         ControlRead::Escape => Ok(put_string(run, source)),
+        ControlRead::Short => pass_short_name(run, source, out, err),
         ControlRead::Front => Ok(pass_behind_front(run, source)),
         ControlRead::Dropped => Ok(true),
         ControlRead::Condition => Ok(pass_condition(run, source)),
@@ -101,6 +103,29 @@ fn pass_control_front<S: ByteSource, O: ByteSink, E: MessageSink>(
         ControlRead::HeldToEscape => Ok(hold_on(run, None, source)),
         ControlRead::HeldForCall => Ok(hold_call_on(run, CALL_ARGUMENTS - 1, source)),
         ControlRead::HeldToEnd => end_control_line(run, out, err),
+    }
+}
+
+/// Takes the front of a control line at once whose name has one byte, if it stands in front, and
+/// then bytes behind it. Returns whether a line begins behind them.
+#[inline(never)]
+fn pass_short_name<S: ByteSource, O: ByteSink, E: MessageSink>(
+    run: &mut Running,
+    source: &mut S,
+    out: &mut O,
+    err: &mut E,
+) -> Result<bool, Status>
+    requires begins { BeginsControl run.old.interpreter.reader.reading }
+    requires none_due { due run.old.interpreter.reader.reading ≡ None }
+    requires none_half { run.old.unread.input.escapes ≡ [] }
+    ensures { ComesOver S.ByteSource O.ByteSink E.MessageSink (says_fewer result)
+        source.old source.new out.old out.new err.old err.new
+        run.old run.new (going_on result) }
+{
+    match read_short_front(&mut run.interpreter.reader, &mut run.unread, source) {
+        ControlRead::HeldToEnd => end_control_line(run, out, err),
+        ControlRead::Dropped => Ok(true),
+        _ => Ok(pass_behind_front(run, source)),
     }
 }
 

@@ -1,6 +1,6 @@
 //! Registers on text lines that are stepped.
 
-ghost use Rattle.std.specs.Prelude.{◌≡◌};
+ghost use Rattle.std.specs.Prelude.{◌≡◌, ◌≤◌};
 ghost use Rattle.read_shortcuts.specs.Runs.{IsRun};
 ghost use Rattle.roff_scan.specs.declared.run_kind.RunKind.TheVariants.{Text as TextRun};
 ghost use Rattle.run_turns.specs.Running.Turning.{GoesPastOver};
@@ -20,6 +20,7 @@ pub(crate) fn tell_other<S: ByteSource>(run: &mut Running, source: &mut S) -> bo
     ensures half { run.new.unread.input.escapes ≡ run.old.unread.input.escapes }
     ensures reads { run.new.interpreter.reader.reading
         ≡ run.old.interpreter.reader.reading }
+    ensures more { run.old.unread.input.charge ≤ run.new.unread.input.charge }
 {
     if tell_string(run, source) {
         return true;
@@ -37,6 +38,7 @@ fn tell_stepped<S: ByteSource>(run: &mut Running, source: &mut S) -> bool
     ensures half { run.new.unread.input.escapes ≡ run.old.unread.input.escapes }
     ensures reads { run.new.interpreter.reader.reading
         ≡ run.old.interpreter.reader.reading }
+    ensures more { run.old.unread.input.charge ≤ run.new.unread.input.charge }
 {
     match step_register(
         &mut run.interpreter.reader,

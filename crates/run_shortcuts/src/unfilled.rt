@@ -1,8 +1,10 @@
 //! Text lines that stand in front up to their newlines, and are told and ended at once, where words
 //! aren't measured.
 
-ghost use Rattle.std.specs.Prelude.{◌≡◌, ℕ, [], IfSome, None, true};
-ghost use Rattle.run_shortcuts.specs.Clauses.{StandFor, Sunk, seen};
+ghost use Rattle.std.specs.Prelude.{◌≡◌, ℕ, [], IfSome, None, Ok, true};
+ghost use Rattle.run_shortcuts.specs.Clauses.{StandFor, Sunk, going_on, seen};
+ghost use Rattle.run_shortcuts.specs.Passed.{line_begun};
+ghost use Rattle.run_shortcuts.specs.declared.passed.Passed.TheVariants.{Not, On};
 ghost use Rattle.roff_num.specs.declared.limits.Limits.{Limits as LimitsOf};
 ghost use Rattle.run_model.specs.Environments.{PageHistory, interrupted_line};
 ghost use Rattle.run_shortcuts.specs.Unfilled.{LineInFront, ReadsText};
@@ -16,9 +18,10 @@ ghost use Rattle.run_model.specs.declared.line_state.LineState.TheVariants.{Text
 ghost use Rattle.run_model.specs.declared.line_state.TextLine.{TextLine as TextLineOf};
 ghost use Rattle.input_source.specs.Bytes.{newline};
 ghost use Rattle.page_bytes.specs.Told.{told_by};
-ghost use Rattle.run_turns.specs.Running.Turning.{ComesOver, DoesItem};
+ghost use Rattle.run_turns.specs.Running.Turning.{ComesOver, DoesItem, says_fewer};
 
 use crate::beginnings::begin_with_text;
+use crate::passed::{Passed, ended_behind};
 use page_bytes::{ByteSink, MessageSink};
 use roff_scan::ByteSource;
 use run_events::{Halt, Sprung};
@@ -34,15 +37,16 @@ pub(crate) fn end_line_at_once<S: ByteSource, O: ByteSink, E: MessageSink>(
     source: &mut S,
     out: &mut O,
     err: &mut E,
-) -> Option<Result<(), Status>>
-    ensures ends { IfSome result (λ r.
-        ComesOver S.ByteSource O.ByteSink E.MessageSink true
-        source.old source.new out.old out.new err.old err.new run.old run.new r) }
-    ensures unchanged { result ≡ None → (run.new ≡ run.old) × (source.new ≡ source.old) }
-    ensures sinks { result ≡ None → (out.new ≡ out.old) × (err.new ≡ err.old) }
+) -> Result<Passed, Status>
+    ensures ends { ComesOver S.ByteSource O.ByteSink E.MessageSink
+        (says_fewer (line_begun result)) source.old source.new out.old out.new err.old err.new
+        run.old run.new (going_on (line_begun result)) }
+    ensures unchanged { result ≡ Ok Not → (run.new ≡ run.old) × (source.new ≡ source.old) }
+    ensures sinks { result ≡ Ok Not → (out.new ≡ out.old) × (err.new ≡ err.old) }
+    ensures all { result ≡ Ok On → ⊥ }
 {
     if !run.interpreter.formatter.puts_lines() || run.unread.has_open_escape() {
-        return None;
+        return Ok(Passed::Not);
     }
     end_line_in_front(run, source, out, err)
 }
@@ -55,21 +59,22 @@ fn end_line_in_front<S: ByteSource, O: ByteSink, E: MessageSink>(
     source: &mut S,
     out: &mut O,
     err: &mut E,
-) -> Option<Result<(), Status>>
+) -> Result<Passed, Status>
     requires none_half { run.old.unread.input.escapes ≡ [] }
-    ensures ends { IfSome result (λ r.
-        ComesOver S.ByteSource O.ByteSink E.MessageSink true
-        source.old source.new out.old out.new err.old err.new run.old run.new r) }
-    ensures unchanged { result ≡ None → (run.new ≡ run.old) × (source.new ≡ source.old) }
-    ensures sinks { result ≡ None → (out.new ≡ out.old) × (err.new ≡ err.old) }
+    ensures ends { ComesOver S.ByteSource O.ByteSink E.MessageSink
+        (says_fewer (line_begun result)) source.old source.new out.old out.new err.old err.new
+        run.old run.new (going_on (line_begun result)) }
+    ensures unchanged { result ≡ Ok Not → (run.new ≡ run.old) × (source.new ≡ source.old) }
+    ensures sinks { result ≡ Ok Not → (out.new ≡ out.old) × (err.new ≡ err.old) }
+    ensures all { result ≡ Ok On → ⊥ }
 {
     let front = run.unread.front(source);
     match line_in(&run.interpreter, front) {
-        None => None,
+        None => Ok(Passed::Not),
         Some((count, gaps)) => {
             let done = run.interpreter.end_front(front, count, gaps, out);
             run.unread.pass_line(source, count);
-            Some(go_on_behind(run, done, out, err))
+            ended_behind(go_on_behind(run, done, out, err))
         }
     }
 }

@@ -22,7 +22,7 @@ pub returns-then-not-belongs_to_name-clause-read : goal.returns-then-not-belongs
 returns-then-not-belongs_to_name-clause-read g c = nothing-read _ _ _ _ _ _ refl refl
 
 pub returns-then-not-belongs_to_name-2-clause-read : goal.returns-then-not-belongs_to_name-2-clause-read
-returns-then-not-belongs_to_name-2-clause-read g c = c.read_short.ensures.read c.args.composer.now
+returns-then-not-belongs_to_name-2-clause-read g c = nothing-read _ _ _ _ _ _ refl refl
 
 pub read_behind_name-requires : goal.read_behind_name-requires
 read_behind_name-requires g c = record {

@@ -7,3 +7,17 @@ begin_line-requires-clause-none_goes_on g c = λ l h stood. sym (c.interrupted_l
 
 pub returns-in-Some-clause-past : goal.returns-in-Some-clause-past
 returns-in-Some-clause-past g c = λ out err. comes_none _ _ _ _
+
+pub returns-in-None-clause-some : goal.returns-in-None-clause-some
+returns-in-None-clause-some g c = λ stands none. c.begin_line.ensures.some stands
+
+pub returns-in-None-clause-told : goal.returns-in-None-clause-told
+returns-in-None-clause-told g c = λ stands none. c.begin_line.ensures.told stands
+
+pub returns-in-Some-clause-some : goal.returns-in-Some-clause-some
+returns-in-Some-clause-some g c = λ stands none untold.
+    let wrong = sym c.in-Some.is ∙ c.interrupted_line.ensures none.limits none.history none.stands.environments ∙ none.none in absurd (cc)
+
+pub returns-in-Some-clause-told : goal.returns-in-Some-clause-told
+returns-in-Some-clause-told g c = λ stands none.
+    let wrong = sym c.in-Some.is ∙ c.interrupted_line.ensures none.limits none.history none.stands.environments ∙ none.none in absurd (cc)

@@ -1,6 +1,7 @@
 use Rattle.std.proofs.Common.{ap, refl}
 use Rattle.read_shortcuts.specs.Registers.{OfString}
 use Rattle.run_shortcuts.proofs.PutRegisters.{goes_further_put, goes_past_or_stays, half_string}
+use Rattle.run_shortcuts.proofs.BytesCounted.{more-or_stays, more-put}
 use Rattle.run_shortcuts.proofs.fronts.put_string.Goals as goal
 
 pub returns-clause-further : goal.returns-clause-further
@@ -15,3 +16,9 @@ returns-clause-half g c =
     let took = c.put_string.ensures in
     half_string _ _ _ c.args.run.now.interpreter.formatter.composer c.args.run.now.unread _ c.put_string.result
     (took.puts c.args.run.now.interpreter.formatter.composer) (λ none. (took.unchanged none).0)
+
+pub returns-clause-more : goal.returns-clause-more
+returns-clause-more g c =
+    let took = c.put_string.ensures in
+    let es = c.args.run.now.interpreter.formatter.composer in
+    more-or_stays c.put_string.result c.args.run.now.unread _ (λ put. more-put OfString _ _ _ es c.args.run.now.unread _ (took.puts es put)) (λ none. (took.unchanged none).0)

@@ -4,6 +4,8 @@ use Rattle.run_shortcuts.proofs.BehindTexts.{behind-told, behind-untold}
 use Rattle.run_shortcuts.proofs.Telling.{goes_past_told}
 use Rattle.run_shortcuts.proofs.LinesAtOnce.{no_newline_told}
 use Rattle.run_turns.proofs.ComingFurther.{comes_none}
+use Rattle.run_shortcuts.proofs.BytesCounted.{more-passed}
+use Rattle.run_shortcuts.proofs.TextsBegun.{none-begins, tells-text}
 use Rattle.run_shortcuts.proofs.fronts.tell_front.Goals as goal
 
 pub returns-then-not-begins_above_controls-clause-past : goal.returns-then-not-begins_above_controls-clause-past
@@ -30,3 +32,15 @@ pub returns-clause-behind : goal.returns-clause-behind
 returns-clause-behind g c = λ asks.
     behind-told _ _ _ c.front-front.result.now c.text_front-count.result _ _ _ c.front-front.ensures.bytes c.text_front-count.ensures.few c.pass.ensures.passes
     (sym c.begins_above_controls.ensures ∙ c.if-not-begins_above_controls.false) c.behind_text-behind.ensures (c.front-front.ensures.whole asks)
+
+pub returns-clause-more : goal.returns-clause-more
+returns-clause-more g c = more-passed _ _ _ _ _ c.pass.ensures.passes
+
+pub returns-then-not-begins_above_controls-clause-told : goal.returns-then-not-begins_above_controls-clause-told
+returns-then-not-begins_above_controls-clause-told g c = λ asks begins.
+    none-begins c.front-front.result.now _ (c.front-front.ensures.whole asks) (sym c.begins_above_controls.ensures ∙ c.if-not-begins_above_controls.true) begins
+
+pub returns-clause-told : goal.returns-clause-told
+returns-clause-told g c = λ asks begins.
+    tells-text _ _ _ c.front-front.result.now c.text_front-count.result c.args.run.now _ _ c.front-front.ensures.bytes c.text_front-count.ensures c.pass.ensures.passes
+    (c.front-front.ensures.whole asks)

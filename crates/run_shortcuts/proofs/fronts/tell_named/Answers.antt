@@ -1,4 +1,4 @@
-use Rattle.std.proofs.Common.{ℕ, List, refl, subst, sym, ◌+◌, ◌<◌, ◌∙◌, length}
+use Rattle.std.proofs.Common.{ℕ, List, refl, subst, sym, ◌+◌, ◌<◌, ◌∙◌, arith, length}
 use Rattle.input_model.specs.Unread.{IsWithin}
 use Rattle.run_model.specs.Reading.Items.{PageUnread}
 use Rattle.read_shortcuts.specs.Registers.{PutsText, asked_by, with_text}
@@ -6,6 +6,7 @@ use Rattle.read_shortcuts.proofs.ArgumentsPut.{reads-ahead}
 use Rattle.read_shortcuts.proofs.RegistersHeld.{half-read, reads_text, room-left}
 use Rattle.run_turns.specs.declared.running.Running.{Running as Coded}
 use Rattle.run_shortcuts.proofs.PutRegisters.{goes_further_told}
+use Rattle.run_shortcuts.proofs.BytesCounted.{more-put, more-read}
 use Rattle.run_shortcuts.proofs.fronts.tell_named.Goals as goal
 
 pub push_read-requires-clause-stack : goal.push_read-requires-clause-stack
@@ -52,3 +53,10 @@ returns-clause-further g c = λ out err.
     (reads_text text c.text_front-count.result told.few passed passed.input.arguments room passed c.push_read.new.self c.push_read.result refl
     wrote.whole wrote.ended wrote.rest c.stays_within.ensures)
     c.pass_text-text.ensures.notes c.pass_text-text.ensures.failures
+
+pub returns-clause-more : goal.returns-clause-more
+returns-clause-more g c =
+    let passed : PageUnread = c.pass_text-text.new.unread in
+    let put = more-put (asked_by c.args.ahead) _ _ _ _ c.args.run.now.unread (with_text c.pass_text-text.result.items passed) c.pass_text-text.ensures.puts in
+    let read = more-read _ c.text_front-count.result passed c.push_read.new.self c.push_read.result c.push_read.ensures.ended c.push_read.ensures.rest in
+    omega (arith, put, read)

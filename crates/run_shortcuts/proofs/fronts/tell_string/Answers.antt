@@ -1,10 +1,11 @@
-use Rattle.std.proofs.Common.{false, true, ap, ◌∙◌}
+use Rattle.std.proofs.Common.{false, true, ap, ◌∙◌, arith}
 use Rattle.roff_scan.specs.declared.run_kind.RunKind.TheVariants.{Text}
 use Rattle.run_items.specs.declared.interpreter.Interpreter.{Interpreter}
 use Rattle.run_turns.specs.declared.running.Running.{Running as Coded}
 use Rattle.run_shortcuts.proofs.PassingEnds.{goes_further_passed}
 use Rattle.run_shortcuts.proofs.PutRegisters.{half_ended, run-kept}
 use Rattle.run_turns.proofs.ComingFurther.{comes_both, comes_further, comes_on}
+use Rattle.run_shortcuts.proofs.BytesCounted.{more-ended, more-or_stays}
 use Rattle.run_shortcuts.proofs.fronts.tell_string.Goals as goal
 
 pub returns-then-not-put_string-clause-further : goal.returns-then-not-put_string-clause-further
@@ -29,3 +30,12 @@ returns-clause-half g c =
 pub returns-clause-reads : goal.returns-clause-reads
 returns-clause-reads g c =
     ap (λ (run : Coded). run.interpreter.reader) c.pass_end.ensures.others ∙ c.tell_front.ensures.reads ∙ ap (λ (i : Interpreter). i.reader) c.put_string.ensures.reads
+
+pub returns-clause-more : goal.returns-clause-more
+returns-clause-more g c =
+    let put = c.put_string.ensures.more in
+    let told = c.tell_front.ensures.more in
+    let ended =
+    more-or_stays c.pass_end.result c.tell_front.new.run.unread c.pass_end.new.run.unread (λ passed. more-ended _ _ (c.pass_end.ensures.passes passed))
+    (λ none. ap (λ (run : Coded). run.unread) (c.pass_end.ensures.unchanged none)) in
+    omega (arith, put, told, ended)

@@ -1,5 +1,5 @@
-use Rattle.std.proofs.Common.{ap, ◌∙◌}
-use Rattle.read_shortcuts.specs.ControlFronts.{is_past, is_read}
+use Rattle.std.proofs.Common.{ap, subst, sym, ◌∙◌}
+use Rattle.read_shortcuts.specs.ControlFronts.{BeginsControl, is_past, is_read}
 use Rattle.read_lines.specs.Reader.State.{ReaderState}
 use Rattle.run_model.specs.Reading.Items.{PageUnread}
 use Rattle.run_model.specs.Reading.Ends.{due}
@@ -104,3 +104,26 @@ returns-in-Escape g c =
     let err = told_by g.E.MessageSink c.args.err.now in
     comes_unread g.S.ByteSource c.args.source.now read.new.source out err c.args.run.now read.new.unread read.new.reader _ read.ensures.read _ _ _ _ _
     (c.put_string.ensures.further out err) (ap is_read c.in-Escape.is)
+
+pub pass_short_name-requires-clause-begins : goal.pass_short_name-requires-clause-begins
+pass_short_name-requires-clause-begins g c =
+    let kept = c.read_control_front.ensures.read.unchanged (ap is_read c.in-Short.is) in
+    subst (λ (r : ReaderState). BeginsControl r.reading) (sym kept.0) c.requires.begins
+
+pub pass_short_name-requires-clause-none_due : goal.pass_short_name-requires-clause-none_due
+pass_short_name-requires-clause-none_due g c =
+    let kept = c.read_control_front.ensures.read.unchanged (ap is_read c.in-Short.is) in
+    ap (λ (r : ReaderState). due r.reading) kept.0 ∙ c.requires.none_due
+
+pub pass_short_name-requires-clause-none_half : goal.pass_short_name-requires-clause-none_half
+pass_short_name-requires-clause-none_half g c =
+    let kept = c.read_control_front.ensures.read.unchanged (ap is_read c.in-Short.is) in
+    ap (λ (u : PageUnread). u.input.escapes) kept.1 ∙ c.requires.none_half
+
+pub returns-in-Short : goal.returns-in-Short
+returns-in-Short g c =
+    let read = c.read_control_front in
+    let out = g.O.ByteSink.sunk c.args.out.now in
+    let err = told_by g.E.MessageSink c.args.err.now in
+    comes_unread g.S.ByteSource c.args.source.now read.new.source out err c.args.run.now read.new.unread read.new.reader _ read.ensures.read _ _ _ _ _
+    c.pass_short_name.ensures (ap is_read c.in-Short.is)

@@ -1,4 +1,4 @@
-use Rattle.std.proofs.Common.{ℕ, List, ap, refl, subst, sym, ◌+◌, ◌<◌, ◌∙◌, length}
+use Rattle.std.proofs.Common.{ℕ, List, ap, refl, subst, sym, ◌+◌, ◌<◌, ◌∙◌, arith, length}
 use Rattle.input_model.specs.Unread.{IsWithin}
 use Rattle.run_model.specs.Reading.Items.{PageUnread}
 use Rattle.read_shortcuts.specs.Registers.{with_text}
@@ -8,6 +8,7 @@ use Rattle.run_turns.specs.declared.running.Running.{Running as Coded}
 use Rattle.read_lines.specs.Reader.State.{ReaderState}
 use Rattle.run_shortcuts.proofs.SteppedRegisters.{goes_further_stepped_told, run_with, same_reading}
 use Rattle.run_turns.proofs.ComingFurther.{comes_nowhere}
+use Rattle.run_shortcuts.proofs.BytesCounted.{more-read, more-stepped}
 use Rattle.run_shortcuts.proofs.stepping.tell_stepped.Goals as goal
 
 pub push_read-requires-clause-stack : goal.push_read-requires-clause-stack
@@ -64,3 +65,15 @@ returns-in-None-clause-further g c = λ out err.
     let kept = c.step_register.ensures.unchanged c.in-None.is in
     (comes_nowhere _ _ _ _ _ _ out err old _ (ap g.S.ByteSource.gives kept.2) (ap g.S.ByteSource.notes kept.2) (ap g.S.ByteSource.failures kept.2)
     (ap (λ (r : ReaderState). run_with old r c.step_register.new.unread) kept.0 ∙ ap (λ (u : PageUnread). run_with old old.interpreter.reader u) kept.1))
+
+pub returns-in-Some-clause-more : goal.returns-in-Some-clause-more
+returns-in-Some-clause-more g c =
+    let passed : PageUnread = c.step_register.new.unread in
+    let stepped = more-stepped _ _ _ _ _ c.args.run.now.unread (with_text _ passed) c.in-Some.ensures.steps in
+    let read = more-read _ c.text_front-count.result passed c.push_read.new.self c.push_read.result c.push_read.ensures.ended c.push_read.ensures.rest in
+    omega (arith, stepped, read)
+
+pub returns-in-None-clause-more : goal.returns-in-None-clause-more
+returns-in-None-clause-more g c =
+    let is = ap (λ (u : PageUnread). u.input.charge) (c.step_register.ensures.unchanged c.in-None.is).1 in
+    omega (arith, is)

@@ -10,4 +10,4 @@ returns-then-line c = λ so.
 
 pub returns-then-begin_with_text : goal.returns-then-begin_with_text
 returns-then-begin_with_text c = λ so.
-    FromFirst (sym c.reading.ensures ∙ c.in-LineStart.is) (c.begin_with_text.ensures c.if-begin_with_text.true) (c.begins_line.ensures so)
+    FromFirst (sym c.reading.ensures ∙ c.in-LineStart.is) (c.begin_with_text.ensures.text c.if-begin_with_text.true) (c.begins_line.ensures so)
