@@ -9,6 +9,6 @@ take_run-requires g c =
     subst (λ (run : Coded). IsRun c.args.kind run.interpreter.reader.reading run.unread.input.escapes)
     (sym (c.take_lines.ensures.unchanged c.if-take_lines.false)) c.requires
 
-pub returns-else-take_lines : goal.returns-else-take_lines
-returns-else-take_lines g c = λ out err.
+pub returns : goal.returns
+returns g c = λ out err.
     comes_both false (comes_further (c.take_lines.ensures.past out err)) (c.take_run.ensures out err)

@@ -3,8 +3,8 @@ use Rattle.run_shortcuts.proofs.PassingEnds.{goes_further_passed}
 use Rattle.run_turns.proofs.ComingFurther.{comes_both, comes_further}
 use Rattle.run_shortcuts.proofs.passing.pass_apart.Goals as goal
 
-pub returns-else-take_lines : goal.returns-else-take_lines
-returns-else-take_lines g c = λ out err.
+pub returns : goal.returns
+returns g c = λ out err.
     let ends = c.pass_end.ensures in
     comes_both false (comes_further (c.take_lines.ensures.past out err))
     (comes_both false (c.take_string_name.ensures out err)
