@@ -14,6 +14,8 @@ mod FrontsRead
 pub mod ShortNames
 pub mod LineEnds
 pub mod DroppedLines
+pub mod CopiedTurns
+pub mod CopiedLines
 pub mod StringFronts
 pub mod RegisterNames
 pub mod RegistersPut

@@ -2,6 +2,7 @@ pub mod Runs
 pub mod Stages
 pub mod ControlFronts
 pub mod DroppedLines
+pub mod CopiedLines
 pub mod ShortNames
 pub mod StringFronts
 pub mod Registers

@@ -10,7 +10,7 @@ use Rattle.run_model.specs.Stages.{Adds, EndsByNewline, Holds, HoldsIfFewer, Ign
 use Rattle.run_model.specs.Telling.{Prints}
 use Rattle.run_model.specs.declared.line_state.LineState.{LineState}
 use Rattle.run_model.specs.declared.line_state.LineState.TheVariants.{Branch, Title, Collecting}
-use Rattle.run_model.specs.declared.purpose.Purpose.TheVariants.{StringName, StringText}
+use Rattle.run_model.specs.declared.purpose.Purpose.TheVariants.{Defining, StringName, StringText}
 use Rattle.read_lines.specs.Reader.State.{ReaderState}
 use Rattle.roff_scan.specs.declared.run_kind.RunKind.{RunKind}
 use Rattle.roff_scan.specs.declared.run_kind.RunKind.TheVariants.{Text, Blanks, Arguments, CallArguments, Name, Condition, Definition, Ignored, Dropped}
@@ -50,11 +50,12 @@ abbrev pub KeepsReader : RunKind → ReaderState → ReaderState → Type 0
 KeepsReader Blanks old new = Unit {0}
 KeepsReader (_) old new = new ≡ old
 
--- where this is read, bytes in front may be taken together that are no run: those of a string's name, of the beginning of its text, or
--- of a title
+-- where this is read, bytes in front may be taken together that are no run: those of a string's name, of the beginning of its text, of
+-- the lines of a definition, or of a title
 abbrev pub reads_apart : LineState → Bool
 reads_apart (Collecting (StringName appends)) = true
 reads_apart (Collecting (StringText name appends is_front)) = true
+reads_apart (Collecting (Defining name appends end matched)) = true
 reads_apart (Title delimiter) = true
 reads_apart (_) = false
 

@@ -17,7 +17,7 @@ use roff_scan::{ByteSource, RunKind, Unread};
 use run_model::{LineState, PageEvent, Purpose};
 
 /// Whether bytes in front may be taken together that are no run: of a string's name, of the
-/// beginning of its text, or of a title.
+/// beginning of its text, of the lines of a definition, or of a title.
 #[inline(always)]
 pub fn begins_apart(reader: &Reader) -> bool
     ensures { result ≡ reads_apart reader.now.reading }
@@ -25,6 +25,7 @@ pub fn begins_apart(reader: &Reader) -> bool
     match reader.reading() {
         LineState::Collecting(Purpose::StringName { .. }) => true,
         LineState::Collecting(Purpose::StringText { .. }) => true,
+        LineState::Collecting(Purpose::Defining { .. }) => true,
         LineState::Title { .. } => true,
         _ => false,
     }

@@ -4,6 +4,7 @@ pub mod PartsTaken
 pub mod AddedFronts
 pub mod Runs
 pub mod AddedBodies
+pub mod CopiedFronts
 pub mod FirstArguments
 pub mod Asking
 pub mod Changing

@@ -5,3 +5,4 @@ pub mod Lines
 pub mod Runs
 pub mod FirstArguments
 pub mod Texts
+pub mod Copied

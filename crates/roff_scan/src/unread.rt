@@ -6,6 +6,7 @@ ghost use Rattle.input_model.specs.Input.{is_none_ahead, pushed, depth};
 
 mod arguments;
 mod calls;
+mod copied;
 mod first_arguments;
 mod fronts;
 mod lines;

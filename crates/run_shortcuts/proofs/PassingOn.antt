@@ -1,5 +1,5 @@
 -- A run that goes past bytes behind which a line begins, and past a newline.
-use Rattle.std.proofs.Common.{◌≡◌, [], ◌≤◌, ℕ, ◌<◌, true, ◌∷◌, None, refl, sym, ap, subst, arith}
+use Rattle.std.proofs.Common.{◌≡◌, [], ◌≤◌, ℕ, ◌<◌, Bool, true, false, ◌∷◌, None, refl, sym, ap, subst, arith}
 use Rattle.input_source.specs.Bytes.{newline}
 use Rattle.input_source.specs.Tape.{Tape}
 use Rattle.input_model.specs.Unread.{IsWithin}
@@ -8,6 +8,7 @@ use Rattle.read_lines.specs.Reader.State.{ReaderState}
 use Rattle.run_model.specs.Reading.Items.{PageUnread}
 use Rattle.run_model.specs.Reading.Ends.{due}
 use Rattle.run_model.specs.Stages.{EndsByNewline}
+use Rattle.read_shortcuts.specs.CopiedLines.{CopiesOn}
 use Rattle.read_shortcuts.specs.DroppedLines.{LineBegun}
 use Rattle.read_shortcuts.specs.Stages.{ReadsPast}
 use Rattle.run_model.specs.TurnsToCome.{begun, free_ahead, turns_to_come}
@@ -50,3 +51,15 @@ goes_further_ended gave gives noted notes failed failures out err old after r is
     (reads-ended gave gives old.interpreter.reader r old.unread after none_due ends none_half passes within is)
     (record { begins = ap (λ (there : ReaderState). there.reading) is; fewer = fewer-newline gave gives old.unread after passes })
     fewer same_failures
+
+-- past lines of a definition that were copied, or past bytes
+pub goes_further_copied : (copied : Bool) (gave gives : Tape → Type 0) (noted notes failed failures : ℕ) (out err : Sunk) (old : Coded) (after : PageUnread) (r : ReaderState)
+    → ReadsPast gave gives old.interpreter.reader r old.unread after → (copied ≡ true → CopiesOn old.interpreter.reader r old.unread after) → notes ≤ noted → failures ≡ failed
+    → GoesPast copied gave gives noted notes old (record old { unread = after; interpreter = record old.interpreter { reader = r } }) (seen failed out err) (seen failures out err)
+goes_further_copied true gave gives noted notes failed failures out err old after r past on fewer same_failures =
+    let left = on refl in
+    let behind = turns_of_run-fewer old (record old { unread = after; interpreter = record old.interpreter { reader = r } }) (omega (arith, left.fewer, left.begun)) refl in
+    comes_fewer (omega (arith, behind, fewer))
+    (goes_past_turned gave gives noted notes failed failures out err old after r past fewer same_failures)
+goes_further_copied false gave gives noted notes failed failures out err old after r past on fewer same_failures =
+    goes_past_turned gave gives noted notes failed failures out err old after r past fewer same_failures

@@ -4,6 +4,7 @@
 
 mod beginnings;
 mod conditions;
+mod copied;
 mod fronts;
 mod glyphs;
 mod line_ends;

@@ -13,6 +13,7 @@ ghost use Rattle.run_shortcuts.specs.Clauses.{due, waiting_in};
 ghost use Rattle.run_turns.specs.Running.Turning.{ComesOver, GoesPastOver, going_on, says_fewer};
 
 use crate::conditions::pass_condition;
+use crate::copied::{copy_run, take_lines};
 use crate::fronts::{
     hold_call, hold_call_on, hold_line, hold_on, put_string, take_branch_blanks, take_run,
     take_string_front, take_string_name, take_title_front, tell_line,
@@ -179,12 +180,16 @@ fn pass_line<S: ByteSource>(run: &mut Running, source: &mut S) -> bool
     }
 }
 
-/// Takes bytes in front of a string's name, of the beginning of its text, or of a title's part, and
-/// then the end of a text behind them. Returns whether it took that.
+/// Takes lines of a definition in front; or bytes of a string's name, of the beginning of its text,
+/// or of a title's part, and then the end of a text behind them. Returns whether it took any of
+/// these but such bytes.
 #[inline(never)]
 fn pass_apart<S: ByteSource>(run: &mut Running, source: &mut S) -> bool
     ensures { GoesPastOver S.ByteSource result source.old source.new run.old run.new }
 {
+    if take_lines(run, source) {
+        return true;
+    }
     take_string_name(run, source);
     take_string_front(run, source);
     take_title_front(run, source);
@@ -211,7 +216,7 @@ fn pass_run<S: ByteSource>(run: &mut Running, kind: RunKind, source: &mut S) -> 
 }
 
 /// Takes bytes in front that do this, and the escape of a register or a string behind those of text
-/// or of arguments. Returns whether it took that.
+/// or of arguments. Returns whether it took that, or lines of a definition.
 #[inline(always)]
 fn take_bytes<S: ByteSource>(run: &mut Running, kind: RunKind, source: &mut S) -> bool
     requires { IsRun kind run.old.interpreter.reader.reading run.old.unread.input.escapes }
@@ -221,6 +226,8 @@ fn take_bytes<S: ByteSource>(run: &mut Running, kind: RunKind, source: &mut S) -
         RunKind::Text => tell_line(run, source),
         RunKind::Arguments => hold_line(run, None, source),
         RunKind::CallArguments(most) => hold_call(run, most, source),
+        RunKind::Definition => copy_run(run, kind, source),
+        RunKind::Ignored => copy_run(run, kind, source),
         _ => {
             take_run(run, kind, source);
             false
