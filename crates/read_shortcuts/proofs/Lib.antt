@@ -14,8 +14,6 @@ mod FrontsRead
 pub mod ShortNames
 pub mod LineEnds
 pub mod DroppedLines
-pub mod CopiedTurns
-pub mod CopiedLines
 pub mod StringFronts
 pub mod RegisterNames
 pub mod RegistersPut

@@ -2,7 +2,6 @@ pub mod Runs
 pub mod Stages
 pub mod ControlFronts
 pub mod DroppedLines
-pub mod CopiedLines
 pub mod ShortNames
 pub mod StringFronts
 pub mod Registers

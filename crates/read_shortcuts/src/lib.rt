@@ -6,7 +6,6 @@ mod answered;
 mod compared;
 mod conditions;
 mod control;
-mod copied;
 mod dropped;
 mod fonts;
 mod kept;
@@ -19,7 +18,6 @@ mod strings;
 mod strings_ahead;
 
 pub use control::{ControlRead, begins_control_line, read_control_front};
-pub use copied::take_lines;
 pub use fonts::{begin_with_font, take_font};
 pub use registers::{TextAhead, hold_text, pass_text, text_ahead};
 pub use roff_scan::RunKind;

@@ -8,7 +8,7 @@ use Rattle.read_lines.specs.Reader.State.{ReaderState}
 use Rattle.run_model.specs.Reading.Items.{PageUnread}
 use Rattle.run_model.specs.Reading.Ends.{due}
 use Rattle.run_model.specs.Stages.{EndsByNewline}
-use Rattle.read_shortcuts.specs.CopiedLines.{CopiesOn}
+use Rattle.read_definitions.specs.CopiedLines.{CopiesOn}
 use Rattle.read_shortcuts.specs.DroppedLines.{LineBegun}
 use Rattle.read_shortcuts.specs.Stages.{ReadsPast}
 use Rattle.run_model.specs.TurnsToCome.{begun, free_ahead, turns_to_come}

@@ -30,5 +30,5 @@ pub(crate) fn take_lines<S: ByteSource>(run: &mut Running, source: &mut S) -> bo
     ensures past { GoesPastOver S.ByteSource result source.old source.new run.old run.new }
     ensures unchanged { result ≡ false → run.new ≡ run.old }
 {
-    read_shortcuts::take_lines(&mut run.interpreter.reader, &mut run.unread, source)
+    read_definitions::take_lines(&mut run.interpreter.reader, &mut run.unread, source)
 }

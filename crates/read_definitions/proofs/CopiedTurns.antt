@@ -18,7 +18,7 @@ use Rattle.roff_store.specs.Named.{Named}
 use Rattle.roff_store.specs.Texts.{Entry, newest}
 use Rattle.run_model.proofs.TextBytes.{is_other, kept-text}
 use Rattle.run_model.specs.Definitions.{end_mark, front_of, line_from, line_with}
-use Rattle.run_model.specs.Reading.{taking, undropped_taking}
+use Rattle.run_model.specs.Reading.{byte_taking, undropped_taking}
 use Rattle.run_model.specs.Reading.DefinedLines.{definition_line, definition_unit}
 use Rattle.run_model.specs.Reading.Definitions.{definition_grown}
 use Rattle.run_model.specs.Reading.Found.{place_in, read_in}
@@ -31,7 +31,7 @@ use Rattle.run_model.specs.declared.definition.DefinitionLine.TheVariants.{MayBe
 use Rattle.run_model.specs.declared.line_state.LineState.{LineState}
 use Rattle.run_model.specs.declared.line_state.LineState.TheVariants.{Collecting}
 use Rattle.run_model.specs.declared.purpose.Purpose.TheVariants.{Defining}
-use Rattle.read_shortcuts.specs.CopiedLines.{ByteCopied, Copies, DotCopied, EscapeCopied, NoneCopied, is_copied_byte, is_dot, is_kept_escape, matched_at, second_of_mark}
+use Rattle.read_definitions.specs.CopiedLines.{ByteCopied, Copies, DotCopied, EscapeCopied, NoneCopied, is_copied_byte, is_dot, is_kept_escape, matched_at, second_of_mark}
 use Rattle.read_shortcuts.proofs.AddedRuns.{grows-added, stage_with}
 
 -- a byte that is copied isn't dropped
@@ -145,7 +145,7 @@ module _ (name : Option ShortName) (appends : Bool) (end : Option ShortName) whe
 
   -- a byte that is copied is a unit of them
   unit-copied : (k : Known) (i : PageInput) (matched : Option ℕ) (b : ℕ) → i.escapes ≡ [] → is_copied_byte b ≡ true
-      → taking k (defining matched) i b ≡ definition_line k i name appends end matched (Byte b)
+      → byte_taking k (defining matched) i b ≡ definition_line k i name appends end matched (Byte b)
   unit-copied k i matched b none_half copied =
       let reading : LineState = defining matched in
       ap (λ (c : Bool). if c then going_on (interrupted reading i) reading else undropped_taking k reading i b) (copied-undropped b copied)
@@ -156,7 +156,7 @@ module _ (name : Option ShortName) (appends : Bool) (end : Option ShortName) whe
   -- and put behind the text with what stands in front of it
   text-copied : (k : Known) (i : PageInput) (matched : Option ℕ) (front : List ℕ) (b : ℕ) → i.escapes ≡ [] → is_copied_byte b ≡ true
       → line_from (end_mark end) matched (Byte b) ≡ IsText → front_of (end_mark end) matched ≡ front
-      → taking k (defining matched) i b
+      → byte_taking k (defining matched) i b
       ≡ going_on (record i { open_texts = texts_copied name (front ++ b ∷ []) i.open_texts }) (defining (matched_at (b == newline)))
   text-copied k i matched front b none_half copied is_text is_front =
       let behind : LineState = defining (matched_at (b == newline)) in
@@ -166,19 +166,19 @@ module _ (name : Option ShortName) (appends : Bool) (end : Option ShortName) whe
       ∙ ap (λ (j : PageInput). going_on j behind) (copied-grown name (front ++ b ∷ []) i)
 
   -- a dot with which a line begins is no text yet
-  dot-copied : (k : Known) (i : PageInput) → i.escapes ≡ [] → taking k (defining (Some 0)) i dot ≡ going_on i (defining (Some 1))
+  dot-copied : (k : Known) (i : PageInput) → i.escapes ≡ [] → byte_taking k (defining (Some 0)) i dot ≡ going_on i (defining (Some 1))
   dot-copied k i none_half =
       unit-copied k i (Some 0) dot none_half refl
       ∙ ap (λ (line : DefinitionLine). definition_unit k i name appends end (front_of (end_mark end) (Some 0)) (Byte dot) line) (line-dot end)
 
   -- a backslash waits for the byte behind it
   backslash-copied : (k : Known) (i : PageInput) (matched : Option ℕ) → i.escapes ≡ []
-      → taking k (defining matched) i backslash ≡ going_on (record i { escapes = Backslash ∷ [] }) (defining matched)
+      → byte_taking k (defining matched) i backslash ≡ going_on (record i { escapes = Backslash ∷ [] }) (defining matched)
   backslash-copied k i matched none_half = ap (λ (half : List OpenEscape). read_in k (defining matched) i (byte_read AboveCopy half backslash)) none_half
 
   -- and is put behind the text with it
   escape-copied : (k : Known) (i : PageInput) (begins : Bool) (b : ℕ) → i.escapes ≡ Backslash ∷ [] → is_kept_escape b ≡ true
-      → taking k (defining (matched_at begins)) i b
+      → byte_taking k (defining (matched_at begins)) i b
       ≡ going_on (record i { escapes = []; open_texts = texts_copied name (backslash ∷ b ∷ []) i.open_texts }) (defining None)
   escape-copied k i begins b half kept =
       let reading : LineState = defining (matched_at begins) in

@@ -23,12 +23,12 @@ use Rattle.run_model.specs.Stages.{Turned, stage_of}
 use Rattle.run_model.specs.TurnsToCome.{begun, turns_to_come}
 use Rattle.run_model.specs.declared.line_state.LineState.{LineState}
 use Rattle.read_lines.specs.Reader.State.{ReaderState}
-use Rattle.read_shortcuts.specs.CopiedLines.{ByteCopied, Copies, CopiesFirst, CopiesOn, CopiesSome, DotCopied, EscapeCopied, NoneCopied, TakesLines, goes_on_behind_dot, is_behind_dot, is_copied_byte, is_dot, is_kept_escape, is_space, keeps_escape, kept_of, reads_lines, second_of_mark}
+use Rattle.read_definitions.specs.CopiedLines.{ByteCopied, Copies, CopiesFirst, CopiesOn, CopiesSome, DotCopied, EscapeCopied, NoneCopied, TakesLines, goes_on_behind_dot, is_behind_dot, is_copied_byte, is_dot, is_kept_escape, is_space, keeps_escape, kept_of, reads_lines, second_of_mark}
 use Rattle.read_shortcuts.specs.Runs.{ready_allowed}
 use Rattle.read_shortcuts.specs.Stages.{ReadsPast}
-use Rattle.read_shortcuts.specs.declared.copied.Lines.{Lines}
+use Rattle.read_definitions.specs.declared.copied.Lines.{Lines}
 use Rattle.read_shortcuts.proofs.AddedRuns.{stage_with}
-use Rattle.read_shortcuts.proofs.CopiedTurns.{copies-turned, texts_copied}
+use Rattle.read_definitions.proofs.CopiedTurns.{copies-turned, texts_copied}
 use Rattle.read_shortcuts.proofs.RegistersPut.{leaves}
 use Rattle.read_shortcuts.proofs.RunsRead.{first_of_front, passed-charge, turned-behind}
 

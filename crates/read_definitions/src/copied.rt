@@ -5,12 +5,12 @@ ghost use Rattle.std.specs.Prelude.{true};
 ghost use Rattle.input_model.specs.Unread.{asks_to_take};
 ghost use Rattle.input_escapes.specs.EscapeLaws.{begins_reading};
 ghost use Rattle.input_source.specs.Bytes.{backslash, dot, is_text_byte};
-ghost use Rattle.read_shortcuts.specs.CopiedLines.{Copies, CopiesFirst, CopiesOn, CopiesSome};
-ghost use Rattle.read_shortcuts.specs.CopiedLines.{TakesLines, goes_on_behind_dot, is_behind_dot};
-ghost use Rattle.read_shortcuts.specs.CopiedLines.{is_copied_byte, is_dot, is_kept_escape};
-ghost use Rattle.read_shortcuts.specs.CopiedLines.{is_space, keeps_escape, kept_of};
-ghost use Rattle.read_shortcuts.specs.CopiedLines.{lines_at, lines_read, matched_at};
-ghost use Rattle.read_shortcuts.specs.CopiedLines.{reads_lines, second_of_mark};
+ghost use Rattle.read_definitions.specs.CopiedLines.{Copies, CopiesFirst, CopiesOn, CopiesSome};
+ghost use Rattle.read_definitions.specs.CopiedLines.{TakesLines, goes_on_behind_dot, is_behind_dot};
+ghost use Rattle.read_definitions.specs.CopiedLines.{is_copied_byte, is_dot, is_kept_escape};
+ghost use Rattle.read_definitions.specs.CopiedLines.{is_space, keeps_escape, kept_of};
+ghost use Rattle.read_definitions.specs.CopiedLines.{lines_at, lines_read, matched_at};
+ghost use Rattle.read_definitions.specs.CopiedLines.{reads_lines, second_of_mark};
 ghost use Rattle.read_shortcuts.specs.Stages.{ReadsPast};
 ghost use Rattle.run_model.specs.declared.line_state.LineState.TheVariants.{Collecting};
 

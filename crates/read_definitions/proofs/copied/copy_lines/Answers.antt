@@ -2,11 +2,11 @@ use Rattle.std.proofs.Common.{◌≡◌, [], ap, arith, subst, sym, ◌∙◌, �
 use Rattle.roff_scan.specs.Unread.Calls.{front_bytes}
 use Rattle.roff_scan.specs.Unread.Copied.{CopiesFront}
 use Rattle.run_model.specs.declared.line_state.LineState.{LineState}
-use Rattle.read_shortcuts.specs.CopiedLines.{CopiesFirst}
-use Rattle.read_shortcuts.proofs.CopiedLines.{on-copied, reads-copied, takes-copied}
+use Rattle.read_definitions.specs.CopiedLines.{CopiesFirst}
+use Rattle.read_definitions.proofs.CopiedLines.{on-copied, reads-copied, takes-copied}
 use Rattle.read_shortcuts.proofs.RegistersPut.{none_open}
 use Rattle.read_shortcuts.proofs.RunsRead.{reads-none}
-use Rattle.read_shortcuts.proofs.copied.copy_lines.Goals as goal
+use Rattle.read_definitions.proofs.copied.copy_lines.Goals as goal
 
 pub returns-then-has_open_escape-clause-past : goal.returns-then-has_open_escape-clause-past
 returns-then-has_open_escape-clause-past g c = reads-none _ c.args.reader.now c.args.unread.now c.stays_within.ensures

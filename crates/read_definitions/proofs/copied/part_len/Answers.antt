@@ -1,9 +1,9 @@
 use Rattle.std.proofs.Common.{Bool, ap, subst, sym, ◌∙◌}
 use Rattle.std.specs.Prelude.{◌&&◌, ◌==◌}
 use Rattle.std.proofs.lemmas.Bool.{eq-eqb, ne_eqb}
-use Rattle.read_shortcuts.specs.CopiedLines.{CopiesSome}
-use Rattle.read_shortcuts.proofs.CopiedLines.{copies-backslash, copies-dot, copies-none, copies-space, copies-text}
-use Rattle.read_shortcuts.proofs.copied.part_len.Goals as goal
+use Rattle.read_definitions.specs.CopiedLines.{CopiesSome}
+use Rattle.read_definitions.proofs.CopiedLines.{copies-backslash, copies-dot, copies-none, copies-space, copies-text}
+use Rattle.read_definitions.proofs.copied.part_len.Goals as goal
 
 pub returns-in-None : goal.returns-in-None
 returns-in-None c = copies-none c.args.second c.args.begins c.args.bytes.now c.in-None.ensures.cases

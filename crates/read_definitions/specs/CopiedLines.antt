@@ -5,7 +5,7 @@ use Rattle.input_escapes.specs.EscapeLaws.{begins_reading}
 use Rattle.input_source.specs.Bytes.{backslash, dot, is_text_byte, newline, tab}
 use Rattle.read_lines.specs.Reader.State.{ReaderState}
 use Rattle.read_shortcuts.specs.Runs.{ready_allowed}
-use Rattle.read_shortcuts.specs.declared.copied.Lines.{Lines}
+use Rattle.read_definitions.specs.declared.copied.Lines.{Lines}
 use Rattle.roff_num.specs.declared.short_name.ShortName.{ShortName}
 use Rattle.run_model.specs.Reading.Items.{PageUnread}
 use Rattle.run_model.specs.TurnsToCome.{begun, turns_to_come}

@@ -1,7 +1,7 @@
 use Rattle.std.proofs.Common.{◌∙◌, sym}
-use Rattle.read_shortcuts.specs.CopiedLines.{NoneCopied}
-use Rattle.read_shortcuts.proofs.CopiedLines.{copies-behind_backslash}
-use Rattle.read_shortcuts.proofs.copied.escape_len.Goals as goal
+use Rattle.read_definitions.specs.CopiedLines.{NoneCopied}
+use Rattle.read_definitions.proofs.CopiedLines.{copies-behind_backslash}
+use Rattle.read_definitions.proofs.copied.escape_len.Goals as goal
 
 pub returns-in-None-clause-copies : goal.returns-in-None-clause-copies
 returns-in-None-clause-copies c = λ second. NoneCopied c.args.begins

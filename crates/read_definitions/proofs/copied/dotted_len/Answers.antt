@@ -1,7 +1,7 @@
 use Rattle.std.proofs.Common.{true, ◌∙◌, sym}
-use Rattle.read_shortcuts.specs.CopiedLines.{NoneCopied}
-use Rattle.read_shortcuts.proofs.CopiedLines.{copies-behind_dot}
-use Rattle.read_shortcuts.proofs.copied.dotted_len.Goals as goal
+use Rattle.read_definitions.specs.CopiedLines.{NoneCopied}
+use Rattle.read_definitions.proofs.CopiedLines.{copies-behind_dot}
+use Rattle.read_definitions.proofs.copied.dotted_len.Goals as goal
 
 pub returns-in-None-clause-copies : goal.returns-in-None-clause-copies
 returns-in-None-clause-copies c = NoneCopied true

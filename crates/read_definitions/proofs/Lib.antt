@@ -1,0 +1,2 @@
+pub mod CopiedTurns
+pub mod CopiedLines
