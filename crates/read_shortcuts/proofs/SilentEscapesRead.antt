@@ -15,7 +15,6 @@ use Rattle.input_escapes.specs.declared.open_escape.NamePart.TheVariants.{Nothin
 use Rattle.input_escapes.specs.declared.open_escape.SizePart.{SizePart}
 use Rattle.input_escapes.specs.declared.open_escape.SizePart.TheVariants.{Nothing as NoSize, Sign, Digit}
 use Rattle.input_escapes.specs.declared.open_escape.Surroundings.TheVariants.{Text as AboveText}
-use Rattle.input_model.specs.Input.{with_escapes}
 use Rattle.input_model.specs.Unread.{IsWithin}
 use Rattle.input_source.specs.Bytes.{backslash, is_argument_byte, is_digit, is_dropped, is_silent, newline, tab}
 use Rattle.input_source.specs.Tape.{Tape}

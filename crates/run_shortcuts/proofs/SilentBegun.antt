@@ -1,43 +1,35 @@
 -- An escape that prints nothing and was taken where a text line begins, and no interrupted one goes on: the run has come behind it.
-use Rattle.std.proofs.Common.{◌≡◌, ℕ, ◌+◌, ◌<◌, ◌≤◌, Bool, true, false, List, [], ◌∷◌, length, take, Some, None, refl, sym, ap, subst, ◌∙◌, arith}
-use Rattle.std.proofs.lemmas.List.{append-nil}
-use Rattle.std.specs.Prelude.{◌==◌, ◌&&◌, if◌then◌else◌}
-use Rattle.std.proofs.lemmas.Bool.{eqb-true}
+use Rattle.std.proofs.Common.{◌≡◌, ℕ, ◌+◌, ◌<◌, ◌≤◌, false, List, [], length, take, None, refl, sym, ap, subst, ◌∙◌, arith}
 use Rattle.roff_num.specs.declared.limits.Limits.{Limits}
 use Rattle.input_model.specs.Input.{Ahead}
 use Rattle.input_source.specs.Tape.{Tape}
 use Rattle.input_model.specs.Looking.{is_closed, looked_then}
-use Rattle.roff_scan.specs.Unread.Calls.{NoNewline, PassesFront, front_bytes}
-use Rattle.run_model.specs.Output.{PageHistory, written}
+use Rattle.roff_scan.specs.Unread.Calls.{PassesFront, front_bytes}
+use Rattle.run_model.specs.Output.{PageHistory}
 use Rattle.run_model.specs.Reading.Items.{PageInput, PageUnread}
 use Rattle.run_model.specs.Registers.{AllRegisters}
 use Rattle.run_model.specs.Run.{State, Leads}
 use Rattle.run_model.specs.Run.Counts.{counts_in, first_passed}
 use Rattle.run_model.specs.Environments.{interrupted_line}
-use Rattle.run_model.specs.TurnsToCome.{begun, turns_within}
+use Rattle.run_model.specs.TurnsToCome.{turns_within}
 use Rattle.run_state.specs.Composer.Standing.{StandFor}
 use Rattle.read_lines.specs.Reader.State.{ReaderState}
 use Rattle.run_model.specs.declared.line_state.LineState.{LineState}
-use Rattle.run_model.specs.declared.line_state.LineState.TheVariants.{LineStart, Branch, Braced, Text as InText, Control, Name, Collecting, Deciding, Skipping, Dropped, Told, Exiting, TitleFront, Title as InTitle}
-use Rattle.run_model.specs.declared.line_state.TextLine.{TextLine}
+use Rattle.run_model.specs.declared.line_state.LineState.TheVariants.{LineStart}
 use Rattle.run_model.proofs.ItemsTaken.{Origin, ahead_at, tape_at}
 use Rattle.run_model.proofs.PlainRuns.{behind_bytes, counted}
 use Rattle.read_shortcuts.proofs.RunsRead.{first_of_front}
-use Rattle.read_shortcuts.proofs.PrintedRuns.{TakesText, counted-behind, turns-counted}
+use Rattle.read_shortcuts.proofs.PrintedRuns.{counted-behind}
 use Rattle.run_items.specs.Outcome.{seen}
 use Rattle.run_items.specs.Performing.{going}
 use Rattle.page_bytes.specs.Sinks.{Sunk}
-use Rattle.read_shortcuts.specs.Runs.{IsRun}
-use Rattle.run_model.specs.Reading.Ends.{due}
-use Rattle.input_escapes.specs.OpenEscape.{OpenEscape}
-use Rattle.run_turns.specs.Running.Turning.{GoesPast, IsAt, line_turns, lines_left_in, turns_of_run}
+use Rattle.run_turns.specs.Running.Turning.{GoesPast, IsAt, turns_of_run}
 use Rattle.run_turns.specs.declared.running.Running.{Running as Coded}
 use Rattle.read_shortcuts.proofs.LinesBegun.{turns-begun_some}
 use Rattle.run_shortcuts.proofs.BytesPassed.{ComesBehind, goes_past-passed}
 use Rattle.run_items.proofs.FewRead.{few-alone}
 use Rattle.run_shortcuts.proofs.GoingPast.{IsAt-leads}
-use Rattle.run_shortcuts.proofs.Telling.{told_by}
-use Rattle.run_turns.proofs.TurnsLeft.{turns_of_run-fewer, turns_of_run-no_more}
+use Rattle.run_turns.proofs.TurnsLeft.{turns_of_run-fewer}
 use Rattle.read_shortcuts.proofs.EscapesRead.{leads-escape, some-bytes}
 use Rattle.read_shortcuts.proofs.SilentEscapesRead.{IsSilent, behind_first, first-silent}
 

@@ -1,5 +1,4 @@
-use Rattle.std.proofs.Common.{arith, ap, refl, sym, ◌∙◌}
-use Rattle.run_model.specs.declared.line_state.LineState.TheVariants.{Text}
+use Rattle.std.proofs.Common.{arith, refl, sym, ◌∙◌}
 use Rattle.read_shortcuts.proofs.SilentEscapesRead.{takes-none}
 use Rattle.read_shortcuts.proofs.RunsRead.{reads-none}
 use Rattle.read_shortcuts.proofs.silent_escapes.take_silent_escape.Goals as goal

@@ -4,7 +4,7 @@ use Rattle.read_lines.specs.Reader.State.{ReaderState}
 use Rattle.read_shortcuts.proofs.LinesBegun.{escapes-passed, is_run-begun}
 use Rattle.read_shortcuts.proofs.GlyphsRead.{glyph_front, no_newline_in_glyph}
 use Rattle.run_shortcuts.proofs.GlyphsTold.{goes_past_begun_glyph}
-use Rattle.run_turns.proofs.ComingFurther.{comes_none, comes_both, comes_nowhere}
+use Rattle.run_turns.proofs.ComingFurther.{comes_both, comes_nowhere}
 use Rattle.run_shortcuts.proofs.glyphs.begin_with_glyph.Goals as goal
 
 pub returns-then-not-tell_glyph-clause-past : goal.returns-then-not-tell_glyph-clause-past
