@@ -34,7 +34,7 @@ pub mod SteppedNames
 pub mod SteppingRuns
 pub mod SteppedText
 pub mod EscapeSteps
-pub mod LettersRead
-pub mod FontsRead
+pub mod EscapesRead
+pub mod GlyphsRead
+pub mod SilentEscapesRead
 pub mod LinesBegun
-pub mod FontsBegun

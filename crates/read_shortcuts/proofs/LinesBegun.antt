@@ -1,5 +1,5 @@
 -- How a text line begins whose bytes stand in front.
-use Rattle.std.proofs.Common.{◌≡◌, ℕ, zero, suc, ◌+◌, ◌<◌, ◌≤◌, Bool, true, false, List, [], ◌∷◌, ◌++◌, take, Option, None, refl, sym, ap, subst, ◌∙◌, arith}
+use Rattle.std.proofs.Common.{◌≡◌, ℕ, zero, suc, ◌+◌, ◌<◌, ◌≤◌, Bool, true, false, List, [], ◌∷◌, ◌++◌, length, take, Option, None, refl, sym, ap, subst, ◌∙◌, arith}
 use Rattle.std.specs.Prelude.{map, ◌&&◌, ◌||◌, ◌==◌, nat_lt, not, if◌then◌else◌}
 use Rattle.std.proofs.lemmas.Bool.Decides.{nat_tests}
 use Rattle.std.proofs.lemmas.List.{append-nil}
@@ -130,6 +130,11 @@ turns-begun most from b bytes i front few =
     subst (λ (j : PageInput). turns_within most j < turns_within most i) (counted-behind from (b ∷ bytes) i)
     (subst (λ (items : List (Ahead PageEvent)). turns_within most (record (behind_bytes from (b ∷ bytes) i) { ahead = ahead_at from [] }) < turns_within most (record i { ahead = items })) (sym front)
     (omega (arith, few, free_ahead-behind from b bytes, turns-behind most from bytes (behind_byte from b i))))
+
+pub turns-begun_some : (most : ℕ) (from : Origin) (bytes : List ℕ) (i : PageInput) → 1 ≤ length bytes → i.ahead ≡ ahead_at from bytes → i.charge + length bytes ≤ most
+    → turns_within most (counted from bytes i) < turns_within most i
+turns-begun_some most from [] i some front few = absurd (omega (arith, some))
+turns-begun_some most from (b ∷ bytes) i some front few = turns-begun most from b bytes i front (omega (arith, few))
 
 -- bytes that are passed leave what is half read
 pub escapes-lines : (bytes : List ℕ) (i : PageInput) → (lines_taken bytes i).escapes ≡ i.escapes

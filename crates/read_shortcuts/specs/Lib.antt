@@ -14,4 +14,4 @@ pub mod ControlReads
 pub mod SteppedNames
 pub mod Stepped
 pub mod Glyphs
-pub mod Fonts
+pub mod SilentEscapes

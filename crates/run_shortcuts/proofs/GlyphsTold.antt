@@ -1,5 +1,5 @@
--- A glyph whose escape of one letter stands in front is printed at once: the run has come behind it.
-use Rattle.std.proofs.Common.{◌≡◌, ℕ, ◌+◌, ◌<◌, ◌≤◌, Bool, true, false, List, [], ◌∷◌, length, take, Some, None, refl, sym, ap, subst, ◌∙◌, arith}
+-- A glyph whose escape stands in front is printed at once: the run has come behind it.
+use Rattle.std.proofs.Common.{◌≡◌, ℕ, ◌+◌, ◌<◌, ◌≤◌, Bool, true, false, List, [], ◌∷◌, length, take, None, refl, sym, ap, subst, ◌∙◌, arith}
 use Rattle.std.proofs.lemmas.List.{append-nil}
 use Rattle.std.specs.Prelude.{◌==◌, ◌&&◌, if◌then◌else◌}
 use Rattle.std.proofs.lemmas.Bool.{eqb-true}
@@ -7,14 +7,13 @@ use Rattle.roff_num.specs.declared.limits.Limits.{Limits}
 use Rattle.page_model.specs.declared.event.Event.TheVariants.{Print}
 use Rattle.page_model.specs.declared.glyph.Glyph.{Glyph}
 use Rattle.input_model.specs.Input.{Ahead}
-use Rattle.input_source.specs.Bytes.{backslash, newline}
 use Rattle.input_source.specs.Tape.{Tape}
 use Rattle.input_model.specs.Looking.{is_closed, looked_then}
-use Rattle.roff_scan.specs.Unread.Calls.{NoNewline, PassesFront, front_bytes}
+use Rattle.roff_scan.specs.Unread.Calls.{PassesFront, front_bytes}
 use Rattle.run_model.specs.Output.{PageHistory, written}
 use Rattle.run_model.specs.Reading.Items.{PageInput, PageUnread}
-use Rattle.run_model.specs.Registers.{AllRegisters}
-use Rattle.run_model.specs.Run.{State, Leads}
+use Rattle.run_model.specs.Registers.{AllRegisters, Known}
+use Rattle.run_model.specs.Run.{State, Leads, known_at}
 use Rattle.run_model.specs.Run.Counts.{counts_in, first_passed}
 use Rattle.run_model.specs.Environments.{interrupted_line}
 use Rattle.run_model.specs.TurnsToCome.{begun, turns_within}
@@ -33,69 +32,24 @@ use Rattle.run_events.specs.Formatter.Telling.{TellsGlyph}
 use Rattle.run_items.specs.Outcome.{seen}
 use Rattle.run_items.specs.Performing.{going}
 use Rattle.page_bytes.specs.Sinks.{Sunk}
-use Rattle.read_shortcuts.specs.Glyphs.{glyph_behind, glyph_in_front, is_behind_glyph}
+use Rattle.read_shortcuts.specs.Glyphs.{is_behind_glyph}
 use Rattle.read_shortcuts.specs.Runs.{IsRun}
 use Rattle.run_model.proofs.TextBytes.{prints_text}
 use Rattle.run_model.specs.Telling.{Prints}
-use Rattle.read_shortcuts.specs.Fonts.{behind_font}
+use Rattle.read_shortcuts.specs.SilentEscapes.{behind_silent}
 use Rattle.run_model.specs.Reading.Ends.{due}
 use Rattle.input_escapes.specs.OpenEscape.{OpenEscape}
 use Rattle.roff_scan.specs.declared.run_kind.RunKind.TheVariants.{Text as TextRun}
 use Rattle.run_turns.specs.Running.Turning.{GoesPast, IsAt, line_turns, lines_left_in, turns_of_run}
 use Rattle.run_turns.specs.declared.running.Running.{Running as Coded}
-use Rattle.read_shortcuts.proofs.LinesBegun.{turns-begun}
+use Rattle.read_shortcuts.proofs.LinesBegun.{turns-begun_some}
 use Rattle.run_shortcuts.proofs.BytesPassed.{ComesBehind, goes_past-passed}
-use Rattle.read_shortcuts.proofs.LettersRead.{Acute, AsWideAsADigit, Dot, Doubled, Grave, IsLetter, Minus, PrintsBackslash, Unpaddable, WithoutWidth, ReadsLetters, behind_glyph, is_letter, leads-letter, reads_behind, reads_first}
+use Rattle.read_shortcuts.proofs.EscapesRead.{ReadsEscape, some-bytes}
+use Rattle.read_shortcuts.proofs.GlyphsRead.{GlyphFront, behind_glyph, escape_behind, escape_first, leads-glyph}
 use Rattle.run_items.proofs.FewRead.{few-alone}
 use Rattle.run_shortcuts.proofs.GoingPast.{IsAt-leads}
 use Rattle.run_shortcuts.proofs.Telling.{told_by}
 use Rattle.run_turns.proofs.TurnsLeft.{turns_of_run-fewer, turns_of_run-no_more}
-
--- bytes that begin with such an escape
-pub record BeginsWith (front : List ℕ) (g : Glyph) : Type 0 where
-  pub letter : ℕ
-  pub rest : List ℕ
-  pub is : front ≡ backslash ∷ letter ∷ rest
-  pub prints : IsLetter letter g
-
-begins-behind : (g : Glyph) (b : ℕ) (bytes : List ℕ) → b ≡ backslash → glyph_behind bytes ≡ Some g → BeginsWith (b ∷ bytes) g
-begins-behind g b [] is gives = absurd (cc)
-begins-behind g b (letter ∷ rest) is gives = record {
-  letter = letter;
-  rest = rest;
-  is = ap (λ (n : ℕ). n ∷ letter ∷ rest) is;
-  prints = is_letter g letter gives;
-}
-
-begins-by : (g : Glyph) (b : ℕ) (bytes : List ℕ) (is_backslash : Bool) → (b == backslash) ≡ is_backslash
-    → (if is_backslash then glyph_behind bytes else None) ≡ Some g → BeginsWith (b ∷ bytes) g
-begins-by g b bytes true is gives = begins-behind g b bytes (eqb-true b backslash is) gives
-begins-by g b bytes false is gives = absurd (cc)
-
-pub begins_with : (g : Glyph) (front : List ℕ) → glyph_in_front front ≡ Some g → BeginsWith front g
-begins_with g [] gives = absurd (cc)
-begins_with g (b ∷ bytes) gives = begins-by g b bytes (b == backslash) refl gives
-
--- two of these bytes at least stand in front, and none of the two is a newline
-pub two_in_front : (g : Glyph) (front : List ℕ) → BeginsWith front g → 2 ≤ length front
-two_in_front g front begins = subst (λ (bytes : List ℕ). 2 ≤ length bytes) (sym begins.is) (omega arith)
-
-letter-no_newline : (b : ℕ) (g : Glyph) → IsLetter b g → (b == newline) ≡ false
-letter-no_newline _ _ Unpaddable = refl
-letter-no_newline _ _ AsWideAsADigit = refl
-letter-no_newline _ _ WithoutWidth = refl
-letter-no_newline _ _ PrintsBackslash = refl
-letter-no_newline _ _ Doubled = refl
-letter-no_newline _ _ Minus = refl
-letter-no_newline _ _ Dot = refl
-letter-no_newline _ _ Acute = refl
-letter-no_newline _ _ Grave = refl
-
-pub no_newline_in_front : (g : Glyph) (front ready : List ℕ) (u : PageUnread) → BeginsWith front g → front ≡ front_bytes (length front) ready u
-    → NoNewline (front_bytes 2 ready u)
-no_newline_in_front g front ready u begins stood =
-    subst NoNewline (first_of_front front 2 ready u stood (two_in_front g front begins))
-    (subst (λ (bytes : List ℕ). NoNewline (take 2 bytes)) (sym begins.is) (refl, (letter-no_newline begins.letter g begins.prints, tt)))
 
 -- a text line goes on behind a glyph
 pub record GoesOnBehind (reading : LineState) : Type 0 where
@@ -140,24 +94,21 @@ is_run-glyph other brace reading half is none_half = record {
   none_due = ap due is;
 }
 
--- and so they are behind the escape of a font
-pub is_run-font : (taken : Bool) (old new : LineState) (half : List OpenEscape) → is_behind_glyph old ≡ true → new ≡ (if taken then behind_font old else old) → half ≡ []
+-- and so they are behind an escape that prints nothing
+pub is_run-silent : (taken : Bool) (old new : LineState) (half : List OpenEscape) → is_behind_glyph old ≡ true → new ≡ (if taken then behind_silent old else old) → half ≡ []
     → IsRun TextRun new half
-is_run-font true old new half behind is none_half =
-    let line = goes_on_behind old behind in is_run-glyph true line.brace new half (is ∙ ap behind_font line.is) none_half
-is_run-font false old new half behind is none_half =
+is_run-silent true old new half behind is none_half =
+    let line = goes_on_behind old behind in is_run-glyph true line.brace new half (is ∙ ap behind_silent line.is) none_half
+is_run-silent false old new half behind is none_half =
     let line = goes_on_behind old behind in is_run-glyph line.other line.brace new half (is ∙ line.is) none_half
 
--- the escape of a glyph that the formatter printed, where letters are read so, and nothing is half read; no more turns are to come behind it
-module _ (old : Coded) (f : Formatter) (g : Glyph) (b : ℕ) (other brace : Bool) (letter : IsLetter b g) (told : TellsGlyph g old.interpreter.formatter f)
-    (none_half : old.unread.input.escapes ≡ []) (Ready : PageHistory → Type 0)
-    (reads : ReadsLetters old.interpreter.reader.registers.all old.interpreter.reader.reading other brace Ready)
-    (ready : (l : Limits) (h : PageHistory) → StandFor l h old.interpreter.formatter.composer → Ready h)
-    (no_more : (from : Origin) → old.unread.input.ahead ≡ ahead_at from (backslash ∷ b ∷ []) → old.unread.input.charge + 2 ≤ old.unread.limits.bytes
-    → turns_of_run (told_by old f (InText (behind_glyph other brace)) (record old.unread { input = counted from (backslash ∷ b ∷ []) old.unread.input })) ≤ turns_of_run old) where
-  abbrev bytes : List ℕ
-  bytes = backslash ∷ b ∷ []
-
+-- the escape of a glyph that the formatter printed, where it is read so, and nothing is half read; no more turns are to come behind it
+module _ (old : Coded) (f : Formatter) (g : Glyph) (bytes : List ℕ) (other brace : Bool) (told : TellsGlyph g old.interpreter.formatter f)
+    (none_half : old.unread.input.escapes ≡ []) (none_due : due old.interpreter.reader.reading ≡ None) (Ready : Known → Type 0)
+    (escape : ReadsEscape old.interpreter.reader.reading (InText (behind_glyph other brace)) (Text (Print g) ∷ []) Ready [] bytes)
+    (ready : (l : Limits) (h : PageHistory) → StandFor l h old.interpreter.formatter.composer → (j : PageInput) → Ready (known_at h old.interpreter.reader.registers.all j))
+    (no_more : (from : Origin) → old.unread.input.ahead ≡ ahead_at from bytes → old.unread.input.charge + length bytes ≤ old.unread.limits.bytes
+    → turns_of_run (told_by old f (InText (behind_glyph other brace)) (record old.unread { input = counted from bytes old.unread.input })) ≤ turns_of_run old) where
   abbrev there : LineState
   there = InText (behind_glyph other brace)
 
@@ -178,11 +129,11 @@ module _ (old : Coded) (f : Formatter) (g : Glyph) (b : ℕ) (other brace : Bool
       let here : LineState → Tape → PageInput → PageHistory → State = λ r tape j h. going tape j r rs h at.messages old.phase (is_closed old.unread.looked) [] in
       let takes : TakesText at.history = record { takes = told.takes old.limits at.history at.stands; goes_on = at.stands.goes_on } in
       let short = ap (λ (limits : Limits). limits.line) at.limits in
-      let led = leads-letter l old.interpreter.reader.reading other brace rs at.messages old.phase (is_closed old.unread.looked) Ready reads from tape b g i at.history
-      (ready old.limits at.history at.stands) is_open none_half
-      (subst (λ (items : List (Ahead _)). first_passed l (counts_in rs (record i { ahead = items })) ≡ None) front at.ready.within) few letter
-      (omega (arith, short, told.within old.limits at.history at.stands)) takes in
       let reading : LineState = old.interpreter.reader.reading in
+      let led = leads-glyph l reading there g Ready rs at.messages old.phase (is_closed old.unread.looked) none_due from tape bytes i at.history escape
+      (ready old.limits at.history at.stands) is_open none_half
+      (subst (λ (items : List (Ahead _)). first_passed l (counts_in rs (record i { ahead = items })) ≡ None) front at.ready.within) few
+      (omega (arith, short, told.within old.limits at.history at.stands)) takes in
       let stands : here reading (tape_at from bytes tape) (record i { ahead = ahead_at from bytes }) at.history ≡ here reading tape i at.history =
       ap (λ (tape : Tape). here reading tape (record i { ahead = ahead_at from bytes }) at.history) (sym asked)
       ∙ ap (λ (items : List (Ahead _)). here reading tape (record i { ahead = items }) at.history) (sym front) in
@@ -204,66 +155,71 @@ module _ (old : Coded) (f : Formatter) (g : Glyph) (b : ℕ) (other brace : Bool
       }) at.limits (few-alone from bytes reading there i input none_half at.few front same))
 
   -- the run goes past it
-  pub goes_past_letter : (gave gives : Tape → Type 0) (ready_bytes front : List ℕ) (noted notes failed failures : ℕ) (out err : Sunk) (u : PageUnread)
-      → take 2 front ≡ bytes → 2 ≤ length front → front ≡ front_bytes (length front) ready_bytes old.unread → PassesFront gave gives (front_bytes 2 ready_bytes old.unread) old.unread u
+  pub goes_past_escape : (gave gives : Tape → Type 0) (count : ℕ) (ready_bytes front : List ℕ) (noted notes failed failures : ℕ) (out err : Sunk) (u : PageUnread)
+      → take count front ≡ bytes → count ≤ length front → front ≡ front_bytes (length front) ready_bytes old.unread
+      → PassesFront gave gives (front_bytes count ready_bytes old.unread) old.unread u
       → notes ≤ noted → failures ≡ failed
       → GoesPast false gave gives noted notes old (behind u) (seen failed out err) (seen failures out err)
-  goes_past_letter gave gives ready_bytes front noted notes failed failures out err u is few stood passed fewer same_failures =
+  goes_past_escape gave gives count ready_bytes front noted notes failed failures out err u is few stood passed fewer same_failures =
       let passes : PassesFront gave gives bytes old.unread u =
-      subst (λ (these : List ℕ). PassesFront gave gives these old.unread u) (sym (first_of_front front 2 ready_bytes old.unread stood few) ∙ is) passed in
+      subst (λ (these : List ℕ). PassesFront gave gives these old.unread u) (sym (first_of_front front count ready_bytes old.unread stood few) ∙ is) passed in
       goes_past-passed false gave gives noted notes failed failures out err bytes old (behind u) u refl (comes-glyph u)
       (λ from ahead charged is h stood. subst (λ (v : PageUnread). turns_of_run (behind v) ≤ turns_of_run old) (sym is) (no_more from ahead charged)) passes fewer same_failures
 
 -- behind a glyph of a line
-module _ (old : Coded) (f : Formatter) (g : Glyph) (b : ℕ) (other brace : Bool) (letter : IsLetter b g) (told : TellsGlyph g old.interpreter.formatter f)
+module _ (old : Coded) (f : Formatter) (g : Glyph) (count : ℕ) (front : List ℕ) (other brace : Bool) (glyph : GlyphFront g count front) (told : TellsGlyph g old.interpreter.formatter f)
     (none_half : old.unread.input.escapes ≡ []) (reads : old.interpreter.reader.reading ≡ InText (behind_glyph other brace)) where
   -- no more turns are to come
-  turns-glyph : (from : Origin) → old.unread.input.ahead ≡ ahead_at from (backslash ∷ b ∷ [])
-      → turns_of_run (told_by old f (InText (behind_glyph other brace)) (record old.unread { input = counted from (backslash ∷ b ∷ []) old.unread.input })) ≤ turns_of_run old
-  turns-glyph from front =
+  turns-glyph : (bytes : List ℕ) (from : Origin) → old.unread.input.ahead ≡ ahead_at from bytes
+      → turns_of_run (told_by old f (InText (behind_glyph other brace)) (record old.unread { input = counted from bytes old.unread.input })) ≤ turns_of_run old
+  turns-glyph bytes from ahead =
       let most : ℕ = old.unread.limits.bytes in
-      let bytes : List ℕ = backslash ∷ b ∷ [] in
-      let few : turns_within most (counted from bytes old.unread.input) ≤ turns_within most old.unread.input = turns-counted most from bytes old.unread.input front in
+      let few : turns_within most (counted from bytes old.unread.input) ≤ turns_within most old.unread.input = turns-counted most from bytes old.unread.input ahead in
       let none : begun old.interpreter.reader.reading ≡ 0 = ap begun reads in
       turns_of_run-no_more old (told_by old f (InText (behind_glyph other brace)) (record old.unread { input = counted from bytes old.unread.input })) (omega (arith, few, none)) refl
       (sym (ap (λ (r : LineState). line_turns r (lines_left_in old.interpreter.formatter.composer)) reads))
 
-  pub goes_past_glyph : (gave gives : Tape → Type 0) (ready front : List ℕ) (noted notes failed failures : ℕ) (out err : Sunk) (u : PageUnread)
-      → take 2 front ≡ backslash ∷ b ∷ [] → 2 ≤ length front → front ≡ front_bytes (length front) ready old.unread → PassesFront gave gives (front_bytes 2 ready old.unread) old.unread u
+  pub goes_past_glyph : (gave gives : Tape → Type 0) (ready : List ℕ) (noted notes failed failures : ℕ) (out err : Sunk) (u : PageUnread)
+      → front ≡ front_bytes (length front) ready old.unread → PassesFront gave gives (front_bytes count ready old.unread) old.unread u
       → notes ≤ noted → failures ≡ failed
       → GoesPast false gave gives noted notes old (record old { interpreter = record old.interpreter { formatter = f }; unread = u }) (seen failed out err) (seen failures out err)
-  goes_past_glyph gave gives ready front noted notes failed failures out err u is few stood passed fewer same_failures =
-      let past = goes_past_letter old f g b other brace letter told none_half (λ h. Unit {0})
-      (reads_behind old.interpreter.reader.registers.all old.interpreter.reader.reading other brace reads) (λ l h stood. tt) (λ from ahead charged. turns-glyph from ahead)
-      gave gives ready front noted notes failed failures out err u is few stood passed fewer same_failures in
+  goes_past_glyph gave gives ready noted notes failed failures out err u stood passed fewer same_failures =
+      let there : LineState = InText (behind_glyph other brace) in
+      let bytes : List ℕ = take count front in
+      let escape = subst (λ (r : LineState). ReadsEscape r there (Text (Print g) ∷ []) (λ k. Unit {0}) [] bytes) (sym reads) (escape_behind g bytes other brace glyph.prints) in
+      let past = goes_past_escape old f g bytes other brace told none_half (ap due reads) (λ k. Unit {0}) escape (λ l h stood j. tt) (λ from ahead charged. turns-glyph bytes from ahead)
+      gave gives count ready front noted notes failed failures out err u refl glyph.few stood passed fewer same_failures in
       subst (λ (r : LineState). GoesPast false gave gives noted notes old (told_by old f r u) (seen failed out err) (seen failures out err)) (sym reads) past
 
 -- where a line begins
-module _ (old : Coded) (f : Formatter) (g : Glyph) (b : ℕ) (letter : IsLetter b g) (told : TellsGlyph g old.interpreter.formatter f)
+module _ (old : Coded) (f : Formatter) (g : Glyph) (count : ℕ) (front : List ℕ) (glyph : GlyphFront g count front) (told : TellsGlyph g old.interpreter.formatter f)
     (none_half : old.unread.input.escapes ≡ []) (begins : old.interpreter.reader.reading ≡ LineStart)
     (none : (l : Limits) (h : PageHistory) → StandFor l h old.interpreter.formatter.composer → interrupted_line h ≡ None) where
   -- fewer turns are to come
-  turns-begun_glyph : (from : Origin) → old.unread.input.ahead ≡ ahead_at from (backslash ∷ b ∷ []) → old.unread.input.charge + 2 ≤ old.unread.limits.bytes
-      → turns_of_run (told_by old f (InText (behind_glyph false false)) (record old.unread { input = counted from (backslash ∷ b ∷ []) old.unread.input })) ≤ turns_of_run old
-  turns-begun_glyph from front charged =
+  turns-begun_glyph : (bytes : List ℕ) (from : Origin) → 1 ≤ length bytes → old.unread.input.ahead ≡ ahead_at from bytes
+      → old.unread.input.charge + length bytes ≤ old.unread.limits.bytes
+      → turns_of_run (told_by old f (InText (behind_glyph false false)) (record old.unread { input = counted from bytes old.unread.input })) ≤ turns_of_run old
+  turns-begun_glyph bytes from some ahead charged =
       let most : ℕ = old.unread.limits.bytes in
-      let bytes : List ℕ = backslash ∷ b ∷ [] in
-      let few : turns_within most (counted from bytes old.unread.input) < turns_within most old.unread.input =
-      turns-begun most from backslash (b ∷ []) old.unread.input front (omega (arith, charged)) in
+      let few : turns_within most (counted from bytes old.unread.input) < turns_within most old.unread.input = turns-begun_some most from bytes old.unread.input some ahead charged in
       let fewer = turns_of_run-fewer old (told_by old f (InText (behind_glyph false false)) (record old.unread { input = counted from bytes old.unread.input })) (omega (arith, few)) refl in
       omega (arith, fewer)
 
   pub goes_past_begun_glyph : (r : ReaderState) → record old.interpreter.reader { reading = InText (behind_glyph false false) } ≡ r
-      → (gave gives : Tape → Type 0) (ready front : List ℕ) (noted notes failed failures : ℕ) (out err : Sunk) (u : PageUnread)
-      → take 2 front ≡ backslash ∷ b ∷ [] → 2 ≤ length front → front ≡ front_bytes (length front) ready old.unread → PassesFront gave gives (front_bytes 2 ready old.unread) old.unread u
+      → (gave gives : Tape → Type 0) (ready : List ℕ) (noted notes failed failures : ℕ) (out err : Sunk) (u : PageUnread)
+      → front ≡ front_bytes (length front) ready old.unread → PassesFront gave gives (front_bytes count ready old.unread) old.unread u
       → notes ≤ noted → failures ≡ failed
       → GoesPast false gave gives noted notes old (record old { interpreter = record old.interpreter { formatter = f; reader = r }; unread = u })
       (seen failed out err) (seen failures out err)
-  goes_past_begun_glyph r is gave gives ready front noted notes failed failures out err u two few stood passed fewer same_failures =
+  goes_past_begun_glyph r is gave gives ready noted notes failed failures out err u stood passed fewer same_failures =
+      let there : LineState = InText (behind_glyph false false) in
+      let bytes : List ℕ = take count front in
+      let escape = subst (λ (r : LineState). ReadsEscape r there (Text (Print g) ∷ []) (λ k. k.interrupted ≡ None) [] bytes) (sym begins) (escape_first g bytes glyph.prints) in
+      let some : 1 ≤ length bytes = some-bytes LineStart there (Text (Print g) ∷ []) (λ k. k.interrupted ≡ None) [] bytes (escape_first g bytes glyph.prints) in
       subst
       (λ (r : ReaderState). GoesPast false gave gives noted notes old (record old { interpreter = record old.interpreter { formatter = f; reader = r }; unread = u })
       (seen failed out err) (seen failures out err))
       is
-      (goes_past_letter old f g b false false letter told none_half (λ h. interrupted_line h ≡ None)
-      (reads_first old.interpreter.reader.registers.all old.interpreter.reader.reading begins) none turns-begun_glyph
-      gave gives ready front noted notes failed failures out err u two few stood passed fewer same_failures)
+      (goes_past_escape old f g bytes false false told none_half (ap due begins) (λ k. k.interrupted ≡ None) escape (λ l h stood j. none l h stood)
+      (λ from ahead charged. turns-begun_glyph bytes from some ahead charged)
+      gave gives count ready front noted notes failed failures out err u refl glyph.few stood passed fewer same_failures)

@@ -19,4 +19,4 @@ pub mod OtherBranches
 pub mod ConditionsAtOnce
 pub mod SteppedRegisters
 pub mod LinesAtOnce
-pub mod FontsBegun
+pub mod SilentBegun

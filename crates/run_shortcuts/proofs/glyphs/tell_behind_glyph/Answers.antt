@@ -1,4 +1,4 @@
-use Rattle.std.proofs.Common.{false, ap, ◌∙◌}
+use Rattle.std.proofs.Common.{false, ap}
 use Rattle.read_lines.specs.Reader.State.{ReaderState}
 use Rattle.roff_scan.specs.declared.run_kind.RunKind.TheVariants.{Text}
 use Rattle.run_shortcuts.proofs.PutRegisters.{run-kept}

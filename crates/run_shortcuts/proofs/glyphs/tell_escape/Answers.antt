@@ -9,9 +9,9 @@ pub returns-then-tell_glyph-clause-run : goal.returns-then-tell_glyph-clause-run
 returns-then-tell_glyph-clause-run g c =
     run-kept Text c.args.run.now c.tell_glyph.new.run (ap (λ (r : ReaderState). r.reading) c.tell_glyph.ensures.reads) c.tell_glyph.ensures.half c.requires
 
-pub pass_font-requires : goal.pass_font-requires
-pass_font-requires g c =
+pub pass_silent-requires : goal.pass_silent-requires
+pass_silent-requires g c =
     run-kept Text c.args.run.now c.tell_glyph.new.run (ap (λ (r : ReaderState). r.reading) c.tell_glyph.ensures.reads) c.tell_glyph.ensures.half c.requires
 
 pub returns-clause-past : goal.returns-clause-past
-returns-clause-past g c = λ out err. comes_both false (c.tell_glyph.ensures.past out err) (c.pass_font.ensures.past out err)
+returns-clause-past g c = λ out err. comes_both false (c.tell_glyph.ensures.past out err) (c.pass_silent.ensures.past out err)

@@ -1,8 +1,7 @@
-use Rattle.std.proofs.Common.{arith, ap, refl, sym, ◌∙◌}
-use Rattle.run_model.specs.declared.line_state.LineState.TheVariants.{Text}
-use Rattle.read_shortcuts.proofs.FontsRead.{takes-none}
+use Rattle.std.proofs.Common.{arith, refl, sym, ◌∙◌}
+use Rattle.read_shortcuts.proofs.SilentEscapesRead.{takes-none}
 use Rattle.read_shortcuts.proofs.RunsRead.{reads-none}
-use Rattle.read_shortcuts.proofs.fonts.take_font.Goals as goal
+use Rattle.read_shortcuts.proofs.silent_escapes.take_silent_escape.Goals as goal
 
 pub returns-in_default : goal.returns-in_default
 returns-in_default g c = record {

@@ -1,52 +1,40 @@
--- The escape of a font that was taken where a text line begins, and no interrupted one goes on: the run has come behind it.
-use Rattle.std.proofs.Common.{◌≡◌, ℕ, ◌+◌, ◌<◌, ◌≤◌, Bool, true, false, List, [], ◌∷◌, length, take, Some, None, refl, sym, ap, subst, ◌∙◌, arith}
-use Rattle.std.proofs.lemmas.List.{append-nil}
-use Rattle.std.specs.Prelude.{◌==◌, ◌&&◌, if◌then◌else◌}
-use Rattle.std.proofs.lemmas.Bool.{eqb-true}
+-- An escape that prints nothing and was taken where a text line begins, and no interrupted one goes on: the run has come behind it.
+use Rattle.std.proofs.Common.{◌≡◌, ℕ, ◌+◌, ◌<◌, ◌≤◌, false, List, [], length, take, None, refl, sym, ap, subst, ◌∙◌, arith}
 use Rattle.roff_num.specs.declared.limits.Limits.{Limits}
 use Rattle.input_model.specs.Input.{Ahead}
-use Rattle.input_source.specs.Bytes.{backslash, newline}
 use Rattle.input_source.specs.Tape.{Tape}
 use Rattle.input_model.specs.Looking.{is_closed, looked_then}
-use Rattle.roff_scan.specs.Unread.Calls.{NoNewline, PassesFront, front_bytes}
-use Rattle.run_model.specs.Output.{PageHistory, written}
+use Rattle.roff_scan.specs.Unread.Calls.{PassesFront, front_bytes}
+use Rattle.run_model.specs.Output.{PageHistory}
 use Rattle.run_model.specs.Reading.Items.{PageInput, PageUnread}
 use Rattle.run_model.specs.Registers.{AllRegisters}
 use Rattle.run_model.specs.Run.{State, Leads}
 use Rattle.run_model.specs.Run.Counts.{counts_in, first_passed}
 use Rattle.run_model.specs.Environments.{interrupted_line}
-use Rattle.run_model.specs.TurnsToCome.{begun, turns_within}
+use Rattle.run_model.specs.TurnsToCome.{turns_within}
 use Rattle.run_state.specs.Composer.Standing.{StandFor}
 use Rattle.read_lines.specs.Reader.State.{ReaderState}
 use Rattle.run_model.specs.declared.line_state.LineState.{LineState}
-use Rattle.run_model.specs.declared.line_state.LineState.TheVariants.{LineStart, Branch, Braced, Text as InText, Control, Name, Collecting, Deciding, Skipping, Dropped, Told, Exiting, TitleFront, Title as InTitle}
-use Rattle.run_model.specs.declared.line_state.TextLine.{TextLine}
+use Rattle.run_model.specs.declared.line_state.LineState.TheVariants.{LineStart}
 use Rattle.run_model.proofs.ItemsTaken.{Origin, ahead_at, tape_at}
 use Rattle.run_model.proofs.PlainRuns.{behind_bytes, counted}
 use Rattle.read_shortcuts.proofs.RunsRead.{first_of_front}
-use Rattle.read_shortcuts.proofs.PrintedRuns.{TakesText, counted-behind, turns-counted}
+use Rattle.read_shortcuts.proofs.PrintedRuns.{counted-behind}
 use Rattle.run_items.specs.Outcome.{seen}
 use Rattle.run_items.specs.Performing.{going}
 use Rattle.page_bytes.specs.Sinks.{Sunk}
-use Rattle.read_shortcuts.specs.Runs.{IsRun}
-use Rattle.run_model.specs.Reading.Ends.{due}
-use Rattle.input_escapes.specs.OpenEscape.{OpenEscape}
-use Rattle.run_turns.specs.Running.Turning.{GoesPast, IsAt, line_turns, lines_left_in, turns_of_run}
+use Rattle.run_turns.specs.Running.Turning.{GoesPast, IsAt, turns_of_run}
 use Rattle.run_turns.specs.declared.running.Running.{Running as Coded}
-use Rattle.read_shortcuts.proofs.LinesBegun.{turns-begun}
+use Rattle.read_shortcuts.proofs.LinesBegun.{turns-begun_some}
 use Rattle.run_shortcuts.proofs.BytesPassed.{ComesBehind, goes_past-passed}
 use Rattle.run_items.proofs.FewRead.{few-alone}
 use Rattle.run_shortcuts.proofs.GoingPast.{IsAt-leads}
-use Rattle.run_shortcuts.proofs.Telling.{told_by}
-use Rattle.run_turns.proofs.TurnsLeft.{turns_of_run-fewer, turns_of_run-no_more}
-use Rattle.read_shortcuts.proofs.FontsBegun.{behind_first, leads-font}
-use Rattle.read_shortcuts.specs.Fonts.{names_font}
+use Rattle.run_turns.proofs.TurnsLeft.{turns_of_run-fewer}
+use Rattle.read_shortcuts.proofs.EscapesRead.{leads-escape, some-bytes}
+use Rattle.read_shortcuts.proofs.SilentEscapesRead.{IsSilent, behind_first, first-silent}
 
-module _ (old : Coded) (b : ℕ) (named : names_font b ≡ true) (none_half : old.unread.input.escapes ≡ []) (begins : old.interpreter.reader.reading ≡ LineStart)
+module _ (old : Coded) (bytes : List ℕ) (silent : IsSilent bytes) (none_half : old.unread.input.escapes ≡ []) (begins : old.interpreter.reader.reading ≡ LineStart)
     (none : (l : Limits) (h : PageHistory) → StandFor l h old.interpreter.formatter.composer → interrupted_line h ≡ None) where
-  abbrev bytes : List ℕ
-  bytes = backslash ∷ 102 ∷ b ∷ []
-
   abbrev rs : AllRegisters
   rs = old.interpreter.reader.registers.all
 
@@ -57,8 +45,8 @@ module _ (old : Coded) (b : ℕ) (named : names_font b ≡ true) (none_half : ol
   reads = record old.interpreter.reader { reading = behind_first }
 
   -- the run comes behind it, with what is unread then
-  comes-font : (u : PageUnread) → ComesBehind bytes u old (behind reads u)
-  comes-font u whole t taken start now from is_open front few passed asked left at =
+  comes-silent : (u : PageUnread) → ComesBehind bytes u old (behind reads u)
+  comes-silent u whole t taken start now from is_open front few passed asked left at =
       let l : Limits = old.unread.limits in
       let i : PageInput = old.unread.input in
       let input : PageInput = counted from bytes i in
@@ -66,8 +54,9 @@ module _ (old : Coded) (b : ℕ) (named : names_font b ≡ true) (none_half : ol
       let h : PageHistory = at.history in
       let reading : LineState = old.interpreter.reader.reading in
       let here : LineState → Tape → PageInput → State = λ r tape j. going tape j r rs h at.messages old.phase (is_closed old.unread.looked) [] in
-      let led = leads-font l rs at.messages old.phase (is_closed old.unread.looked) from tape b i h (none old.limits h at.stands) is_open none_half
-      (subst (λ (items : List (Ahead _)). first_passed l (counts_in rs (record i { ahead = items })) ≡ None) front at.ready.within) few named in
+      let led = leads-escape l LineStart behind_first [] (λ k. k.interrupted ≡ None) rs at.messages old.phase (is_closed old.unread.looked) refl from tape bytes i h (first-silent bytes silent)
+      (λ j. none old.limits h at.stands) is_open none_half
+      (subst (λ (items : List (Ahead _)). first_passed l (counts_in rs (record i { ahead = items })) ≡ None) front at.ready.within) few in
       let stands : here LineStart (tape_at from bytes tape) (record i { ahead = ahead_at from bytes }) ≡ here reading tape i =
       ap (λ (tape : Tape). here LineStart tape (record i { ahead = ahead_at from bytes })) (sym asked)
       ∙ ap (λ (items : List (Ahead _)). here LineStart tape (record i { ahead = items })) (sym front)
@@ -89,23 +78,23 @@ module _ (old : Coded) (b : ℕ) (named : names_font b ≡ true) (none_half : ol
       }) at.limits (few-alone from bytes reading behind_first i input none_half at.few front same))
 
   -- no more turns are to come
-  turns-font : (from : Origin) → old.unread.input.ahead ≡ ahead_at from bytes → old.unread.input.charge + 3 ≤ old.unread.limits.bytes
+  turns-silent : (from : Origin) → old.unread.input.ahead ≡ ahead_at from bytes → old.unread.input.charge + length bytes ≤ old.unread.limits.bytes
       → turns_of_run (behind reads (record old.unread { input = counted from bytes old.unread.input })) ≤ turns_of_run old
-  turns-font from front charged =
+  turns-silent from front charged =
       let most : ℕ = old.unread.limits.bytes in
       let few : turns_within most (counted from bytes old.unread.input) < turns_within most old.unread.input =
-      turns-begun most from backslash (102 ∷ b ∷ []) old.unread.input front (omega (arith, charged)) in
+      turns-begun_some most from bytes old.unread.input (some-bytes LineStart behind_first [] (λ k. k.interrupted ≡ None) [] bytes (first-silent bytes silent)) front charged in
       let fewer = turns_of_run-fewer old (behind reads (record old.unread { input = counted from bytes old.unread.input })) (omega (arith, few)) refl in
       omega (arith, fewer)
 
   -- the run goes past it
-  pub goes_past_font : (r : ReaderState) → reads ≡ r → (gave gives : Tape → Type 0) (ready front : List ℕ) (noted notes failed failures : ℕ) (out err : Sunk) (u : PageUnread)
-      → take 3 front ≡ bytes → 3 ≤ length front → front ≡ front_bytes (length front) ready old.unread → PassesFront gave gives (front_bytes 3 ready old.unread) old.unread u
+  pub goes_past_silent : (r : ReaderState) → reads ≡ r → (gave gives : Tape → Type 0) (count : ℕ) (ready front : List ℕ) (noted notes failed failures : ℕ) (out err : Sunk) (u : PageUnread)
+      → take count front ≡ bytes → count ≤ length front → front ≡ front_bytes (length front) ready old.unread → PassesFront gave gives (front_bytes count ready old.unread) old.unread u
       → notes ≤ noted → failures ≡ failed
       → GoesPast false gave gives noted notes old (behind r u) (seen failed out err) (seen failures out err)
-  goes_past_font r is gave gives ready front noted notes failed failures out err u three few stood passed fewer same_failures =
+  goes_past_silent r is gave gives count ready front noted notes failed failures out err u three few stood passed fewer same_failures =
       let passes : PassesFront gave gives bytes old.unread u =
-      subst (λ (these : List ℕ). PassesFront gave gives these old.unread u) (sym (first_of_front front 3 ready old.unread stood few) ∙ three) passed in
+      subst (λ (these : List ℕ). PassesFront gave gives these old.unread u) (sym (first_of_front front count ready old.unread stood few) ∙ three) passed in
       subst (λ (r : ReaderState). GoesPast false gave gives noted notes old (behind r u) (seen failed out err) (seen failures out err)) is
-      (goes_past-passed false gave gives noted notes failed failures out err bytes old (behind reads u) u refl (comes-font u)
-      (λ from ahead charged is h stood. subst (λ (v : PageUnread). turns_of_run (behind reads v) ≤ turns_of_run old) (sym is) (turns-font from ahead charged)) passes fewer same_failures)
+      (goes_past-passed false gave gives noted notes failed failures out err bytes old (behind reads u) u refl (comes-silent u)
+      (λ from ahead charged is h stood. subst (λ (v : PageUnread). turns_of_run (behind reads v) ≤ turns_of_run old) (sym is) (turns-silent from ahead charged)) passes fewer same_failures)
