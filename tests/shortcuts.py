@@ -18,7 +18,7 @@ import tempfile
 
 TOP = pathlib.Path(__file__).resolve().parent.parent
 PASSING, FRONTS, BEGINNINGS = ("run_shortcuts/src/" + name for name in ("passing.rt", "fronts.rt", "beginnings.rt"))
-UNFILLED, LINE_ENDS = "run_shortcuts/src/unfilled.rt", "run_shortcuts/src/line_ends.rt"
+UNFILLED, LINE_ENDS, GLYPHS = ("run_shortcuts/src/" + name for name in ("unfilled.rt", "line_ends.rt", "glyphs.rt"))
 # A name, what is taken at once, the file, what stands there once, and what does without the shortcut.
 SHORTCUTS = (
     ("text_lines", "lines of text up to their newlines, where words aren't measured", UNFILLED,
@@ -50,6 +50,10 @@ SHORTCUTS = (
     ("held_for_calls", "arguments of calls", PASSING, "        RunKind::CallArguments(most) => hold_call(run, most, source),\n", ""),
     ("runs", "bytes of names, definitions and what is ignored", PASSING,
      "        _ => {\n            take_run(run, kind, source);\n            false\n        }\n", "        _ => false,\n"),
+    ("copied_lines", "lines of definitions, and ignored ones", PASSING,
+     "        RunKind::Definition => copy_run(run, kind, source),\n        RunKind::Ignored => copy_run(run, kind, source),\n", ""),
+    ("copied_fronts", "such lines where one begins", PASSING, "    if take_lines(run, source) {\n        return true;\n    }\n", ""),
+    ("silent_escapes", "escapes behind text that print nothing", GLYPHS, "    pass_silent(run, source)\n", "    false\n"),
     ("string_names", "names of strings", PASSING, "    take_string_name(run, source);\n", ""),
     ("string_fronts", "fronts of strings' texts", PASSING, "    take_string_front(run, source);\n", ""),
     ("titles", "parts of titles", PASSING, "    take_title_front(run, source);\n", ""),
