@@ -16,7 +16,8 @@ ghost use Rattle.law_lines.specs.LawWords.{StandsInColumns, until_break, full_li
 ghost use Rattle.law_lines.specs.LawWords.{paragraph_lines, lines_in, EndsAtWidth, glyphs_told};
 ghost use Rattle.law_lines.specs.LawWords.{words_told, bytes_told, text_line, IsOfText};
 ghost use Rattle.law_lines.specs.LawWords.{IsWordUnder, IsClear, diverted, title_columns, Field};
-ghost use Rattle.law_lines.specs.LawWords.{plain, told_plainly, input_place, pending_length, finished};
+ghost use Rattle.law_lines.specs.LawWords.{plain, told_plainly, input_place, pending_length};
+ghost use Rattle.law_lines.specs.LawWords.{finished};
 ghost use Rattle.law_lines.specs.LawWords.{finished_lines, last_width, written_by_break};
 ghost use Rattle.law_lines.specs.LawWords.{lines_written, StandsAtStop, MovesField, TabLeads};
 ghost use Rattle.law_lines.specs.LawWords.{glyphs_width, SetsNoField, without_field_ends, stop_at};

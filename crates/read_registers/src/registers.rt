@@ -260,7 +260,8 @@ impl RunRegisters {
     #[inline(always)]
     pub fn set(&mut self, name: &Name, value: Num, increment: Num) -> Result<(), Limit>
         ensures answer { (t : TitlesKept) (last : Option NameOf)
-            → result ≡ change_admitted (SetTo name.now value increment) (capped_of self.old t last) }
+            → result
+            ≡ change_admitted (SetTo name.now value increment) (capped_of self.old t last) }
         ensures registers { (t : TitlesKept) (last : Option NameOf)
             → capped_of self.new t last
             ≡ after_change (SetTo name.now value increment) (capped_of self.old t last) }

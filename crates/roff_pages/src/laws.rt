@@ -51,7 +51,8 @@ pub fn full_pages()
 
 /// An eject that goes on has sprung something.
 pub fn eject_waits()
-    ensures { (x : Happening) (L : Layout) → goes_on x L ≡ true → is_some (springs_on_page x L) ≡ true }
+    ensures { (x : Happening) (L : Layout) → goes_on x L ≡ true
+        → is_some (springs_on_page x L) ≡ true }
 {}
 
 /// Text has the same boxes on a page and in a diversion: each line and title one box of its text,

@@ -32,7 +32,7 @@ module _ (m : Chunks) where
   last_of-lt (suc count) first need chain = last_of-lt count (link m first) (need - 120) chain.1
 
   -- and stands in the chain
-  times_in-last : (count first : ℕ) → 0 < times_in m (suc count) first (last_of m count first)
+  pub times_in-last : (count first : ℕ) → 0 < times_in m (suc count) first (last_of m count first)
   times_in-last zero first = omega (arith, one-same first)
   times_in-last (suc count) first = let more = times_in-last count (link m first) in omega arith
 

@@ -1,13 +1,15 @@
 -- What a text is once bytes are put behind it.
-use Rattle.std.proofs.Common.{◌≡◌, ◌≢◌, ℕ, zero, suc, ◌+◌, ◌-◌, ◌*◌, ◌<◌, ◌≤◌, List, [], ◌∷◌, ◌++◌, length, take, drop, get_or, inl, inr, refl, sym, ap, subst, ◌∙◌, arith, length-append}
+use Rattle.std.proofs.Common.{◌≡◌, ◌≢◌, ℕ, suc, ◌+◌, ◌-◌, ◌*◌, ◌<◌, ◌≤◌, List, [], ◌++◌, length, take, drop, get_or, inl, inr, refl, sym, ap, subst, ◌∙◌, arith, length-append}
 use Rattle.std.specs.Prelude.{◌==◌, if◌then◌else◌}
 use Rattle.std.proofs.lemmas.Bool.{cases_eq, eq-eqb}
 use Rattle.std.proofs.lemmas.Bool.Decides.{nat_tests}
 use Rattle.std.proofs.lemmas.List.{append-nil, take_all}
 use Rattle.roff_store.specs.declared.strand.Strand.{Strand}
 use Rattle.roff_store.specs.Chains.{Chunks, bytes_of, chain_bytes, content, has, link, others, share, times_in, IsChain, IsExtended, IsShared, IsText, LeavesOthers}
+use Rattle.roff_store.proofs.Ends.{HasLast-text}
+use Rattle.roff_store.proofs.Free.{shared_known}
 use Rattle.roff_store.proofs.Leaving.{strand-left, text-left}
-use Rattle.roff_store.proofs.Filling.{IsFilled, IsGrown, IsLinked, bytes-grown, bytes-linked, comes_to, filled-grown, filled-linked, last_comes, last_there, length-filled, times-grown, times-last, times-linked}
+use Rattle.roff_store.proofs.Filling.{IsFilled, IsGrown, IsLinked, bytes-grown, bytes-linked, comes_to, filled-grown, filled-linked, last_comes, length-filled, times-grown, times-last, times-linked}
 
 -- a text that has chunks, as a chain
 pub text-filled : (m : Chunks) (s : Strand) → length m.contents ≤ m.most → IsText m s → 0 < s.chunks
@@ -49,9 +51,7 @@ filled-text m s f none whole some =
 
 -- the last chunk of a text is there, and has room for what is missing
 pub text-last : (m : Chunks) (s : Strand) → length m.contents ≤ m.most → IsText m s → 0 < s.chunks → s.last < length m.contents
-text-last m s within text some =
-    let f = text-filled m s within text some in
-    last_there m (s.chunks - 1) s.first s.last s.rest f.chain f.comes
+text-last m s within text some = (HasLast-text m s text some).chunk
 
 pub text-room : (m : Chunks) (s : Strand) (room : ℕ) → IsText m s → 0 < s.chunks → room + length (content m s.last) ≡ 120
     → room + s.rest ≡ 120 * s.chunks
@@ -111,12 +111,6 @@ fill-extended m m' s more within fits text shared more_some room g =
       within = rw (g.chunks, g.most) within;
     }
 
--- a chunk that strands have is there
-share-there : (shares : List ℕ) (chunk : ℕ) → 0 < get_or shares chunk 0 → chunk < length shares
-share-there [] chunk some = absurd (omega arith)
-share-there (x ∷ xs) zero some = omega arith
-share-there (x ∷ xs) (suc chunk) some = let behind = share-there xs chunk some in omega arith
-
 -- a chunk has been claimed
 pub record IsClaimed (m mc : Chunks) (chunk : ℕ) : Type 0 where
   pub fresh : share m chunk ≡ 0
@@ -160,7 +154,7 @@ module _ (m mc m' : Chunks) (s : Strand) (chunk : ℕ) (piece : List ℕ) (claim
   had-few : (other : ℕ) → 0 < share m other → other < m.most
   had-few other some =
       let still = claimed.shares other (had-other other some) in
-      let there = share-there mc.shares other (omega arith) in
+      let there = shared_known mc.shares other (omega arith) in
       let known = claimed.known in
       let most = claimed.leaves.most in
       omega arith

@@ -33,13 +33,7 @@ pub last_comes : (m : Chunks) (n first last : ℕ) → ComesTo m n first last �
 last_comes m zero first last comes = comes
 last_comes m (suc n) first last comes = last_comes m n (link m first) last comes.1
 
--- the last chunk is there
-pub last_there : (m : Chunks) (n first last need : ℕ) → IsChain m (suc n) first need → ComesTo m n first last
-    → last < length m.contents
-last_there m zero first last need chain comes = rw (← comes) chain.0.chunk
-last_there m (suc n) first last need chain comes = last_there m n (link m first) last (need - 120) chain.1 comes.1
-
--- and stands in the chain
+-- it stands in the chain
 pub times-last : (m : Chunks) (n first last : ℕ) → ComesTo m n first last → 0 < times_in m (suc n) first last
 times-last m zero first last comes = rw (eq-eqb last first (sym comes)) (omega arith)
 times-last m (suc n) first last comes = let behind = times-last m n (link m first) last comes.1 in omega arith

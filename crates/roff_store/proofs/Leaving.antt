@@ -6,6 +6,7 @@ use Rattle.std.proofs.lemmas.Bool.{cases_eq, cases_lt, eq-eqb}
 use Rattle.std.proofs.lemmas.List.{append_assoc, drop-take, length-take-le, take-append-le}
 use Rattle.roff_store.specs.declared.strand.Strand.{Strand}
 use Rattle.roff_store.specs.Pool.{IsLeft}
+use Rattle.roff_store.proofs.Ends.{times_in-last}
 use Rattle.roff_store.specs.Chains.{Chunks, bytes_of, chain_bytes, content, has, last_of, link, times_in, AreSameChunks, IsChain, IsPart, IsStrand, IsText, LeavesOthers}
 
 -- two lists that begin alike begin alike a shorter way too
@@ -117,12 +118,7 @@ module _ (claims : ℕ → ℕ) (last : ℕ) (m m' : Chunks) (leaves : LeavesOth
       chain-same (suc n) first need chain here (other-behind n first need chain here)
       (chain-left (suc n) (link m first) (need - 120) chain.1 (λ chunk h. claimed chunk (omega arith)))
 
-  -- the last chunk of a chain is one of it
-  times-last : (n first : ℕ) → 0 < times_in m (suc n) first (last_of m n first)
-  times-last zero first = times-first m 0 first
-  times-last (suc n) first = let behind = times-last n (link m first) in omega arith
-
-  -- and it stays the last one
+  -- the last chunk of a chain stays the last one
   last-left : (n first need : ℕ) → IsChain m (suc n) first need
       → ((chunk : ℕ) → 0 < times_in m (suc n) first chunk → 0 < claims chunk) → last_of m' n first ≡ last_of m n first
   last-left zero first need chain claimed = refl
@@ -141,7 +137,7 @@ module _ (claims : ℕ → ℕ) (last : ℕ) (m m' : Chunks) (leaves : LeavesOth
       let ends_there : last_of m n first ≡ final = rw back at ends in
       rw back (
         last-left n first need chain claimed ∙ ends_there,
-        subst (λ chunk. 0 < claims chunk) ends_there (claimed (last_of m n first) (times-last n first)),
+        subst (λ chunk. 0 < claims chunk) ends_there (claimed (last_of m n first) (times_in-last m n first)),
       )
 
 -- a strand of which others have the chunks stays as it was, and a strand

@@ -1,7 +1,7 @@
 //! Entries by name, found through a number made of the name's bytes.
 
-ghost use Rattle.std.specs.Prelude.{◌≡◌, ℕ, ◌<◌, ◌≤◌, ◌^◌, ◌+◌, ◌||◌, [], length, slice_index, nat_lt};
-ghost use Rattle.std.specs.Prelude.{Option, IfOk, IfSome, IfNone, vec_len, vec_capacity};
+ghost use Rattle.std.specs.Prelude.{◌≡◌, ℕ, ◌<◌, ◌≤◌, ◌^◌, ◌+◌, ◌||◌, [], length, slice_index};
+ghost use Rattle.std.specs.Prelude.{Option, IfOk, IfSome, IfNone, nat_lt, vec_len, vec_capacity};
 ghost use Rattle.roff_store.specs.Named.{EachOnce, entry_of, with_entry, without_entry};
 ghost use Rattle.roff_store.specs.Buckets.{bucket_of};
 ghost use Rattle.roff_store.specs.NameTable.Slots.{buckets_of, entries_in, IsIndexed, LeadsTo};

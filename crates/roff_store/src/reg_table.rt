@@ -13,8 +13,8 @@ use std::marker::Model;
 
 /// The number registers, each under its name.
 ///
-/// All its memory is reserved as it is made. A look-up passes only registers of one bucket, of which
-/// there are 8,192.
+/// All its memory is reserved as it is made. A look-up passes only registers of one bucket, of
+/// which there are 8,192.
 #[derive(Drop)]
 pub struct RegTable {
     registers: NameTable<Register>,

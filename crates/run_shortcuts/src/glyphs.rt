@@ -181,8 +181,8 @@ pub(crate) fn begin_with_glyph<S: ByteSource>(
     }
 }
 
-/// Takes an escape that prints nothing and stands in front where a line begins. Returns that nothing
-/// was looked at behind it, or this where none stands there.
+/// Takes an escape that prints nothing and stands in front where a line begins. Returns that
+/// nothing was looked at behind it, or this where none stands there.
 #[inline(always)]
 fn begin_behind_silent<S: ByteSource>(run: &mut Running, instead: Behind, source: &mut S) -> Behind
     requires begins { run.old.interpreter.reader.reading ≡ LineStart }
@@ -237,8 +237,8 @@ fn is_behind_glyph(run: &Running) -> bool
     }
 }
 
-/// The glyph whose escape these bytes begin with, if they begin with a whole one, and how many bytes
-/// it has.
+/// The glyph whose escape these bytes begin with, if they begin with a whole one, and how many
+/// bytes it has.
 #[inline(always)]
 fn glyph_in_front(bytes: &[u8]) -> Option<(Glyph, usize)>
     ensures { result ≡ glyph_in_front bytes.now }

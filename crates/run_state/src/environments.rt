@@ -4,10 +4,10 @@ ghost use Rattle.std.specs.Prelude.{◌≡◌, ◌+◌, ◌<◌, ◌↔◌, [], 
 ghost use Rattle.std.specs.Prelude.{IsOkUnless, MatchOption, OnOk, Some};
 ghost use Rattle.page_model.specs.Words.{is_empty};
 ghost use Rattle.run_model.specs.Environments.{PageHistory, environments, fresh_environment};
-ghost use Rattle.run_model.specs.Environments.{gone_back, interrupted_line, switched_to, ring_turned};
+ghost use Rattle.run_model.specs.Environments.{gone_back, interrupted_line, switched_to};
 ghost use Rattle.page_model.specs.declared.event.Event.TheVariants.{Count};
-ghost use Rattle.run_model.specs.Environments.{turned_to, ring_turned_unless, with_event};
-ghost use Rattle.run_model.specs.Environments.{with_input_trap};
+ghost use Rattle.run_model.specs.Environments.{turned_to, ring_turned, ring_turned_unless};
+ghost use Rattle.run_model.specs.Environments.{with_event, with_input_trap};
 ghost use Rattle.run_model.specs.Environments.{counted_down, trap_reached, with_interruption};
 ghost use Rattle.run_model.specs.Springs.{springs};
 ghost use Rattle.run_model.specs.declared.event.PageEvent.TheVariants.{Text};

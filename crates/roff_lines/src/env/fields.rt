@@ -20,7 +20,8 @@ use roff_num::Limit;
 
 impl Env {
     ghost use Rattle.roff_lines.specs.Env.Kept.{at_tab, finished_at_tab, kept_length, kept_motion};
-    ghost use Rattle.roff_lines.specs.Env.Kept.{length_ended, length_told, length_with, kept_with_glyph};
+    ghost use Rattle.roff_lines.specs.Env.Kept.{length_ended, length_told, length_with};
+    ghost use Rattle.roff_lines.specs.Env.Kept.{kept_with_glyph};
     ghost use Rattle.roff_lines.specs.Env.Kept.{with_field_ended, with_field_left};
     ghost use Rattle.roff_lines.specs.Env.Kept.{with_field_opened, with_glyph_told};
     ghost use Rattle.roff_lines.specs.Env.Kept.{field_room, with_glyphs_told};

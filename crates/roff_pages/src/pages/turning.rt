@@ -21,7 +21,8 @@ impl Pages {
     /// Begins the first page. The macro is sprung that is planted at a page's beginning.
     pub fn begin(&mut self) -> Option<ShortName>
         ensures happens { Happens (Does Begin) self.old self.new }
-        ensures springs { (L : Layout) → StandsAs L self.old → result ≡ springs_on_page (Does Begin) L }
+        ensures springs { (L : Layout) → StandsAs L self.old
+            → result ≡ springs_on_page (Does Begin) L }
     {
         let sprung = self.begin_page();
         if self.is_over { None } else { sprung }

@@ -34,7 +34,8 @@ impl Interpreter {
     ) -> Result<Option<Sprung>, Halt>
         requires line { self.old.reader.reading ≡ Collecting (Arguments breaks request) }
         requires none_half { unread.old.input.escapes ≡ [] }
-        ensures { DoesTaking (λ k. byte_taking k self.old.reader.reading unread.old.input newline) []
+        ensures { DoesTaking
+            (λ k. byte_taking k self.old.reader.reading unread.old.input newline) []
             self.old self.new unread.old unread.new
             (sinks (O.sunk out.old) (told_by E.MessageSink err.old))
             (sinks (O.sunk out.new) (told_by E.MessageSink err.new)) result }
@@ -67,7 +68,8 @@ impl Interpreter {
     ) -> Result<Option<Sprung>, Halt>
         requires line { self.old.reader.reading ≡ Collecting (Arguments breaks Break) }
         requires none_half { unread.old.input.escapes ≡ [] }
-        ensures { DoesTaking (λ k. byte_taking k self.old.reader.reading unread.old.input newline) []
+        ensures { DoesTaking
+            (λ k. byte_taking k self.old.reader.reading unread.old.input newline) []
             self.old self.new unread.old unread.new
             (sinks (O.sunk out.old) (told_by E.MessageSink err.old))
             (sinks (O.sunk out.new) (told_by E.MessageSink err.new)) result }
@@ -92,7 +94,8 @@ impl Interpreter {
     ) -> Result<Option<Sprung>, Halt>
         requires line { self.old.reader.reading ≡ Collecting (Calling name) }
         requires none_half { unread.old.input.escapes ≡ [] }
-        ensures { DoesTaking (λ k. byte_taking k self.old.reader.reading unread.old.input newline) []
+        ensures { DoesTaking
+            (λ k. byte_taking k self.old.reader.reading unread.old.input newline) []
             self.old self.new unread.old unread.new
             (sinks (O.sunk out.old) (told_by E.MessageSink err.old))
             (sinks (O.sunk out.new) (told_by E.MessageSink err.new)) result }
