@@ -1,12 +1,12 @@
 -- What sources might have given, by what they may give behind an answer.
-use Rattle.std.proofs.Common.{◌≡◌, ◌<◌, ◌≤◌, ◌+◌, ℕ, List, [], ◌∷◌, ◌++◌, length, map, take, drop, get_or, refl, sym, ap, ◌∙◌, append_assoc, arith, length-take}
+use Rattle.std.proofs.Common.{◌≡◌, ◌<◌, ◌≤◌, ◌+◌, ℕ, List, [], ◌∷◌, ◌++◌, length, map, take, drop, get_or, refl, sym, ap, ◌∙◌, append_assoc, append-nil, arith, length-take, None}
 use Rattle.std.proofs.Math.Seq.{take-append_seam}
 use Rattle.std.proofs.lemmas.List.{nil_from_length, drop_all, drop_more, drop-drop, take-append-drop, map-append, get_or-take}
 use Rattle.input_source.specs.BlockRead.{GivesBytes, SomeTape}
 use Rattle.input_source.specs.ReadSource.Reach.{GivesBehind, MayGive, reach_ending, ready_at}
 use Rattle.input_source.specs.declared.source.Reach.{Reach}
 use Rattle.input_source.specs.declared.source.Reach.TheVariants.{Open, Ended as AtEnd, Failed as AtFault}
-use Rattle.input_source.specs.Tape.{Tape, Item, Answers, Took, Ending, OneByte, Gives, Ends, answer_then, items_then, only}
+use Rattle.input_source.specs.Tape.{Tape, Item, Answers, StaysReady, Took, Ending, OneByte, Gives, Ends, answer_then, items_then, only}
 
 -- the same answer, the same ending
 ends_same : (a b : Ending) → Ends a ≡ Ends b → a ≡ b
@@ -123,3 +123,19 @@ pub ready_taken : (reach : Reach) (all : List ℕ) (next count : ℕ) (reads : T
 ready_taken Open all next count reads may some within = rw (← drop-drop count next all) (bytes_taken count (drop next all) reads may)
 ready_taken AtEnd all next count reads may some within = absurd (omega arith)
 ready_taken AtFault all next count reads may some within = absurd (omega arith)
+
+-- what stands ready behind bytes that are taken
+pub stays_ready : (count : ℕ) (before : List ℕ) → StaysReady count before (drop count before)
+stays_ready count before = record { more = []; is = sym (append-nil (drop count before)) }
+
+pub ready_behind : (reach : Reach) (all : List ℕ) (next count : ℕ) → 1 ≤ count → count ≤ length (ready_at reach (drop next all))
+    → StaysReady count (ready_at reach (drop next all)) (ready_at reach (drop (next + count) all))
+ready_behind Open all next count some within = rw (← drop-drop count next all) (stays_ready count (drop next all))
+ready_behind AtEnd all next count some within = absurd (omega arith)
+ready_behind AtFault all next count some within = absurd (omega arith)
+
+pub byte_behind : (reach : Reach) (bytes : List ℕ) (next : ℕ) → reach_ending reach ≡ None
+    → StaysReady 1 (ready_at reach (drop next bytes)) (ready_at reach (drop (next + 1) bytes))
+byte_behind Open bytes next given = rw (← drop-drop 1 next bytes) (stays_ready 1 (drop next bytes))
+byte_behind AtEnd bytes next given = cc
+byte_behind AtFault bytes next given = cc

@@ -1,5 +1,5 @@
 -- What a source gives: its tape, the items to come and how they end.
-use Rattle.std.specs.Prelude.{◌≡◌, ℕ, List, [], ◌∷◌, ◌++◌}
+use Rattle.std.specs.Prelude.{◌≡◌, ℕ, List, [], ◌∷◌, ◌++◌, drop}
 use Rattle.roff_num.specs.declared.limit.Limit.{Limit}
 use Rattle.input_source.specs.declared.source.Taken.{Taken}
 use Rattle.input_source.specs.declared.source.Taken.TheVariants.{Byte, Note, End, Fault, Stop}
@@ -60,6 +60,11 @@ pub record Answers (old new : Tape → Type 0) (a : Answer) : Type 0 where
   pub final : (ending : Ending) → a ≡ Ends ending → (t : Tape) → new t → t ≡ only ending
   pub some : Tape
   pub some_given : new some
+
+-- what stood ready behind so many bytes stands ready still, and perhaps more behind that
+pub record StaysReady (count : ℕ) (before after : List ℕ) : Type 0 where
+  pub more : List ℕ
+  pub is : after ≡ drop count before ++ more
 
 -- A source gave these items, in this order: what it may give behind them, it might have given with them in
 -- front; and there is such a tape.

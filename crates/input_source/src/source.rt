@@ -5,6 +5,7 @@ ghost use Rattle.std.specs.Prelude.{vec_len, IfOk, IfSome};
 ghost use Rattle.input_source.specs.BlockRead.{SomeTape};
 ghost use Rattle.input_source.specs.ReadSource.Endings.{is_fault, reach_ending};
 ghost use Rattle.input_source.specs.Tape.{Tape, Answers, Took, Failed, Gives, Ends, OneByte};
+ghost use Rattle.input_source.specs.Tape.{StaysReady};
 ghost use Rattle.input_source.specs.Tape.{OneNote, answer_of};
 ghost use Rattle.roff_num.specs.Faults.{Rises};
 
@@ -65,6 +66,8 @@ pub trait ByteSource {
         ensures gives { IfSome result (λ b.
             Answers (gives self.old) (gives self.new) (Gives (OneByte b))) }
         ensures kept { result ≡ None → self.new ≡ self.old }
+        // What stood ready behind it does so still.
+        ensures ready { IfSome result (λ b. StaysReady 1 (ready self.old) (ready self.new)) }
         ensures notes { notes self.new ≤ notes self.old }
         ensures failures { failures self.old ≤ failures self.new };
 
@@ -78,6 +81,8 @@ pub trait ByteSource {
         requires within { count ≤ length (ready self.old) }
         ensures gives { Took (gives self.old) (gives self.new)
             (map OneByte (take count (ready self.old))) }
+        // What stood ready behind them does so still.
+        ensures ready { StaysReady count (ready self.old) (ready self.new) }
         ensures notes { notes self.new ≤ notes self.old }
         ensures failures { failures self.new ≡ failures self.old };
 
@@ -116,6 +121,7 @@ pub struct ReadSource<R> {
 impl<R: BlockRead + Drop> ReadSource<R> {
     ghost use Rattle.input_source.specs.ReadSource.Reach.{CountsFaults, ending_given, faults_of};
     ghost use Rattle.input_source.specs.ReadSource.Reach.{left_of_block, may_give, reader_of};
+    ghost use Rattle.input_source.specs.ReadSource.Reach.{ready_of};
 
     /// A source over a reader, of which nothing is read yet.
     pub fn new(alloc: Global, reader: R) -> Result<Self, AllocError>
@@ -148,6 +154,7 @@ impl<R: BlockRead + Drop> ReadSource<R> {
         ensures gives { IfSome result (λ b.
             Answers (may_give R.gives self.old) (may_give R.gives self.new)
             (Gives (OneByte b))) }
+        ensures ready { IfSome result (λ b. StaysReady 1 (ready_of self.old) (ready_of self.new)) }
         ensures kept { result ≡ None → self.new ≡ self.old }
         ensures taken { result ≡ None → self.old.len ≤ self.old.next }
         ensures failures { self.new.failures ≡ self.old.failures }
