@@ -1,5 +1,5 @@
 -- What was read of a control line at once, and what it led to, by what stood behind its name.
-use Rattle.std.proofs.Common.{◌≡◌, ℕ, ◌≤◌, Bool, true, false, List, None, Some, length, refl, sym, ap, subst, ◌∙◌, arith}
+use Rattle.std.proofs.Common.{◌≡◌, ℕ, ◌<◌, ◌≤◌, Bool, true, false, List, None, Some, length, refl, sym, ap, subst, ◌∙◌, arith}
 use Rattle.input_source.specs.declared.source.ByteSource as byte_source
 use Rattle.input_model.specs.Arguments.{Arguments}
 use Rattle.input_model.specs.Unread.{IsWithin}
@@ -23,6 +23,7 @@ use Rattle.read_shortcuts.specs.Runs.{IsRun}
 use Rattle.read_shortcuts.specs.Stages.{ReadsLine, ReadsPast}
 use Rattle.read_shortcuts.specs.declared.control.ControlRead.{ControlRead}
 use Rattle.read_shortcuts.specs.declared.control.ControlRead.TheVariants.{Condition, Decided, Dropped, Front, Held, HeldForCall, HeldToEnd, HeldToEscape}
+use Rattle.read_shortcuts.proofs.BytesTaken.{held-taken, read-taken}
 use Rattle.read_shortcuts.proofs.HeldRuns.{holds_call_where}
 use Rattle.read_shortcuts.proofs.LinesRead.{LeadsBehind, held-half, held-line, held-past, request-each, runs-arguments, runs-call}
 
@@ -41,6 +42,7 @@ nothing-read g s es r u result none left = record {
   condition = λ is. absurd (unlike is_read result Condition none refl is);
   decides = λ is. absurd (unlike is_read result Decided none refl is);
   dropped = λ is. absurd (unlike is_read result Dropped none refl is);
+  taken = λ some. let wrong : false ≡ true = sym none ∙ some in absurd (cc);
   unchanged = λ unread. (refl, refl, refl);
   notes = omega arith;
   failures = refl;
@@ -53,10 +55,11 @@ module _ {S : Type 0} (g : byte_source.Ghosts S) (was is : S) (es : ComposerOf) 
   Reads result = ReadsControl g was is es old new before after result
 
   -- bytes were read past, and what stands behind them is told
-  past-read : (result : ControlRead) → is_past result ≡ true → is_read result ≡ true → ReadsPast (g.gives was) (g.gives is) old new before after
+  past-read : (result : ControlRead) → is_past result ≡ true → is_read result ≡ true → before.input.charge < after.input.charge
+      → ReadsPast (g.gives was) (g.gives is) old new before after
       → (result ≡ HeldToEscape → IsRun ArgumentsRun new.reading after.input.escapes) → (result ≡ HeldForCall → IsRun (CallArguments 8) new.reading after.input.escapes)
       → (result ≡ Condition → IsRun ConditionRun new.reading after.input.escapes) → (result ≡ Dropped → LineBegun new before after) → Reads result
-  past-read result is_it some past escape call condition dropped = record {
+  past-read result is_it some taken past escape call condition dropped = record {
     past = λ told. past;
     line = λ ended. absurd (unlike is_past HeldToEnd result refl is_it (sym ended));
     escape = escape;
@@ -64,23 +67,24 @@ module _ {S : Type 0} (g : byte_source.Ghosts S) (was is : S) (es : ComposerOf) 
     condition = condition;
     decides = λ decided. absurd (unlike is_past Decided result refl is_it (sym decided));
     dropped = dropped;
+    taken = λ read. taken;
     unchanged = λ none. let wrong : false ≡ true = sym none ∙ some in absurd (cc);
     notes = notes;
     failures = failures;
   }
 
   -- the bytes up to a name's end
-  pub front-read : ReadsPast (g.gives was) (g.gives is) old new before after → Reads Front
-  front-read past = past-read Front refl refl past (λ wrong. absurd (cc)) (λ wrong. absurd (cc)) (λ wrong. absurd (cc)) (λ wrong. absurd (cc))
+  pub front-read : before.input.charge < after.input.charge → ReadsPast (g.gives was) (g.gives is) old new before after → Reads Front
+  front-read taken past = past-read Front refl refl taken past (λ wrong. absurd (cc)) (λ wrong. absurd (cc)) (λ wrong. absurd (cc)) (λ wrong. absurd (cc))
 
   -- a dropped line, with its newline or without it
-  pub dropped-read : (ended : Bool) (result : ControlRead) → result ≡ read_dropped ended → ReadsPast (g.gives was) (g.gives is) old new before after
-      → (ended ≡ true → LineBegun new before after) → Reads result
-  dropped-read ended result told past begun = subst Reads (sym told) (by ended begun)
+  pub dropped-read : (ended : Bool) (result : ControlRead) → result ≡ read_dropped ended → before.input.charge < after.input.charge
+      → ReadsPast (g.gives was) (g.gives is) old new before after → (ended ≡ true → LineBegun new before after) → Reads result
+  dropped-read ended result told taken past begun = subst Reads (sym told) (by ended begun)
     where
       by : (b : Bool) → (b ≡ true → LineBegun new before after) → Reads (read_dropped b)
-      by true begun = past-read Dropped refl refl past (λ wrong. absurd (cc)) (λ wrong. absurd (cc)) (λ wrong. absurd (cc)) (λ dropped. begun refl)
-      by false begun = front-read past
+      by true begun = past-read Dropped refl refl taken past (λ wrong. absurd (cc)) (λ wrong. absurd (cc)) (λ wrong. absurd (cc)) (λ dropped. begun refl)
+      by false begun = front-read taken past
 
   -- a line, up to its newline
   pub line-read : (result : ControlRead) → result ≡ HeldToEnd → ReadsLine (g.gives was) (g.gives is) old new before after → Reads result
@@ -93,14 +97,15 @@ module _ {S : Type 0} (g : byte_source.Ghosts S) (was is : S) (es : ComposerOf) 
         condition = λ wrong. absurd (cc);
         decides = λ wrong. absurd (cc);
         dropped = λ wrong. absurd (cc);
+        taken = λ read. read-taken (g.gives was) (g.gives is) old new before after line;
         unchanged = λ wrong. absurd (cc);
         notes = notes;
         failures = failures;
       })
 
   -- a condition, or the other branch of one, which decided
-  pub decided-read : DecidesAtOnce es (g.gives was) (g.gives is) old new before after → Reads Decided
-  decided-read decides = record {
+  pub decided-read : before.input.charge < after.input.charge → DecidesAtOnce es (g.gives was) (g.gives is) old new before after → Reads Decided
+  decided-read taken decides = record {
     past = λ wrong. absurd (cc);
     line = λ wrong. absurd (cc);
     escape = λ wrong. absurd (cc);
@@ -108,16 +113,17 @@ module _ {S : Type 0} (g : byte_source.Ghosts S) (was is : S) (es : ComposerOf) 
     condition = λ wrong. absurd (cc);
     decides = λ decided. decides;
     dropped = λ wrong. absurd (cc);
+    taken = λ read. taken;
     unchanged = λ wrong. absurd (cc);
     notes = notes;
     failures = failures;
   }
 
   -- a condition, which decided or didn't
-  pub condition-read : (result : ControlRead) → is_read result ≡ true → (is_past result ≡ true → ReadsPast (g.gives was) (g.gives is) old new before after)
+  pub condition-read : (result : ControlRead) → is_read result ≡ true → before.input.charge < after.input.charge → (is_past result ≡ true → ReadsPast (g.gives was) (g.gives is) old new before after)
       → (result ≡ Condition → IsRun ConditionRun new.reading after.input.escapes) → (result ≡ Decided → DecidesAtOnce es (g.gives was) (g.gives is) old new before after)
       → (result ≡ HeldToEnd → ⊥) → (result ≡ HeldToEscape → ⊥) → (result ≡ HeldForCall → ⊥) → (result ≡ Dropped → ⊥) → Reads result
-  condition-read result some past condition decides no_line no_escape no_call no_drop = record {
+  condition-read result some taken past condition decides no_line no_escape no_call no_drop = record {
     past = past;
     line = λ ended. absurd (no_line ended);
     escape = λ escape. absurd (no_escape escape);
@@ -125,28 +131,29 @@ module _ {S : Type 0} (g : byte_source.Ghosts S) (was is : S) (es : ComposerOf) 
     condition = condition;
     decides = decides;
     dropped = λ dropped. absurd (no_drop dropped);
+    taken = λ read. taken;
     unchanged = λ none. let wrong : false ≡ true = sym none ∙ some in absurd (cc);
     notes = notes;
     failures = failures;
   }
 
   -- a line whose arguments are held, by what stands behind those that were
-  arguments-read : (b : BehindHeld) → (is_ended b ≡ false → ReadsPast (g.gives was) (g.gives is) old new before after)
+  arguments-read : (b : BehindHeld) → before.input.charge < after.input.charge → (is_ended b ≡ false → ReadsPast (g.gives was) (g.gives is) old new before after)
       → (is_ended b ≡ true → ReadsLine (g.gives was) (g.gives is) old new before after) → IsRun ArgumentsRun new.reading after.input.escapes → Reads (read_to b)
-  arguments-read Newline past line run = line-read HeldToEnd refl (line refl)
-  arguments-read AtName past line run =
-      past-read HeldToEscape refl refl (past refl) (λ escape. run) (λ wrong. absurd (cc)) (λ wrong. absurd (cc)) (λ wrong. absurd (cc))
-  arguments-read Other past line run =
-      past-read Held refl refl (past refl) (λ wrong. absurd (cc)) (λ wrong. absurd (cc)) (λ wrong. absurd (cc)) (λ wrong. absurd (cc))
+  arguments-read Newline taken past line run = line-read HeldToEnd refl (line refl)
+  arguments-read AtName taken past line run =
+      past-read HeldToEscape refl refl taken (past refl) (λ escape. run) (λ wrong. absurd (cc)) (λ wrong. absurd (cc)) (λ wrong. absurd (cc))
+  arguments-read Other taken past line run =
+      past-read Held refl refl taken (past refl) (λ wrong. absurd (cc)) (λ wrong. absurd (cc)) (λ wrong. absurd (cc)) (λ wrong. absurd (cc))
 
   -- and one that calls a body
-  call-read : (b : BehindHeld) → (is_ended b ≡ false → ReadsPast (g.gives was) (g.gives is) old new before after)
+  call-read : (b : BehindHeld) → before.input.charge < after.input.charge → (is_ended b ≡ false → ReadsPast (g.gives was) (g.gives is) old new before after)
       → (is_ended b ≡ true → ReadsLine (g.gives was) (g.gives is) old new before after) → IsRun (CallArguments 8) new.reading after.input.escapes → Reads (read_for_call b)
-  call-read Newline past line run = line-read HeldToEnd refl (line refl)
-  call-read AtName past line run =
-      past-read HeldForCall refl refl (past refl) (λ wrong. absurd (cc)) (λ call. run) (λ wrong. absurd (cc)) (λ wrong. absurd (cc))
-  call-read Other past line run =
-      past-read Held refl refl (past refl) (λ wrong. absurd (cc)) (λ wrong. absurd (cc)) (λ wrong. absurd (cc)) (λ wrong. absurd (cc))
+  call-read Newline taken past line run = line-read HeldToEnd refl (line refl)
+  call-read AtName taken past line run =
+      past-read HeldForCall refl refl taken (past refl) (λ wrong. absurd (cc)) (λ call. run) (λ wrong. absurd (cc)) (λ wrong. absurd (cc))
+  call-read Other taken past line run =
+      past-read Held refl refl taken (past refl) (λ wrong. absurd (cc)) (λ wrong. absurd (cc)) (λ wrong. absurd (cc)) (λ wrong. absurd (cc))
 
   module _ (there : LineState) (first ready : List ℕ) (begun : Arguments) (b : BehindHeld) (leads : LeadsBehind first there old.reading begun ready before)
       (reads : new ≡ record old { reading = there }) (within : IsWithin after) (result : ControlRead) where
@@ -156,7 +163,7 @@ module _ {S : Type 0} (g : byte_source.Ghosts S) (was is : S) (es : ComposerOf) 
     request-read breaks request is_there line told =
         let each = request-each breaks request there is_there in
         subst Reads (sym told)
-        (arguments-read b (λ left. held-past (g.gives was) (g.gives is) old new there first ready b before after begun None leads each line reads left within)
+        (arguments-read b (held-taken (g.gives was) (g.gives is) first line.held ready begun b before after leads.stands leads.some line.passes) (λ left. held-past (g.gives was) (g.gives is) old new there first ready b before after begun None leads each line reads left within)
         (λ ended. held-line (g.gives was) (g.gives is) old new there first ready b before after begun None leads each line reads ended)
         (runs-arguments breaks request new.reading after.input.escapes (ap (λ (r : ReaderState). r.reading) reads ∙ is_there)
         (held-half (g.gives was) (g.gives is) old new there first ready b before after begun None leads each line reads)))
@@ -167,7 +174,7 @@ module _ {S : Type 0} (g : byte_source.Ghosts S) (was is : S) (es : ComposerOf) 
     body-read name is_there line told =
         let each = holds_call_where there name is_there in
         subst Reads (sym told)
-        (call-read b (λ left. held-past (g.gives was) (g.gives is) old new there first ready b before after begun (Some 8) leads each line reads left within)
+        (call-read b (held-taken (g.gives was) (g.gives is) first line.held ready begun b before after leads.stands leads.some line.passes) (λ left. held-past (g.gives was) (g.gives is) old new there first ready b before after begun (Some 8) leads each line reads left within)
         (λ ended. held-line (g.gives was) (g.gives is) old new there first ready b before after begun (Some 8) leads each line reads ended)
         (runs-call name new.reading after.input.escapes (ap (λ (r : ReaderState). r.reading) reads ∙ is_there)
         (held-half (g.gives was) (g.gives is) old new there first ready b before after begun (Some 8) leads each line reads)))

@@ -167,6 +167,7 @@ leads-dropped first there reading ready u leads is =
     subst (λ (state : LineState). LeadsBehind first state reading u.input.arguments ready u) is leads in
     record {
       front = leads.stands.front;
+      some = leads.some;
       plain = subst NoNewline leads.stands.are leads.plain;
       none_half = leads.none_half;
       turned =

@@ -29,6 +29,7 @@ pub mod ComparedTexts
 pub mod ComparedConditions
 pub mod ComparedFronts
 pub mod OtherBranches
+pub mod BytesTaken
 pub mod ControlReads
 pub mod SteppedNames
 pub mod SteppingRuns

@@ -9,9 +9,10 @@ use Rattle.run_model.specs.declared.line_state.LineState.TheVariants.{Dropped, L
 use Rattle.roff_scan.specs.Unread.Calls.{IsFront, NoNewline, front_bytes}
 use Rattle.input_source.specs.Bytes.{newline}
 
--- so many bytes stand in front, without a newline, behind which the rest of the line is dropped
+-- so many bytes stand in front, one at least and no newline, behind which the rest of the line is dropped
 pub record LeadsToDropped (count : ℕ) (reading : LineState) (ready : List ℕ) (u : PageUnread) : Type 0 where
   pub front : IsFront count ready u
+  pub some : 1 ≤ count
   pub plain : NoNewline (front_bytes count ready u)
   pub none_half : u.input.escapes ≡ []
   pub turned : Turned u.input.names (stage_of reading u.input) (front_bytes count ready u) (stage_of Dropped u.input)

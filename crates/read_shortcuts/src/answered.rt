@@ -1,6 +1,6 @@
 //! Conditions that ask for a register, read at once where they stand whole in front.
 
-ghost use Rattle.std.specs.Prelude.{◌≡◌, ◌≤◌, true, false, IfSome, length, take};
+ghost use Rattle.std.specs.Prelude.{◌≡◌, ◌<◌, ◌≤◌, true, false, IfSome, length, take};
 ghost use Rattle.input_escapes.specs.ConditionFronts.{is_of_expression};
 ghost use Rattle.run_model.specs.declared.line_state.LineState.TheVariants.{Deciding};
 ghost use Rattle.read_shortcuts.specs.Answered.{AnswersBehind, AnswersFront, AreOfExpression};
@@ -46,6 +46,7 @@ pub(super) fn decide_register<S: ByteSource>(
         (S.ready source.old) unread.old }
     ensures decides { result ≡ true → DecidesRegister composer.now (S.gives source.old)
         (S.gives source.new) reader.old reader.new unread.old unread.new }
+    ensures taken { result ≡ true → unread.old.input.charge < unread.new.input.charge }
     ensures unchanged { result ≡ false
         → (reader.new ≡ reader.old) × (unread.new ≡ unread.old) × (source.new ≡ source.old) }
     ensures notes { S.notes source.new ≤ S.notes source.old }

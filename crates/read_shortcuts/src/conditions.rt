@@ -1,6 +1,6 @@
 //! Conditions behind the front of a control line, read at once with it where they ask nothing.
 
-ghost use Rattle.std.specs.Prelude.{◌≡◌, ◌≤◌, true, false, IfSome};
+ghost use Rattle.std.specs.Prelude.{◌≡◌, ◌<◌, ◌≤◌, true, false, IfSome};
 ghost use Rattle.input_model.specs.Input.{is_none_ahead};
 ghost use Rattle.input_model.specs.Unread.{IsWithin};
 ghost use Rattle.read_names.specs.NamesRead.{input_begun};
@@ -63,6 +63,7 @@ pub(super) fn read_condition<S: ByteSource>(
     ensures call { result ≡ HeldForCall → ⊥ }
     ensures dropped { result ≡ Dropped → ⊥ }
     ensures read { is_read result ≡ true }
+    ensures taken { unread.old.input.charge < unread.new.input.charge }
     ensures notes { S.notes source.new ≤ S.notes source.old }
     ensures failures { S.failures source.new ≡ S.failures source.old }
 {
@@ -100,6 +101,7 @@ fn decide_asking<S: ByteSource>(
         (S.ready source.old) unread.old }
     ensures decides { result ≡ true → DecidesAtOnce composer.now (S.gives source.old)
         (S.gives source.new) reader.old reader.new unread.old unread.new }
+    ensures taken { result ≡ true → unread.old.input.charge < unread.new.input.charge }
     ensures unchanged { result ≡ false
         → (reader.new ≡ reader.old) × (unread.new ≡ unread.old) × (source.new ≡ source.old) }
     ensures notes { S.notes source.new ≤ S.notes source.old }
@@ -133,6 +135,7 @@ fn read_undecided<S: ByteSource>(
     ensures past { ReadsPast (S.gives source.old) (S.gives source.new)
         reader.old reader.new unread.old unread.new }
     ensures run { IsRun ConditionRun reader.new.reading unread.new.input.escapes }
+    ensures taken { unread.old.input.charge < unread.new.input.charge }
     ensures notes { S.notes source.new ≤ S.notes source.old }
     ensures failures { S.failures source.new ≡ S.failures source.old }
 {

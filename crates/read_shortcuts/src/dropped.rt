@@ -1,6 +1,6 @@
 //! Lines that are dropped, read at once with their newlines.
 
-ghost use Rattle.std.specs.Prelude.{◌≡◌, ◌≤◌, IfSome, true};
+ghost use Rattle.std.specs.Prelude.{◌≡◌, ◌<◌, ◌≤◌, IfSome, true};
 ghost use Rattle.read_shortcuts.specs.DroppedLines.{EndsDropped, LeadsToDropped, LineBegun};
 ghost use Rattle.read_shortcuts.specs.Stages.{ReadsPast};
 
@@ -23,6 +23,7 @@ pub(super) fn drop_line<S: ByteSource>(
     ensures past { ReadsPast (S.gives source.old) (S.gives source.new)
         reader.old reader.new unread.old unread.new }
     ensures begun { result ≡ true → LineBegun reader.new unread.old unread.new }
+    ensures taken { unread.old.input.charge < unread.new.input.charge }
     ensures notes { S.notes source.new ≤ S.notes source.old }
     ensures failures { S.failures source.new ≡ S.failures source.old }
 {

@@ -1,6 +1,6 @@
 //! The other branch of a condition, read or skipped at once behind the front of its line.
 
-ghost use Rattle.std.specs.Prelude.{◌≡◌, ◌≤◌};
+ghost use Rattle.std.specs.Prelude.{◌≡◌, ◌<◌, ◌≤◌};
 ghost use Rattle.run_model.specs.Reading.Branches.{reads_else};
 ghost use Rattle.read_shortcuts.specs.OtherBranches.{StandsOther, TakesOther};
 
@@ -21,6 +21,7 @@ pub(super) fn take_other<S: ByteSource>(
     requires { StandsOther front reader.old.reading (S.ready source.old) unread.old }
     ensures takes { TakesOther (S.gives source.old) (S.gives source.new)
         reader.old reader.new unread.old unread.new }
+    ensures taken { unread.old.input.charge < unread.new.input.charge }
     ensures notes { S.notes source.new ≤ S.notes source.old }
     ensures failures { S.failures source.new ≡ S.failures source.old }
 {

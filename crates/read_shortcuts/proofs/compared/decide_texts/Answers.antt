@@ -2,6 +2,8 @@ use Rattle.std.proofs.Common.{ap, subst, sym, ◌∙◌}
 use Rattle.run_model.specs.Reading.Items.{PageUnread}
 use Rattle.run_model.specs.declared.line_state.LineState.{LineState}
 use Rattle.roff_scan.specs.Unread.Texts.{CountsText}
+use Rattle.read_shortcuts.specs.KeptResults.{kept_unread}
+use Rattle.read_shortcuts.proofs.BytesTaken.{counted_taken}
 use Rattle.read_shortcuts.proofs.ComparedConditions.{decides-compared, front-counted, plain-counted}
 use Rattle.read_shortcuts.proofs.compared.decide_texts.Goals as goal
 
@@ -31,3 +33,10 @@ returns-else-not-count_text-clause-decides g c = λ decided es.
     (subst (λ (v : PageUnread). CountsText answer.len answer.count v c.count_text.new.self) (c.keep_if.ensures.kept c.if-not-keep_if.false) (c.count_text.ensures.counts c.if-not-count_text.false))
     (sym c.is_none_ahead.ensures ∙ c.if-is_none_ahead.false) c.stays_within.ensures c.stays_within-in-Some.ensures c.go_on.new.self c.take_front.ensures.passes
     (c.go_on.ensures ∙ ap (λ (reading : LineState). record r { reading = reading }) c.branch-answer.ensures)
+
+pub returns-else-not-count_text-clause-taken : goal.returns-else-not-count_text-clause-taken
+returns-else-not-count_text-clause-taken g c = λ decided.
+    let answer = c.in-Some.answer in
+    counted_taken _ _ answer.len answer.count _ (kept_unread c.args.keeps answer.so c.args.unread.now) c.count_text.new.self c.take_front.new.unread
+    (subst (λ (v : PageUnread). CountsText answer.len answer.count v c.count_text.new.self) (c.keep_if.ensures.kept c.if-not-keep_if.false) (c.count_text.ensures.counts c.if-not-count_text.false))
+    c.take_front.ensures.passes

@@ -1,7 +1,8 @@
-use Rattle.std.proofs.Common.{◌≡◌, refl, rules}
+use Rattle.std.proofs.Common.{◌≡◌, arith, refl, rules}
 use Rattle.run_model.specs.declared.line_state.LineState.TheVariants.{Collecting}
 use Rattle.run_model.specs.declared.purpose.Purpose.TheVariants.{Arguments as InArguments, Calling}
 use Rattle.read_shortcuts.proofs.ControlFronts.{reads-named}
+use Rattle.read_shortcuts.proofs.BytesTaken.{front_taken}
 use Rattle.read_shortcuts.proofs.ControlReads.{body-read, condition-read, dropped-read, front-read, line-read, request-read}
 use Rattle.read_shortcuts.proofs.DroppedLines.{name-leads}
 use Rattle.read_shortcuts.proofs.LinesRead.{call-holds, named-leads, request-holds, three}
@@ -47,7 +48,7 @@ returns-in-Deciding-clause-read g c =
     let read = c.read_condition in
     let told = read.ensures in
     condition-read g.S.ByteSource c.args.source.now read.new.source c.args.composer.now c.args.reader.now read.new.reader c.args.unread.now read.new.unread
-    told.notes told.failures read.result told.read told.past told.condition told.decides told.line told.escape told.call told.dropped
+    told.notes told.failures read.result told.read told.taken told.past told.condition told.decides told.line told.escape told.call told.dropped
 
 pub drop_line-requires : goal.drop_line-requires
 drop_line-requires g c = name-leads c.args.front c.args.reading _ _ c.args.unread.now c.requires c.in-Dropped.is
@@ -56,7 +57,7 @@ pub returns-in-Dropped-clause-read : goal.returns-in-Dropped-clause-read
 returns-in-Dropped-clause-read g c =
     let line = c.drop_line in
     dropped-read g.S.ByteSource c.args.source.now line.new.source c.args.composer.now c.args.reader.now line.new.reader c.args.unread.now line.new.unread
-    line.ensures.notes line.ensures.failures line.result c.dropped_to.result c.dropped_to.ensures line.ensures.past line.ensures.begun
+    line.ensures.notes line.ensures.failures line.result c.dropped_to.result c.dropped_to.ensures line.ensures.taken line.ensures.past line.ensures.begun
 
 pub returns-in_default : goal.returns-in_default
 returns-in_default g c = record {
@@ -67,6 +68,7 @@ returns-in_default g c = record {
       let taken = c.take_front in
       front-read g.S.ByteSource c.args.source.now taken.new.source c.args.composer.now c.args.reader.now c.go_on-in_default.new.self c.args.unread.now begun.new.unread
       taken.ensures.notes taken.ensures.failures
+      (rw begun.ensures (front_taken _ _ 3 _ c.args.unread.now taken.new.unread named.stands.front (omega arith) taken.ensures.passes))
       (reads-named _ _ c.args.reader.now c.go_on-in_default.new.self c.args.reading front.breaks front.first front.second _ c.args.unread.now taken.new.unread begun.new.unread
       named.none_due named.begins named.none_half named.first named.second named.leads
       named.stands taken.ensures.passes begun.ensures c.stays_within-in_default.ensures c.go_on-in_default.ensures);

@@ -16,7 +16,7 @@ pub returns-then-front-eq92-clause-read : goal.returns-then-front-eq92-clause-re
 returns-then-front-eq92-clause-read g c =
     let line = c.drop_line in
     dropped-read g.S.ByteSource c.args.source.now line.new.source c.args.composer.now c.args.reader.now line.new.reader c.args.unread.now line.new.unread
-    line.ensures.notes line.ensures.failures line.result c.dropped_to.result c.dropped_to.ensures line.ensures.past line.ensures.begun
+    line.ensures.notes line.ensures.failures line.result c.dropped_to.result c.dropped_to.ensures line.ensures.taken line.ensures.past line.ensures.begun
 
 pub returns-then-not-belongs_to_name-clause-read : goal.returns-then-not-belongs_to_name-clause-read
 returns-then-not-belongs_to_name-clause-read g c = nothing-read _ _ _ _ _ _ refl refl
@@ -53,4 +53,4 @@ pub returns-in-None-clause-read : goal.returns-in-None-clause-read
 returns-in-None-clause-read g c =
     let other = c.take_other in
     decided-read g.S.ByteSource c.args.source.now other.new.source c.args.composer.now c.args.reader.now other.new.reader c.args.unread.now other.new.unread
-    other.ensures.notes other.ensures.failures (ByOther other.ensures.takes)
+    other.ensures.notes other.ensures.failures other.ensures.taken (ByOther other.ensures.takes)

@@ -1,3 +1,4 @@
+use Rattle.read_shortcuts.proofs.BytesTaken.{front_taken, line_taken}
 use Rattle.read_shortcuts.proofs.DroppedLines.{begun-line, line-ends, line-plain, reads-ended_line, reads-led}
 use Rattle.read_shortcuts.proofs.dropped.drop_line.Goals as goal
 
@@ -22,3 +23,10 @@ returns-in-Some-clause-begun g c = λ so.
 pub returns-in-None-clause-past : goal.returns-in-None-clause-past
 returns-in-None-clause-past g c =
     reads-led _ _ c.args.skipped _ c.args.reader.now c.go_on.new.self c.args.unread.now c.take_front.new.unread c.requires c.take_front.ensures.passes c.stays_within-in-None.ensures c.go_on.ensures
+
+pub returns-in-Some-clause-taken : goal.returns-in-Some-clause-taken
+returns-in-Some-clause-taken g c = line_taken _ _ _ c.args.unread.now c.pass_line.new.self c.pass_line.ensures.passes
+
+pub returns-in-None-clause-taken : goal.returns-in-None-clause-taken
+returns-in-None-clause-taken g c =
+    front_taken _ _ c.args.skipped _ c.args.unread.now c.take_front.new.unread c.requires.front c.requires.some c.take_front.ensures.passes
