@@ -19,16 +19,16 @@ use Rattle.input_source.specs.Bytes.{backslash, dot, is_text_byte, newline}
 use Rattle.input_source.specs.Tape.{Tape}
 use Rattle.run_model.proofs.TextBytes.{is_other}
 use Rattle.run_model.specs.Reading.Items.{PageInput, PageUnread}
-use Rattle.run_model.specs.Stages.{Turned, stage_of}
+use Rattle.run_model.specs.Stages.{Stage, Turned, stage_of}
 use Rattle.run_model.specs.TurnsToCome.{begun, turns_to_come}
 use Rattle.run_model.specs.declared.line_state.LineState.{LineState}
 use Rattle.read_lines.specs.Reader.State.{ReaderState}
-use Rattle.read_definitions.specs.CopiedLines.{ByteCopied, Copies, CopiesFirst, CopiesOn, CopiesSome, DotCopied, EscapeCopied, NoneCopied, TakesLines, goes_on_behind_dot, is_behind_dot, is_copied_byte, is_dot, is_kept_escape, is_space, keeps_escape, kept_of, reads_lines, second_of_mark}
+use Rattle.read_definitions.specs.CopiedLines.{ByteCopied, Copies, CopiesOn, CopiesSome, CopiesTo, DotCopied, EscapeCopied, NoneCopied, TakesLines, goes_on_behind_dot, is_behind_dot, is_copied_byte, is_dot, is_kept_escape, is_space, keeps_escape, kept_of, reads_lines, second_of_mark}
 use Rattle.read_shortcuts.specs.Runs.{ready_allowed}
 use Rattle.read_shortcuts.specs.Stages.{ReadsPast}
 use Rattle.read_definitions.specs.declared.copied.Lines.{Lines}
 use Rattle.read_shortcuts.proofs.AddedRuns.{stage_with}
-use Rattle.read_definitions.proofs.CopiedTurns.{copies-turned, texts_copied}
+use Rattle.read_definitions.proofs.CopiedTurns.{copies_to-turned, fits, texts_copied}
 use Rattle.read_shortcuts.proofs.RegistersPut.{leaves}
 use Rattle.read_shortcuts.proofs.RunsRead.{first_of_front, passed-charge, turned-behind}
 
@@ -158,41 +158,53 @@ copies-backslash second begins last bytes b rest count are differs is few copies
     })
 
 -- bytes that were copied were read past
-module _ (ready : List ℕ) (lines : Lines) (last : Bool) (count : ℕ) (r : ReaderState) (before : PageUnread) (front : List ℕ)
+module _ (ready : List ℕ) (lines : Lines) (last : Bool) (text count : ℕ) (r : ReaderState) (before : PageUnread) (front : List ℕ)
     (reads : r.reading ≡ reads_lines lines) (is : front ≡ front_bytes (length front) ready before)
-    (first : CopiesFirst (second_of_mark lines.end) lines.begins last count front) where
+    (first : CopiesTo (second_of_mark lines.end) lines.begins front last text count) where
   abbrev i : PageInput
   i = before.input
 
   abbrev bytes : List ℕ
   bytes = front_bytes count ready before
 
+  abbrev kept : List ℕ
+  kept = front_bytes text ready before
+
+  few : (text ≤ count) × (count ≤ length front)
+  few = fits (second_of_mark lines.end) lines.begins last text count front first
+
   are : take count front ≡ bytes
-  are = first_of_front front count ready before is first.few
+  are = first_of_front front count ready before is few.1
+
+  are-kept : take text front ≡ kept
+  are-kept = first_of_front front text ready before is (omega (arith, few.0, few.1))
 
   long : length bytes ≡ count
-  long = sym (ap length are) ∙ length-take-le count front first.few
+  long = sym (ap length are) ∙ length-take-le count front few.1
 
   -- the lines behind them
   abbrev behind : LineState
   behind = reads_lines (record lines { begins = last })
 
-  texts-behind : (name : Option ShortName) → (adding (front_bytes (kept_of name count) ready before) i).open_texts ≡ texts_copied name bytes i.open_texts
+  texts-behind : (name : Option ShortName) → (adding (front_bytes (kept_of name text) ready before) i).open_texts ≡ texts_copied name kept i.open_texts
   texts-behind None = adding-none i
-  texts-behind (Some name) = ap (λ (j : PageInput). j.open_texts) (adding-texts bytes i)
+  texts-behind (Some name) = ap (λ (j : PageInput). j.open_texts) (adding-texts kept i)
 
   module _ (gave gives : Tape → Type 0) (new : ReaderState) (after : PageUnread) (none_half : before.input.escapes ≡ []) (moved : new ≡ record r { reading = behind })
-      (copied : CopiesFront gave gives (front_bytes count ready before) (front_bytes (kept_of lines.name count) ready before) before after) where
+      (copied : CopiesFront gave gives (front_bytes count ready before) (front_bytes (kept_of lines.name text) ready before) before after) where
     turned-copied : Turned i.names (stage_of r.reading i) bytes (stage_of behind after.input)
     turned-copied =
-        let grown : List (List ℕ) = texts_copied lines.name bytes i.open_texts in
-        let copies = subst (λ (xs : List ℕ). Copies (second_of_mark lines.end) lines.begins xs last) are first.copies in
+        let grown : List (List ℕ) = texts_copied lines.name kept i.open_texts in
+        let p : Stage = stage_with (reads_lines lines) [] i.arguments i.open_texts in
+        let to : List ℕ → Stage = λ xs. stage_with behind [] i.arguments (texts_copied lines.name xs i.open_texts) in
+        let path : Turned i.names p (take count front) (to (take text front)) =
+        copies_to-turned lines.name lines.appends lines.end i.names i.arguments lines.begins last text count front i.open_texts first in
         turned-behind i.names (stage_of r.reading i) bytes behind after.input i.escapes i.arguments grown copied.half_read copied.arguments
         (copied.texts ∙ texts-behind lines.name)
         (subst (λ (reading : LineState). Turned i.names (stage_with reading i.escapes i.arguments i.open_texts) bytes (stage_with behind i.escapes i.arguments grown)) (sym reads)
         (subst (λ (half : List OpenEscape). Turned i.names (stage_with (reads_lines lines) half i.arguments i.open_texts) bytes (stage_with behind half i.arguments grown))
         (sym none_half)
-        (copies-turned lines.name lines.appends lines.end i.names i.arguments lines.begins last bytes i.open_texts copies)))
+        (subst (λ (xs : List ℕ). Turned i.names p xs (to kept)) are (subst (λ (xs : List ℕ). Turned i.names p (take count front) (to xs)) are-kept path))))
 
     pub reads-copied : IsWithin after → ReadsPast gave gives r new before after
     reads-copied within =
@@ -222,7 +234,8 @@ module _ (ready : List ℕ) (lines : Lines) (last : Bool) (count : ℕ) (r : Rea
     pub takes-copied : front ≡ ready_allowed before ready → TakesLines lines ready before after
     takes-copied all = record {
       last = last;
+      text = text;
       count = count;
-      copies = subst (CopiesFirst (second_of_mark lines.end) lines.begins last count) all first;
+      copies = subst (λ (xs : List ℕ). CopiesTo (second_of_mark lines.end) lines.begins xs last text count) all first;
       taken = λ room. passed-charge gave gives bytes before (record after { input = with_stage_of i after.input }) copied.passes ∙ ap (λ (n : ℕ). i.charge + n) long;
     }

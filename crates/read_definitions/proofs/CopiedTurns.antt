@@ -1,8 +1,10 @@
 -- Bytes of a definition's lines that are copied lead from stage to stage, one after another: each is put behind the newest text in the
 -- making, if a name gets it.
-use Rattle.std.proofs.Common.{◌≡◌, ℕ, Bool, true, false, List, [], ◌∷◌, ◌++◌, Option, Some, None, inl, inr, refl, sym, ap, subst, ◌∙◌, arith}
+use Rattle.std.proofs.Common.{◌≡◌, ℕ, ◌+◌, ◌≤◌, Bool, true, false, List, [], ◌∷◌, ◌++◌, length, take, drop, Option, Some, None, inl, inr, refl, sym, ap, subst, ◌∙◌, arith}
 use Rattle.std.specs.Prelude.{◌==◌, ◌||◌, ◌&&◌, not, nat_lt, if◌then◌else◌}
+use Rattle.std.proofs.Math.Seq.{take-add}
 use Rattle.std.proofs.lemmas.Bool.{and_parts, cases_Bool, eqb-true}
+use Rattle.std.proofs.lemmas.List.{length-drop}
 use Rattle.roff_num.specs.declared.short_name.ShortName.{ShortName}
 use Rattle.roff_scan.proofs.AddedFronts.{adding-texts, newest-added, texts_added, texts_added-again, texts_added-none}
 use Rattle.input_model.specs.Arguments.{Arguments}
@@ -31,8 +33,9 @@ use Rattle.run_model.specs.declared.definition.DefinitionLine.TheVariants.{MayBe
 use Rattle.run_model.specs.declared.line_state.LineState.{LineState}
 use Rattle.run_model.specs.declared.line_state.LineState.TheVariants.{Collecting}
 use Rattle.run_model.specs.declared.purpose.Purpose.TheVariants.{Defining}
-use Rattle.read_definitions.specs.CopiedLines.{ByteCopied, Copies, DotCopied, EscapeCopied, NoneCopied, is_copied_byte, is_dot, is_kept_escape, matched_at, second_of_mark}
+use Rattle.read_definitions.specs.CopiedLines.{AsTheyStand, ByteCopied, Copies, CopiesTo, DotCopied, EscapeCopied, NoneCopied, ThenDoubled, is_copied_byte, is_dot, is_doubled, is_kept_escape, matched_at, second_of_mark}
 use Rattle.read_shortcuts.proofs.AddedRuns.{grows-added, stage_with}
+use Rattle.read_shortcuts.proofs.LinesRead.{Turned-append}
 
 -- a byte that is copied isn't dropped
 undropped : (below is_del is_escape is_newline is_tab silent : Bool) → (not (below || (is_del || is_escape)) || (is_newline || is_tab)) ≡ true
@@ -84,6 +87,36 @@ line-kept end false b = refl
 line-kept None true b = refl
 line-kept (Some name) true b = refl
 
+-- of two backslashes the first is kept
+single : (begins : Bool) → is_dot begins backslash ≡ false
+single true = refl
+single false = refl
+
+record TwoInFront (bytes : List ℕ) : Type 0 where
+  both : take 2 bytes ≡ backslash ∷ backslash ∷ []
+  kept : take 1 bytes ≡ backslash ∷ []
+  among : 2 ≤ length bytes
+
+two_in_front : (bytes : List ℕ) → is_doubled bytes ≡ true → TwoInFront bytes
+two_in_front [] doubled = cc
+two_in_front (b ∷ []) doubled = cc
+two_in_front (b ∷ c ∷ bytes) doubled =
+    let parts = and_parts (b == backslash) (c == backslash) doubled in
+    let first : b ≡ backslash = eqb-true b backslash parts.0 in
+    let second : c ≡ backslash = eqb-true c backslash parts.1 in
+    record {
+      both = ap (λ (d : ℕ). d ∷ c ∷ []) first ∙ ap (λ (d : ℕ). backslash ∷ d ∷ []) second;
+      kept = ap (λ (d : ℕ). d ∷ []) first;
+      among = omega arith;
+    }
+
+-- there are as many as are copied
+pub fits : (second : ℕ) (begins last : Bool) (text count : ℕ) (bytes : List ℕ) → CopiesTo second begins bytes last text count
+    → (text ≤ count) × (count ≤ length bytes)
+fits second begins _ _ _ bytes (AsTheyStand last count first others) = (omega arith, first.few)
+fits second begins _ _ _ bytes (ThenDoubled last count first doubled) =
+    (omega arith, omega (arith, first.few, (two_in_front (drop count bytes) doubled).among, length-drop count bytes))
+
 -- an escape that is kept is one that copy mode reads so
 none_of_three : (reads is_dot is_t : Bool) → not (reads || (is_dot || is_t)) ≡ true → (reads ≡ false) × (is_dot ≡ false) × (is_t ≡ false)
 none_of_three true is_dot is_t none = cc
@@ -127,6 +160,13 @@ copied-again None b bytes texts = refl
 copied-again (Some name) b bytes texts =
     let one : List (List ℕ) = texts_added (b ∷ []) (newest texts) texts in
     ap (λ (id : Option ℕ). texts_added bytes id one) (newest-added (b ∷ []) (newest texts) texts) ∙ texts_added-again b bytes texts
+
+copied-append : (name : Option ShortName) (front behind : List ℕ) (texts : List (List ℕ))
+    → texts_copied name behind (texts_copied name front texts) ≡ texts_copied name (front ++ behind) texts
+copied-append name [] behind texts = ap (texts_copied name behind) (copied-none name texts)
+copied-append name (b ∷ front) behind texts =
+    ap (texts_copied name behind) (sym (copied-again name b front texts)) ∙ copied-append name front behind (texts_copied name (b ∷ []) texts)
+    ∙ copied-again name b (front ++ behind) texts
 
 copied-behind_two : (name : Option ShortName) (a b : ℕ) (bytes : List ℕ) (texts : List (List ℕ))
     → texts_copied name bytes (texts_copied name (a ∷ b ∷ []) texts) ≡ texts_copied name (a ∷ b ∷ bytes) texts
@@ -190,6 +230,19 @@ module _ (name : Option ShortName) (appends : Bool) (end : Option ShortName) whe
       ∙ ap (λ (bytes : List ℕ). going_on (definition_grown name (bytes ++ backslash ∷ b ∷ []) there) (defining None)) (front-none end begins)
       ∙ ap (λ (j : PageInput). going_on j (defining None)) (copied-grown name (backslash ∷ b ∷ []) there)
 
+  -- or is itself, if it is another backslash
+  doubled-copied : (k : Known) (i : PageInput) (begins : Bool) → i.escapes ≡ Backslash ∷ []
+      → byte_taking k (defining (matched_at begins)) i backslash
+      ≡ going_on (record i { escapes = []; open_texts = texts_copied name (backslash ∷ []) i.open_texts }) (defining None)
+  doubled-copied k i begins half =
+      let reading : LineState = defining (matched_at begins) in
+      let there : PageInput = record i { escapes = [] } in
+      ap (λ (over : List OpenEscape). read_in k reading i (byte_read AboveCopy over backslash)) half
+      ∙ ap (λ (line : DefinitionLine). definition_unit k there name appends end (front_of (end_mark end) (matched_at begins)) (Byte backslash) line)
+      (line-text end begins backslash (single begins))
+      ∙ ap (λ (bytes : List ℕ). going_on (definition_grown name (bytes ++ backslash ∷ []) there) (defining None)) (front-none end begins)
+      ∙ ap (λ (j : PageInput). going_on j (defining None)) (copied-grown name (backslash ∷ []) there)
+
   module _ (names : Named Entry) (a : Arguments) where
     -- such lines, with these texts in the making
     abbrev at_line : Option ℕ → List (List ℕ) → Stage
@@ -233,3 +286,30 @@ module _ (name : Option ShortName) (appends : Bool) (end : Option ShortName) whe
         (grows-copied name (backslash ∷ b ∷ []) texts) (omega arith) (omega arith)
         (subst (λ (grown : List (List ℕ)). Turned names next bytes (at_line (matched_at last) grown)) (copied-behind_two name backslash b bytes texts)
         (copies-turned false last bytes two others)))
+
+    doubled-turned : (begins : Bool) (texts : List (List ℕ))
+        → Turned names (at_line (matched_at begins) texts) (backslash ∷ backslash ∷ []) (at_line None (texts_copied name (backslash ∷ []) texts))
+    doubled-turned begins texts =
+        let p : Stage = at_line (matched_at begins) texts in
+        let middle : Stage = stage_with (defining (matched_at begins)) (Backslash ∷ []) a texts in
+        let q : Stage = at_line None (texts_copied name (backslash ∷ []) texts) in
+        Onward p middle q backslash (backslash ∷ []) refl refl (λ k i. backslash-copied k (input_at names p i) (matched_at begins) refl) refl (omega arith) (omega arith)
+        (Growing middle q q backslash [] refl refl (λ k i. doubled-copied k (input_at names middle i) begins refl)
+        (grows-copied name (backslash ∷ []) texts) (omega arith) (omega arith) (Here q))
+
+    -- and so do two backslashes behind them
+    pub copies_to-turned : (begins last : Bool) (text count : ℕ) (bytes : List ℕ) (texts : List (List ℕ)) → CopiesTo (second_of_mark end) begins bytes last text count
+        → Turned names (at_line (matched_at begins) texts) (take count bytes) (at_line (matched_at last) (texts_copied name (take text bytes) texts))
+    copies_to-turned begins _ _ _ bytes texts (AsTheyStand last count first others) = copies-turned begins last (take count bytes) texts first.copies
+    copies_to-turned begins _ _ _ bytes texts (ThenDoubled last count first doubled) =
+        let front : List ℕ = take count bytes in
+        let two = two_in_front (drop count bytes) doubled in
+        let grown : List (List ℕ) = texts_copied name front texts in
+        let p : Stage = at_line (matched_at begins) texts in
+        let all : take (count + 2) bytes ≡ front ++ backslash ∷ backslash ∷ [] = take-add count 2 bytes ∙ ap (λ (xs : List ℕ). front ++ xs) two.both in
+        let kept : take (count + 1) bytes ≡ front ++ backslash ∷ [] = take-add count 1 bytes ∙ ap (λ (xs : List ℕ). front ++ xs) two.kept in
+        subst (λ (xs : List ℕ). Turned names p xs (at_line None (texts_copied name (take (count + 1) bytes) texts))) (sym all)
+        (subst (λ (xs : List ℕ). Turned names p (front ++ backslash ∷ backslash ∷ []) (at_line None (texts_copied name xs texts))) (sym kept)
+        (subst (λ (new : List (List ℕ)). Turned names p (front ++ backslash ∷ backslash ∷ []) (at_line None new)) (copied-append name front (backslash ∷ []) texts)
+        (Turned-append names p (at_line (matched_at last) grown) (at_line None (texts_copied name (backslash ∷ []) grown)) front (backslash ∷ backslash ∷ [])
+        (copies-turned begins last front texts first.copies) (doubled-turned last grown))))

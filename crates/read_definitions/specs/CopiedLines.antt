@@ -1,4 +1,4 @@
--- The lines of a definition, or ignored ones, that are copied together as they stand (manual, section 7.1).
+-- The lines of a definition, or ignored ones, that are copied together (manual, section 7.1).
 use Rattle.std.specs.Prelude.{◌≡◌, ◌<◌, ◌≤◌, ℕ, ◌+◌, ◌==◌, Bool, true, false, ◌&&◌, ◌||◌, not, if◌then◌else◌, List, [], ◌∷◌, drop, length, take, Option, None, Some}
 use Rattle.input_model.specs.Input.Names.{stored}
 use Rattle.input_escapes.specs.EscapeLaws.{begins_reading}
@@ -83,13 +83,27 @@ goes_on second begins [] = false
 goes_on second begins (b ∷ bytes) =
     if is_dot begins b then goes_on_behind_dot second bytes else if b == backslash then keeps_escape bytes else is_copied_byte b
 
--- so many of these bytes are copied, and no more can be
+-- so many of these bytes are copied as they stand, and no more can be
 pub record CopiesFirst (second : ℕ) (begins last : Bool) (count : ℕ) (bytes : List ℕ) : Type 0 where
   pub few : count ≤ length bytes
   pub copies : Copies second begins (take count bytes) last
   pub stops : goes_on second last (drop count bytes) ≡ false
 
--- some of these bytes are copied, if the first of them is
+-- whether these bytes begin with two backslashes
+abbrev pub is_doubled : List ℕ → Bool
+is_doubled [] = false
+is_doubled (b ∷ []) = false
+is_doubled (b ∷ c ∷ bytes) = b == backslash && c == backslash
+
+-- So many of these bytes are copied, and so many of those are kept: all that are copied as they stand, and of two backslashes behind them
+-- the first.
+pub data CopiesTo (second : ℕ) (begins : Bool) (bytes : List ℕ) : Bool → ℕ → ℕ → Type 0 where
+  AsTheyStand : (last : Bool) (count : ℕ) → CopiesFirst second begins last count bytes → is_doubled (drop count bytes) ≡ false
+      → CopiesTo second begins bytes last count count
+  ThenDoubled : (last : Bool) (count : ℕ) → CopiesFirst second begins last count bytes → is_doubled (drop count bytes) ≡ true
+      → CopiesTo second begins bytes false (count + 1) (count + 2)
+
+-- some of these bytes are copied as they stand, if the first of them is
 pub record CopiesSome (second : ℕ) (begins last : Bool) (count : ℕ) (bytes : List ℕ) : Type 0 where
   pub few : count ≤ length bytes
   pub copies : Copies second begins (take count bytes) last
@@ -100,13 +114,14 @@ abbrev pub kept_of : Option ShortName → ℕ → ℕ
 kept_of None count = 0
 kept_of (Some name) count = count
 
--- Where such lines are read and the source's next byte is the next one, all bytes were taken that stand ready and are copied, as many as
--- the limit on bytes allows, if there is room for them in the store.
+-- Where such lines are read and the source's next byte is the next one, all bytes were taken that stand ready and are copied as they
+-- stand, and two backslashes behind them, as many as the limit on bytes allows, if there is room in the store for those that are kept.
 pub record TakesLines (lines : Lines) (ready : List ℕ) (before after : PageUnread) : Type 0 where
   pub last : Bool
+  pub text : ℕ
   pub count : ℕ
-  pub copies : CopiesFirst (second_of_mark lines.end) lines.begins last count (ready_allowed before ready)
-  pub taken : stored before.input + kept_of lines.name count ≤ before.limits.store → after.input.charge ≡ before.input.charge + count
+  pub copies : CopiesTo (second_of_mark lines.end) lines.begins (ready_allowed before ready) last text count
+  pub taken : stored before.input + kept_of lines.name text ≤ before.limits.store → after.input.charge ≡ before.input.charge + count
 
 -- what is read asks for as many turns as before, and fewer are to come
 pub record CopiesOn (old new : ReaderState) (before after : PageUnread) : Type 0 where

@@ -6,6 +6,7 @@ ghost use Rattle.input_model.specs.Unread.{asks_to_take};
 ghost use Rattle.input_escapes.specs.EscapeLaws.{begins_reading};
 ghost use Rattle.input_source.specs.Bytes.{backslash, dot, is_text_byte};
 ghost use Rattle.read_definitions.specs.CopiedLines.{Copies, CopiesFirst, CopiesOn, CopiesSome};
+ghost use Rattle.read_definitions.specs.CopiedLines.{CopiesTo, is_doubled};
 ghost use Rattle.read_definitions.specs.CopiedLines.{TakesLines, goes_on_behind_dot, is_behind_dot};
 ghost use Rattle.read_definitions.specs.CopiedLines.{is_copied_byte, is_dot, is_kept_escape};
 ghost use Rattle.read_definitions.specs.CopiedLines.{is_space, keeps_escape, kept_of};
@@ -30,8 +31,8 @@ struct Lines {
 }
 
 /// Takes bytes together that stand ready where the lines of a definition are read, or ignored ones,
-/// and are copied as they stand: up to a line that may be the last one, or an escape that isn't
-/// kept. Returns whether it did.
+/// and are copied: as they stand, up to a line that may be the last one, or an escape that isn't
+/// kept; and two backslashes behind them as one. Returns whether it did.
 #[inline(never)]
 pub fn take_lines<S: ByteSource>(
     reader: &mut Reader,
@@ -58,8 +59,8 @@ pub fn take_lines<S: ByteSource>(
     }
 }
 
-/// Takes bytes together that stand ready where these lines are read, and are copied as they stand.
-/// Returns whether it did.
+/// Takes bytes together that stand ready where these lines are read, and are copied. Returns whether
+/// it did.
 #[inline(always)]
 fn copy_lines<S: ByteSource>(
     reader: &mut Reader,
@@ -86,11 +87,11 @@ fn copy_lines<S: ByteSource>(
         return false;
     }
     let second = second_of_mark(lines.end);
-    let (count, begins) = copied_len(unread.front(source), second, lines.begins);
+    let (text, count, begins) = piece_len(unread.front(source), second, lines.begins);
     if count == 0 {
         return false;
     }
-    let kept = kept_of(lines.name, count);
+    let kept = kept_of(lines.name, text);
     if unread.is_store_full(kept) {
         return false;
     }
@@ -205,6 +206,28 @@ fn kept_of(name: Option<ShortName>, count: usize) -> usize
         None => 0,
         Some(_) => count,
     }
+}
+
+/// How long the text is as which the first of these bytes are copied, how many these are, and
+/// whether a line begins behind them: all that are copied as they stand, and two backslashes behind
+/// them as one.
+#[inline(always)]
+fn piece_len(bytes: &[u8], second: u8, begins: bool) -> (usize, usize, bool)
+    ensures { CopiesTo second begins bytes.now result.2 result.0 result.1 }
+{
+    let (count, last) = copied_len(bytes, second, begins);
+    if is_doubled(bytes.split_at(count).1) {
+        return (count + 1, count + 2, false);
+    }
+    (count, count, last)
+}
+
+/// Whether these bytes begin with two backslashes.
+#[inline(always)]
+fn is_doubled(bytes: &[u8]) -> bool
+    ensures { result ≡ is_doubled bytes.now }
+{
+    matches!(bytes, [b'\\', b'\\', ..])
 }
 
 /// How many of these bytes are copied as they stand, from where a line begins or from within one,
