@@ -59,8 +59,8 @@ pub fn take_lines<S: ByteSource>(
     }
 }
 
-/// Takes bytes together that stand ready where these lines are read, and are copied. Returns whether
-/// it did.
+/// Takes bytes together that stand ready where these lines are read, and are copied. Returns
+/// whether it did.
 #[inline(always)]
 fn copy_lines<S: ByteSource>(
     reader: &mut Reader,
