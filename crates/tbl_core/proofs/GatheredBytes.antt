@@ -23,7 +23,7 @@ pub none_left : (bytes : List ℕ) (next : ℕ) → length bytes ≤ next → dr
 none_left bytes next over = drop_all next bytes over
 
 -- there are some, or none
-cases_list : (bytes : List ℕ) → (bytes ≡ []) ⊎ (1 ≤ length bytes)
+pub cases_list : (bytes : List ℕ) → (bytes ≡ []) ⊎ (1 ≤ length bytes)
 cases_list [] = inl refl
 cases_list (b ∷ bytes) = inr (omega arith)
 

@@ -12,4 +12,5 @@ pub mod Limiting
 pub mod ReadOn
 pub mod Given
 pub mod GatheredBytes
+pub mod Staying
 pub mod AnyMessages

@@ -43,7 +43,7 @@ line-few most bytes =
 abbrev line_at : TblLimits → Count → List ℕ → List ℕ
 line_at l count bytes = take_while is_of_line (take (min most_looked_at (l.bytes - count.taken)) bytes)
 
-passed-within : (l : TblLimits) (count : Count) (front : Front) (bytes : List ℕ) (n : ℕ)
+pub passed-within : (l : TblLimits) (count : Count) (front : Front) (bytes : List ℕ) (n : ℕ)
     → n ≤ length (before_table front (line_at l count bytes))
     → (n ≤ l.bytes - count.taken) × (n ≤ length bytes) × (n ≤ length (line_at l count bytes))
 passed-within l count front bytes n few =

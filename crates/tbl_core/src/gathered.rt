@@ -4,7 +4,7 @@ ghost use Rattle.std.specs.Prelude.{◌≡◌, ◌+◌, ◌<◌, ◌≤◌, ◌+
 ghost use Rattle.std.specs.Prelude.{IfErr, IfOk, false, true};
 ghost use Rattle.roff_num.specs.Faults.{Rises};
 ghost use Rattle.input_source.specs.Tape.{Answers, Ends, Failed, Gives, OneByte, OneNote};
-ghost use Rattle.input_source.specs.Tape.{answer_of};
+ghost use Rattle.input_source.specs.Tape.{StaysReady, answer_of};
 ghost use Rattle.tbl_core.specs.NotesLeft.{gives_byte, notes_left};
 ghost use Rattle.tbl_core.specs.Yields.{at_start};
 
@@ -34,7 +34,8 @@ pub struct GatheredSource<S: ByteSource> {
 
 impl<S: ByteSource> GatheredSource<S> {
     ghost use Rattle.tbl_core.specs.Gathered.{AreGathered, GathersOn, KeepsGiven, StandReady};
-    ghost use Rattle.tbl_core.specs.Gathered.{gathered_gives, inner_of, left_of, tables_of};
+    ghost use Rattle.tbl_core.specs.Gathered.{gathered_gives, gathered_ready, inner_of, left_of};
+    ghost use Rattle.tbl_core.specs.Gathered.{tables_of};
 
     /// A source over `inner`, of which nothing is read yet. The line length is in columns.
     ///
@@ -88,6 +89,8 @@ impl<S: ByteSource> GatheredSource<S> {
         ensures notes { notes_left self.new.source.tables ≤ notes_left self.old.source.tables }
         ensures inner { inner_of self.new ≡ inner_of self.old }
         ensures ready { StandReady self.new }
+        ensures stays { StaysReady 1 (gathered_ready S.ready self.old)
+            (gathered_ready S.ready self.new) }
     {
         let byte = self.gathered[self.next];
         self.next += 1;
@@ -121,6 +124,7 @@ impl<S: ByteSource> GatheredSource<S> {
     #[inline(always)]
     fn gather_more(&mut self)
         ensures kept { KeepsGiven self.old self.new }
+        ensures left { StaysReady 0 (left_of self.old) (left_of self.new) }
         ensures ready { StandReady self.new }
     {
         if self.next >= self.gathered.len() {

@@ -1,9 +1,9 @@
 //! A source over a source: the pictures of the tables stand in their places.
 
 ghost use Rattle.std.specs.Prelude.{◌≡◌, ◌+◌, ◌<◌, ◌≤◌, [], false, true, IfErr, IfOk, IfSome, None};
-ghost use Rattle.std.specs.Prelude.{length, map};
+ghost use Rattle.std.specs.Prelude.{◌∷◌, drop, length, map};
 ghost use Rattle.input_source.specs.Tape.{Answers, Ends, Failed, Gives, OneByte, OneNote};
-ghost use Rattle.input_source.specs.Tape.{answer_of};
+ghost use Rattle.input_source.specs.Tape.{StaysReady, answer_of};
 ghost use Rattle.roff_num.specs.Faults.{Rises};
 ghost use Rattle.tbl_format.specs.Parts.{IsFront};
 ghost use Rattle.tbl_core.specs.NotesLeft.{gives_byte, noted};
@@ -43,7 +43,7 @@ impl<S: ByteSource> Model for TblSource<S> {
 
 impl<S: ByteSource> TblSource<S> {
     ghost use Rattle.tbl_core.specs.NotesLeft.{bytes_left, notes_left};
-    ghost use Rattle.tbl_core.specs.Source.{MayGiveSome, source_gives};
+    ghost use Rattle.tbl_core.specs.Source.{MayGiveSome, source_gives, source_ready};
     ghost use Rattle.tbl_core.specs.Stages.{Takes, TakesOn};
     ghost use Rattle.tbl_core.specs.Tables.{behind_given, line_of, stopped_by};
     ghost use Rattle.tbl_core.specs.Yields.{Continues, at_start};
@@ -145,6 +145,8 @@ impl<S: ByteSource> TblSource<S> {
             self.old.tables.limits self.old.tables.line_length self.old.tables.at
             self.new.tables.at (Gives (OneByte b))) }
         ensures kept { result ≡ None → self.new ≡ self.old }
+        ensures ready { IfSome result (λ b.
+            StaysReady 1 (source_ready S.ready self.old) (source_ready S.ready self.new)) }
         ensures limits { self.new.tables.limits ≡ self.old.tables.limits }
         ensures line_length { self.new.tables.line_length ≡ self.old.tables.line_length }
         ensures notes { notes_left self.new.tables ≤ notes_left self.old.tables }
@@ -159,7 +161,7 @@ impl<S: ByteSource> TblSource<S> {
         if !self.tables.passes_next() {
             return None;
         }
-        match self.inner.ready_byte() {
+        match take_first(&mut self.inner) {
             Some(byte) => {
                 self.tables.byte(byte);
                 Some(byte)
@@ -319,6 +321,29 @@ impl<S: ByteSource> ByteSource for TblSource<S> {
     }
 
     ghost some = { some_given S.gives S.some };
+}
+
+/// Takes the first of the bytes that stand ready, if any does. Otherwise nothing happens.
+#[inline(always)]
+fn take_first<S: ByteSource>(source: &mut S) -> Option<u8>
+    ensures gives { IfSome result (λ b.
+        Answers (S.gives source.old) (S.gives source.new) (Gives (OneByte b))) }
+    ensures first { IfSome result (λ b.
+        S.ready source.old ≡ b ∷ drop 1 (S.ready source.old)) }
+    ensures ready { IfSome result (λ b.
+        StaysReady 1 (S.ready source.old) (S.ready source.new)) }
+    ensures kept { result ≡ None → source.new ≡ source.old }
+    ensures notes { S.notes source.new ≤ S.notes source.old }
+    ensures failures { S.failures source.new ≡ S.failures source.old }
+{
+    match source.buffered() {
+        [first, ..] => {
+            let byte = *first;
+            source.pass(1);
+            Some(byte)
+        }
+        [] => None,
+    }
 }
 
 /// Whether it is a byte.

@@ -1,5 +1,10 @@
-use Rattle.std.proofs.Common.{◌≡◌, ◌<◌, ◌≤◌, arith, length, rules, vec_len}
-use Rattle.tbl_core.proofs.GatheredBytes.{gathered_room, gathered_taken, some_left}
+use Rattle.std.proofs.Common.{◌≡◌, ◌<◌, ◌≤◌, ℕ, List, arith, drop, length, refl, rules, subst, sym, vec_len}
+use Rattle.std.proofs.lemmas.List.{drop-drop}
+use Rattle.input_source.specs.Tape.{StaysReady}
+use Rattle.tbl_core.specs.Gathered.{left_of}
+use Rattle.tbl_core.specs.Source.{source_ready}
+use Rattle.tbl_core.proofs.GatheredBytes.{gathered_room, gathered_taken, none_left, some_left}
+use Rattle.tbl_core.proofs.Staying.{stays_or, stays_source}
 use Rattle.tbl_core.proofs.gathered.GatheredSourceByteSource.pass.Goals as goal
 
 pub overflow_add-self : goal.overflow_add-self
@@ -25,3 +30,22 @@ returns-then-self-len-clause-gives g c =
     let kept = c.gather_more.ensures.kept in
     gathered_taken g.S.ByteSource.gives g.met.S.ByteSource.some g.S.ByteSource.ready now c.gather_more.new.self c.args.count (some_left now.gathered.items now.next more)
     kept.inner kept.tables
+
+pub returns-then-self-len-clause-ready : goal.returns-then-self-len-clause-ready
+returns-then-self-len-clause-ready g c =
+    let now = c.args.self.now in
+    let new = c.gather_more.new.self in
+    let n = c.args.count in
+    let ready = source_ready g.S.ByteSource.ready in
+    let more : now.next < length now.gathered.items = search rules in
+    let left : StaysReady 0 (drop n (left_of now)) (left_of new) =
+    subst (λ (bytes : List ℕ). StaysReady 0 bytes (left_of new)) (sym (drop-drop n now.next now.gathered.items)) c.gather_more.ensures.left in
+    stays_or (left_of now) (ready now.source) (left_of new) (ready new.source) n (some_left now.gathered.items now.next more) left
+
+pub returns-else-self-len-clause-ready : goal.returns-else-self-len-clause-ready
+returns-else-self-len-clause-ready g c =
+    let now = c.args.self.now in
+    let ready = source_ready g.S.ByteSource.ready in
+    let over : length now.gathered.items ≤ now.next = search rules in
+    stays_source (left_of now) (ready now.source) (left_of now) (ready c.pass.new.self) c.args.count
+    (none_left now.gathered.items now.next over) refl c.pass.ensures.ready

@@ -2,10 +2,12 @@ use Rattle.std.proofs.Common.{Some, sym, ap, ◌∙◌, ◌++◌, ◌≡◌, [],
 use Rattle.input_source.specs.Tape.{OneByte}
 use Rattle.tbl_core.specs.Source.{WasAsked}
 use Rattle.tbl_core.specs.NotesLeft.{noted}
+use Rattle.tbl_core.specs.Passing.{passing}
 use Rattle.tbl_core.specs.Tables.{handed}
 use Rattle.tbl_core.proofs.NotesLeft.{few_behind_byte}
 use Rattle.tbl_core.proofs.Answering.{byte_given, byte_takes}
 use Rattle.tbl_core.proofs.Ready.{byte_answers, byte_length, byte_limits, byte_takes_now, passes_reads, sourced_behind}
+use Rattle.tbl_core.proofs.Staying.{given_stays, next_stays}
 use Rattle.tbl_core.proofs.Turning.{byte_goes_on, first_given}
 use Rattle.tbl_core.proofs.source.TblSource.take_ready.Goals as goal
 
@@ -80,3 +82,20 @@ returns-then-self-clause-limits g c =
 pub returns-then-self-clause-line_length : goal.returns-then-self-clause-line_length
 returns-then-self-clause-line_length g c =
     rw (← c.self.view_is) (byte_length c.self.inside.tables c.next_byte.new.self c.next_byte.result c.next_byte.ensures)
+
+pub returns-then-self-clause-ready : goal.returns-then-self-clause-ready
+returns-then-self-clause-ready g c =
+    let t = c.self.inside.tables in
+    let new = c.next_byte.new.self in
+    let ready = g.S.ByteSource.ready c.self.inside.inner in
+    rw (← c.self.view_is)
+    (given_stays t new c.self.inside.idle c.next_byte.result (passing t.limits t.at.standing ready)
+    (passing new.limits new.at.standing ready) c.self.invariant.idles c.next_byte.ensures)
+
+pub returns-in-Some-clause-ready : goal.returns-in-Some-clause-ready
+returns-in-Some-clause-ready g c =
+    let ready = g.S.ByteSource.ready c.self.inside.inner in
+    let after = g.S.ByteSource.ready c.take_first.new.source in
+    rw (← c.self.view_is)
+    (next_stays c.self.inside.tables c.byte.new.self c.self.inside.idle c.in-Some.byte ready after c.if-not-self.false
+    (sym c.if-not-passes_next.ensures) c.byte.ensures.behind c.byte.ensures.limits c.in-Some.ensures.first c.in-Some.ensures.ready)

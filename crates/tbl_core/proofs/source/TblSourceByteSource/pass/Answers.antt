@@ -2,6 +2,7 @@ use Rattle.std.proofs.Common.{◌≡◌, ◌≤◌, ◌∙◌, ℕ, List, length
 use Rattle.tbl_core.specs.Passing.{DoPass}
 use Rattle.tbl_core.specs.Source.{WasAsked, source_ready}
 use Rattle.tbl_core.proofs.Ready.{behind_passed, ready_idle, ready_passes, ready_taken, still_idle, still_quiet}
+use Rattle.tbl_core.proofs.Staying.{passed_stays}
 use Rattle.tbl_core.proofs.source.TblSourceByteSource.pass.Goals as goal
 
 pub pass-requires : goal.pass-requires
@@ -44,3 +45,15 @@ returns-clause-gives g c =
     let front = take c.args.count ready in
     rw (← c.self.view_is)
     (ready_taken t c.pass.new.self _ front _ _ known.first none known.do_pass behind c.pass-2.ensures.gives)
+
+pub returns-clause-ready : goal.returns-clause-ready
+returns-clause-ready g c =
+    let t = c.self.inside.tables in
+    let ready = g.S.ByteSource.ready c.self.inside.inner in
+    let within =
+    subst (λ s. c.args.count ≤ length (source_ready g.S.ByteSource.ready s)) (sym c.self.view_is) c.requires.within in
+    let bytes = c.at_most.ensures ∙ ap (take c.args.count) c.buffered.ensures in
+    let behind = subst (λ (front : List ℕ). c.pass.new.self ≡ behind_passed front t) bytes c.pass.ensures in
+    let after = g.S.ByteSource.ready c.pass-2.new.self in
+    rw (← c.self.view_is)
+    (passed_stays t c.pass.new.self c.self.inside.idle ready after c.args.count c.requires.some within behind c.pass-2.ensures.ready)
