@@ -18,7 +18,7 @@ import tempfile
 
 TOP = pathlib.Path(__file__).resolve().parent.parent
 PASSING, FRONTS, BEGINNINGS = ("run_shortcuts/src/" + name for name in ("passing.rt", "fronts.rt", "beginnings.rt"))
-UNFILLED, LINE_ENDS, GLYPHS = ("run_shortcuts/src/" + name for name in ("unfilled.rt", "line_ends.rt", "glyphs.rt"))
+UNFILLED, LINE_ENDS, GLYPHS, ARGUMENTS = ("run_shortcuts/src/" + name for name in ("unfilled.rt", "line_ends.rt", "glyphs.rt", "arguments.rt"))
 # A name, what is taken at once, the file, what stands there once, and what does without the shortcut.
 SHORTCUTS = (
     ("text_lines", "lines of text up to their newlines, where words aren't measured", UNFILLED,
@@ -34,20 +34,23 @@ SHORTCUTS = (
      "        Behind::Named => read_named(run, source),\n", "        Behind::Named => read_escape(run, source),\n"),
     ("first_names", "registers, strings and arguments behind text that a line begins with", BEGINNINGS,
      "        Behind::Named => {\n            let _ = take_named(run, source);\n            Passed::On\n        }\n", ""),
-    ("control_lines", "fronts of control lines", PASSING, "        pass_control_line(run, source, out, err)\n", "        Ok(pass_line(run, source))\n"),
+    ("control_lines", "fronts of control lines", PASSING, "        pass_control_line(run, source, out, err)\n", "        pass_line(run, source, out, err)\n"),
     ("short_names", "names of one byte on control lines", PASSING,
      "        ControlRead::Short => pass_short_name(run, source, out, err),\n", "        ControlRead::Short => Ok(false),\n"),
     ("first_strings", "strings that a line begins with", PASSING, "        ControlRead::Escape => Ok(put_string(run, source)),\n", "        ControlRead::Escape => Ok(false),\n"),
     ("arguments_behind_names", "registers, strings and arguments among a request's arguments", PASSING,
-     "        ControlRead::HeldToEscape => Ok(hold_on(run, None, source)),\n", "        ControlRead::HeldToEscape => Ok(false),\n"),
+     "        ControlRead::HeldToEscape => pass_named(run, None, source, out, err),\n", "        ControlRead::HeldToEscape => Ok(false),\n"),
     ("calls_behind_names", "registers, strings and arguments among those of a call", PASSING,
-     "        ControlRead::HeldForCall => Ok(hold_call_on(run, CALL_ARGUMENTS - 1, source)),\n", "        ControlRead::HeldForCall => Ok(false),\n"),
+     "        ControlRead::HeldForCall => {\n            pass_call_named(run, CALL_ARGUMENTS - 1, source, out, err)\n        }\n", "        ControlRead::HeldForCall => Ok(false),\n"),
     ("returns", "ends of calls", PASSING, "        ControlRead::Nothing => Ok(pass_return(run)),\n", "        ControlRead::Nothing => Ok(false),\n"),
     ("branch_blanks", "blanks in front of a branch", PASSING, "    take_branch_blanks(run, source);\n", ""),
     ("dropped", "lines that are dropped", PASSING, "        RunKind::Dropped { within_block } => pass_dropped(run, within_block, source),\n", ""),
     ("conditions", "conditions", PASSING, "        RunKind::Condition => pass_condition(run, source),\n", ""),
-    ("held", "arguments of requests", PASSING, "        RunKind::Arguments => hold_line(run, None, source),\n", ""),
-    ("held_for_calls", "arguments of calls", PASSING, "        RunKind::CallArguments(most) => hold_call(run, most, source),\n", ""),
+    ("held", "arguments of requests", PASSING, "        Some(RunKind::Arguments) => pass_request(run, source, out, err),\n", ""),
+    ("held_for_calls", "arguments of calls", PASSING, "        Some(RunKind::CallArguments(most)) => pass_call(run, most, source, out, err),\n", ""),
+    ("comments", "comments behind arguments", ARGUMENTS,
+     "    if !take_comment(&run.interpreter.reader, &mut run.unread, source) {\n        return Ok(pass_end(run));\n    }\n    end_control_line(run, out, err)\n",
+     "    Ok(pass_end(run))\n"),
     ("runs", "bytes of names, definitions and what is ignored", PASSING,
      "        _ => {\n            take_run(run, kind, source);\n            false\n        }\n", "        _ => false,\n"),
     ("copied_lines", "lines of definitions, and ignored ones", PASSING,

@@ -46,8 +46,8 @@ use Rattle.run_turns.proofs.TurnsLeft.{turns_of_run-fewer}
 use Rattle.run_items.proofs.HalfEnded.{FewBehind, decided-at_once, expression-at_once, unread-read, ahead-read, waits-deciding, decides-deciding}
 use Rattle.run_turns.proofs.ComingFurther.{comes_further, comes_none}
 
-module _ (old new : Coded) (none_due : due old.interpreter.reader.reading ≡ None) (ends : EndsAtOnce old new) (some : 1 ≤ length old.unread.input.escapes)
-    (reads_on : (tape : Tape) (h : PageHistory) (messages : List ℕ)
+module _ (gave : Tape → Type 0) (old new : Coded) (none_due : due old.interpreter.reader.reading ≡ None) (ends : EndsAtOnce old new) (some : 1 ≤ length old.unread.input.escapes)
+    (reads_on : (tape : Tape) → gave tape → (h : PageHistory) (messages : List ℕ)
     → let s : State = state_at tape old h messages in item_read old.limits s ≡ made old.limits s (escape_ends s))
     (few_behind : FewBehind old.interpreter.reader.reading old.unread.input) where
   -- what is read and the input behind it
@@ -58,8 +58,8 @@ module _ (old new : Coded) (none_due : due old.interpreter.reader.reading ≡ No
   left = new.unread.input
 
   -- the run is at its place there
-  IsAt-ended : (whole : Beginning) (tape : Tape) (start now : Seen) → IsAt whole tape start now old → IsAt whole tape start now new
-  IsAt-ended whole tape start now at =
+  IsAt-ended : (whole : Beginning) (tape : Tape) (start now : Seen) → gave tape → IsAt whole tape start now old → IsAt whole tape start now new
+  IsAt-ended whole tape start now given at =
       let l : Limits = old.unread.limits in
       let rs : AllRegisters = old.interpreter.reader.registers.all in
       let there : PageUnread = record old.unread { input = left } in
@@ -72,7 +72,7 @@ module _ (old new : Coded) (none_due : due old.interpreter.reader.reading ≡ No
       let leads : Leads old.limits s t = record {
         steps = suc zero;
         there = step-reads old.limits s refl refl refl none_due
-            ∙ reads_on tape at.history at.messages
+            ∙ reads_on tape given at.history at.messages
             ∙ ap (λ (done : State). made old.limits s done) meant
             ∙ ap (λ (r : Option Limit). unless_refused old.limits r s t) (subst (λ (k : Limits). first_passed k (counts_in rs left) ≡ None) at.limits fits);
       } in
@@ -93,14 +93,14 @@ module _ (old new : Coded) (none_due : due old.interpreter.reader.reading ≡ No
       (turns_within-escape_ended bytes k old.interpreter.reader.reading old.unread.input some) in
       subst (λ (run : Coded). turns_left run < turns_left old) (sym ends.is) (omega (arith, less))
 
-  goes_further_at_once : (gave : Tape → Type 0) (notes : ℕ) (now : Seen) → GoesPast true gave gave notes notes old new now now
-  goes_further_at_once gave notes now =
+  pub goes_further_at_once : (notes : ℕ) (now : Seen) → GoesPast true gave gave notes notes old new now now
+  goes_further_at_once notes now =
       let behind = turns_of_run-fewer old new fewer-ended (ap (λ (run : Coded). run.phase) ends.is) in
       record {
         limits = ap (λ (run : Coded). run.limits) ends.is;
         taken = [];
         before = λ t given. given;
-        comes = λ t tape start given at any. IsAt-ended t tape start now at;
+        comes = λ t tape start given at any. IsAt-ended t tape start now given at;
         turns = λ t tape start given at any. omega (arith, behind);
       }
 
@@ -112,9 +112,9 @@ goes_further_decided old new true none_due decided ends kept gave notes now =
     let is : waiting_in old.interpreter.reader.reading old.unread.input ≡ Decides = decided refl in
     let stays : is_ended_by old.unread.input.escapes None ≡ true =
     ended-deciding old.interpreter.reader.reading old.unread.input.arguments.place old.unread.input.escapes None (ap decides is) in
-    goes_further_at_once old new none_due (ends refl) (length-is_ended_by old.unread.input.escapes None stays)
-    (λ tape h messages. ap (λ (w : Waiting). read_waiting old.limits w (state_at tape old h messages)) is)
-    (λ k few. few-unseen k old.interpreter.reader.reading old.unread.input stays few) gave notes now
+    goes_further_at_once gave old new none_due (ends refl) (length-is_ended_by old.unread.input.escapes None stays)
+    (λ tape given h messages. ap (λ (w : Waiting). read_waiting old.limits w (state_at tape old h messages)) is)
+    (λ k few. few-unseen k old.interpreter.reader.reading old.unread.input stays few) notes now
 goes_further_decided old new false none_due decided ends kept gave notes now =
     subst (λ (run : Coded). GoesPast false gave gave notes notes old run now now) (sym (kept refl)) (comes_none gave notes old now)
 
@@ -124,13 +124,13 @@ pub goes_past_expression : (old new : Coded) (is_ended : Bool) (b : ℕ) → due
     → (is_ended ≡ true → EndsAtOnce old new) → (is_ended ≡ false → new ≡ old)
     → (gave : Tape → Type 0) (notes : ℕ) (now : Seen) → GoesPast false gave gave notes notes old new now now
 goes_past_expression old new true b none_due waits sees stays ends kept gave notes now =
-    comes_further (goes_further_at_once old new none_due (ends refl) (length-is_ended_by old.unread.input.escapes (Some b) stays)
-    (λ tape h messages.
+    comes_further (goes_further_at_once gave old new none_due (ends refl) (length-is_ended_by old.unread.input.escapes (Some b) stays)
+    (λ tape given h messages.
     let s : State = state_at tape old h messages in
     ap (λ (w : Waiting). read_waiting old.limits w s) waits
     ∙ ap (λ (o : Option Sighted). awaited old.limits o s) sees
     ∙ ap (λ (c : Bool). if c then made old.limits s (escape_ends s) else in_front_taken old.limits s.input.ahead s) stays)
-    (λ k few. few-seen_ended k old.interpreter.reader.reading old.unread.input (few-seen 5 b old.unread.input.ahead few.few sees)) gave notes now)
+    (λ k few. few-seen_ended k old.interpreter.reader.reading old.unread.input (few-seen 5 b old.unread.input.ahead few.few sees)) notes now)
 goes_past_expression old new false b none_due waits sees stays ends kept gave notes now =
     subst (λ (run : Coded). GoesPast false gave gave notes notes old run now now) (sym (kept refl)) (comes_none gave notes old now)
 

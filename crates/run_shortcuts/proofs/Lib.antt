@@ -20,3 +20,4 @@ pub mod ConditionsAtOnce
 pub mod SteppedRegisters
 pub mod LinesAtOnce
 pub mod SilentBegun
+pub mod CommentsEnded

@@ -6,7 +6,6 @@ ghost use Rattle.read_shortcuts.specs.Registers.{IsTextAhead};
 ghost use Rattle.run_shortcuts.specs.Beginning.{TellsText};
 ghost use Rattle.read_shortcuts.specs.Runs.{IsRun, ready_allowed, run_holding};
 ghost use Rattle.input_model.specs.Unread.{asks_to_take};
-ghost use Rattle.roff_scan.specs.declared.run_kind.RunKind.TheVariants.{CallArguments};
 ghost use Rattle.roff_scan.specs.declared.run_kind.RunKind.TheVariants.{Text as TextRun};
 ghost use Rattle.run_turns.specs.Running.Turning.{GoesPastOver};
 
@@ -86,26 +85,6 @@ fn take_arguments<S: ByteSource>(run: &mut Running, most: Option<usize>, source:
     ensures reads { run.new.interpreter ≡ run.old.interpreter }
 {
     read_shortcuts::take_arguments(&run.interpreter.reader, most, &mut run.unread, source)
-}
-
-/// What [`hold_on`] does on a line that calls a body.
-#[inline(never)]
-pub(crate) fn hold_call_on<S: ByteSource>(run: &mut Running, most: usize, source: &mut S) -> bool
-    requires { IsRun (CallArguments most) run.old.interpreter.reader.reading
-        run.old.unread.input.escapes }
-    ensures { GoesPastOver S.ByteSource result source.old source.new run.old run.new }
-{
-    hold_on(run, Some(most), source)
-}
-
-/// What [`hold_line`] does on a line that calls a body.
-#[inline(never)]
-pub(crate) fn hold_call<S: ByteSource>(run: &mut Running, most: usize, source: &mut S) -> bool
-    requires { IsRun (CallArguments most) run.old.interpreter.reader.reading
-        run.old.unread.input.escapes }
-    ensures { GoesPastOver S.ByteSource result source.old source.new run.old run.new }
-{
-    hold_line(run, Some(most), source)
 }
 
 /// Takes bytes together that stand in front and are held in arguments, and then the escape of a

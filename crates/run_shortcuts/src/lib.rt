@@ -2,6 +2,7 @@
 //! They lead to where as many single turns do.
 #![tactic(auto)]
 
+mod arguments;
 mod beginnings;
 mod conditions;
 mod copied;

@@ -12,11 +12,12 @@ ghost use Rattle.roff_scan.specs.Unread.Calls.{PassesEnd, PassesReturn};
 ghost use Rattle.run_shortcuts.specs.Clauses.{due, waiting_in};
 ghost use Rattle.run_turns.specs.Running.Turning.{ComesOver, GoesPastOver, going_on, says_fewer};
 
+use crate::arguments::{end_comment, pass_call, pass_call_named, pass_named, pass_request};
 use crate::conditions::pass_condition;
 use crate::copied::{copy_run, take_lines};
 use crate::fronts::{
-    hold_call, hold_call_on, hold_line, hold_on, put_string, take_branch_blanks, take_run,
-    take_string_front, take_string_name, take_title_front, tell_line,
+    put_string, take_branch_blanks, take_run, take_string_front, take_string_name,
+    take_title_front, tell_line,
 };
 use crate::line_ends::end_control_line;
 use page_bytes::{ByteSink, MessageSink};
@@ -45,7 +46,7 @@ pub fn pass_over<S: ByteSource, O: ByteSink, E: MessageSink>(
     if begins_control_line(&run.interpreter.reader) && !run.unread.has_open_escape() {
         pass_control_line(run, source, out, err)
     } else {
-        Ok(pass_line(run, source))
+        pass_line(run, source, out, err)
     }
 }
 
@@ -96,13 +97,13 @@ fn pass_control_front<S: ByteSource, O: ByteSink, E: MessageSink>(
         ControlRead::Nothing => Ok(pass_return(run)),
         ControlRead::Escape => Ok(put_string(run, source)),
         ControlRead::Short => pass_short_name(run, source, out, err),
-        ControlRead::Front => Ok(pass_behind_front(run, source)),
+        ControlRead::Front => pass_behind_front(run, source, out, err),
         ControlRead::Dropped => Ok(true),
         ControlRead::Condition => Ok(pass_condition(run, source)),
         ControlRead::Decided => Ok(true),
-        ControlRead::Held => Ok(pass_end(run)),
-        ControlRead::HeldToEscape => Ok(hold_on(run, None, source)),
-        ControlRead::HeldForCall => Ok(hold_call_on(run, CALL_ARGUMENTS - 1, source)),
+        ControlRead::Held => end_comment(run, source, out, err),
+        ControlRead::HeldToEscape => pass_named(run, None, source, out, err),
+        ControlRead::HeldForCall => { pass_call_named(run, CALL_ARGUMENTS - 1, source, out, err) }
         ControlRead::HeldToEnd => end_control_line(run, out, err),
     }
 }
@@ -126,17 +127,25 @@ fn pass_short_name<S: ByteSource, O: ByteSink, E: MessageSink>(
     match read_short_front(&mut run.interpreter.reader, &mut run.unread, source) {
         ControlRead::HeldToEnd => end_control_line(run, out, err),
         ControlRead::Dropped => Ok(true),
-        _ => Ok(pass_behind_front(run, source)),
+        ControlRead::Held => end_comment(run, source, out, err),
+        _ => pass_behind_front(run, source, out, err),
     }
 }
 
 /// What [`pass_line`] does. A function of its own, as what it does in place is then put into place
 /// too.
 #[inline(never)]
-fn pass_behind_front<S: ByteSource>(run: &mut Running, source: &mut S) -> bool
-    ensures { GoesPastOver S.ByteSource result source.old source.new run.old run.new }
+fn pass_behind_front<S: ByteSource, O: ByteSink, E: MessageSink>(
+    run: &mut Running,
+    source: &mut S,
+    out: &mut O,
+    err: &mut E,
+) -> Result<bool, Status>
+    ensures { ComesOver S.ByteSource O.ByteSink E.MessageSink (says_fewer result)
+        source.old source.new out.old out.new err.old err.new
+        run.old run.new (going_on result) }
 {
-    pass_line(run, source)
+    pass_line(run, source, out, err)
 }
 
 /// Takes the end of a call at once, if it stands in front. Returns whether it did.
@@ -165,18 +174,34 @@ fn pass_return(run: &mut Running) -> bool
 /// Takes bytes in front that do alike, and then the newline or the end of a text behind them.
 /// Returns whether it took that.
 #[inline(always)]
-fn pass_line<S: ByteSource>(run: &mut Running, source: &mut S) -> bool
-    ensures { GoesPastOver S.ByteSource result source.old source.new run.old run.new }
+fn pass_line<S: ByteSource, O: ByteSink, E: MessageSink>(
+    run: &mut Running,
+    source: &mut S,
+    out: &mut O,
+    err: &mut E,
+) -> Result<bool, Status>
+    ensures { ComesOver S.ByteSource O.ByteSink E.MessageSink (says_fewer result)
+        source.old source.new out.old out.new err.old err.new
+        run.old run.new (going_on result) }
 {
     match run_kind(&run.interpreter.reader, &run.unread) {
-        Some(kind) => pass_run(run, kind, source),
-        None => {
-            if begins_apart(&run.interpreter.reader) {
-                pass_apart(run, source)
-            } else {
-                pass_end(run)
-            }
-        }
+        Some(RunKind::Arguments) => pass_request(run, source, out, err),
+        Some(RunKind::CallArguments(most)) => pass_call(run, most, source, out, err),
+        Some(kind) => Ok(pass_run(run, kind, source)),
+        None => Ok(pass_no_run(run, source)),
+    }
+}
+
+/// Takes what [`pass_apart`] does where such may stand in front, or else the end of a text. Returns
+/// whether it took any of these but bytes.
+#[inline(always)]
+fn pass_no_run<S: ByteSource>(run: &mut Running, source: &mut S) -> bool
+    ensures { GoesPastOver S.ByteSource result source.old source.new run.old run.new }
+{
+    if begins_apart(&run.interpreter.reader) {
+        pass_apart(run, source)
+    } else {
+        pass_end(run)
     }
 }
 
@@ -224,8 +249,6 @@ fn take_bytes<S: ByteSource>(run: &mut Running, kind: RunKind, source: &mut S) -
 {
     match kind {
         RunKind::Text => tell_line(run, source),
-        RunKind::Arguments => hold_line(run, None, source),
-        RunKind::CallArguments(most) => hold_call(run, most, source),
         RunKind::Definition => copy_run(run, kind, source),
         RunKind::Ignored => copy_run(run, kind, source),
         _ => {

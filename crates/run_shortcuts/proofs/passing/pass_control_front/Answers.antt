@@ -8,7 +8,7 @@ use Rattle.run_turns.proofs.ComingFurther.{comes_any}
 use Rattle.run_shortcuts.proofs.ConditionsAtOnce.{goes_further_at_once}
 use Rattle.run_shortcuts.proofs.ControlsRead.{comes_behind, comes_unread}
 use Rattle.run_shortcuts.proofs.LinesEnded.{comes-line}
-use Rattle.run_shortcuts.proofs.PassingEnds.{goes_further_passed, goes_further_returned}
+use Rattle.run_shortcuts.proofs.PassingEnds.{goes_further_returned}
 use Rattle.run_shortcuts.proofs.PassingOn.{goes_further_begun}
 use Rattle.page_bytes.specs.Told.{told_by}
 use Rattle.run_shortcuts.proofs.passing.pass_control_front.Goals as goal
@@ -19,7 +19,7 @@ returns-in-Front g c =
     let out = g.O.ByteSink.sunk c.args.out.now in
     let err = told_by g.E.MessageSink c.args.err.now in
     comes_behind g.S.ByteSource c.args.source.now read.new.source out err c.args.run.now read.new.unread read.new.reader _ read.ensures.read _ _ _ _ _
-    (c.pass_behind_front.ensures out err) (ap is_past c.in-Front.is)
+    c.pass_behind_front.ensures (ap is_past c.in-Front.is)
 
 pub returns-in-Dropped : goal.returns-in-Dropped
 returns-in-Dropped g c =
@@ -34,11 +34,10 @@ returns-in-Held g c =
     let out = g.O.ByteSink.sunk c.args.out.now in
     let err = told_by g.E.MessageSink c.args.err.now in
     comes_behind g.S.ByteSource c.args.source.now read.new.source out err c.args.run.now read.new.unread read.new.reader _ read.ensures.read _ _ _ _ _
-    (let ends = c.pass_end.ensures in
-    goes_further_passed _ _ _ ends.none_due ends.takes ends.passes ends.within ends.unchanged ends.others _ _ _) (ap is_past c.in-Held.is)
+    c.end_comment.ensures (ap is_past c.in-Held.is)
 
-pub hold_on-requires : goal.hold_on-requires
-hold_on-requires g c = c.read_control_front.ensures.read.escape c.in-HeldToEscape.is
+pub pass_named-requires : goal.pass_named-requires
+pass_named-requires g c = c.read_control_front.ensures.read.escape c.in-HeldToEscape.is
 
 pub returns-in-HeldToEscape : goal.returns-in-HeldToEscape
 returns-in-HeldToEscape g c =
@@ -46,10 +45,10 @@ returns-in-HeldToEscape g c =
     let out = g.O.ByteSink.sunk c.args.out.now in
     let err = told_by g.E.MessageSink c.args.err.now in
     comes_behind g.S.ByteSource c.args.source.now read.new.source out err c.args.run.now read.new.unread read.new.reader _ read.ensures.read _ _ _ _ _
-    (c.hold_on.ensures out err) (ap is_past c.in-HeldToEscape.is)
+    c.pass_named.ensures (ap is_past c.in-HeldToEscape.is)
 
-pub hold_call_on-requires : goal.hold_call_on-requires
-hold_call_on-requires g c = c.read_control_front.ensures.read.call c.in-HeldForCall.is
+pub pass_call_named-requires : goal.pass_call_named-requires
+pass_call_named-requires g c = c.read_control_front.ensures.read.call c.in-HeldForCall.is
 
 pub returns-in-HeldForCall : goal.returns-in-HeldForCall
 returns-in-HeldForCall g c =
@@ -57,7 +56,7 @@ returns-in-HeldForCall g c =
     let out = g.O.ByteSink.sunk c.args.out.now in
     let err = told_by g.E.MessageSink c.args.err.now in
     comes_behind g.S.ByteSource c.args.source.now read.new.source out err c.args.run.now read.new.unread read.new.reader _ read.ensures.read _ _ _ _ _
-    (c.hold_call_on.ensures out err) (ap is_past c.in-HeldForCall.is)
+    c.pass_call_named.ensures (ap is_past c.in-HeldForCall.is)
 
 pub returns-in-HeldToEnd : goal.returns-in-HeldToEnd
 returns-in-HeldToEnd g c =

@@ -1,7 +1,8 @@
-use Rattle.run_shortcuts.proofs.PassingEnds.{goes_further_passed}
+use Rattle.page_bytes.specs.Told.{told_by}
 use Rattle.run_shortcuts.proofs.passing.pass_line.Goals as goal
 
-pub returns-else-begins_apart : goal.returns-else-begins_apart
-returns-else-begins_apart g c = λ out err.
-    let ends = c.pass_end.ensures in
-    goes_further_passed _ _ _ ends.none_due ends.takes ends.passes ends.within ends.unchanged ends.others _ _ _
+pub returns-in-Some : goal.returns-in-Some
+returns-in-Some g c = c.pass_run.ensures (g.O.ByteSink.sunk c.args.out.now) (told_by g.E.MessageSink c.args.err.now)
+
+pub returns-in-None : goal.returns-in-None
+returns-in-None g c = c.pass_no_run.ensures (g.O.ByteSink.sunk c.args.out.now) (told_by g.E.MessageSink c.args.err.now)

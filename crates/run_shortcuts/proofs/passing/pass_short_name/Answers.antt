@@ -1,7 +1,7 @@
 use Rattle.read_shortcuts.specs.ControlFronts.{is_past}
 use Rattle.std.proofs.Common.{ap}
 use Rattle.run_turns.proofs.ComingFurther.{comes_any}
-use Rattle.run_shortcuts.proofs.ControlsRead.{comes_other}
+use Rattle.run_shortcuts.proofs.ControlsRead.{comes_behind, comes_other}
 use Rattle.run_shortcuts.proofs.LinesEnded.{comes-line}
 use Rattle.run_shortcuts.proofs.PassingOn.{goes_further_begun}
 use Rattle.page_bytes.specs.Told.{told_by}
@@ -22,10 +22,18 @@ returns-in-Dropped g c =
     let read = c.read_short_front.ensures.read c.args.run.now.interpreter.formatter.composer in
     goes_further_begun _ _ _ _ _ _ out err c.args.run.now _ _ (read.past (ap is_past c.in-Dropped.is)) (read.dropped c.in-Dropped.is) read.notes read.failures
 
+pub returns-in-Held : goal.returns-in-Held
+returns-in-Held g c =
+    let read = c.read_short_front in
+    let out = g.O.ByteSink.sunk c.args.out.now in
+    let err = told_by g.E.MessageSink c.args.err.now in
+    comes_behind g.S.ByteSource c.args.source.now read.new.source out err c.args.run.now read.new.unread read.new.reader _
+    (read.ensures.read c.args.run.now.interpreter.formatter.composer) _ _ _ _ _ c.end_comment.ensures (ap is_past c.in-Held.is)
+
 pub returns-in_default : goal.returns-in_default
 returns-in_default g c =
     let read = c.read_short_front in
     let out = g.O.ByteSink.sunk c.args.out.now in
     let err = told_by g.E.MessageSink c.args.err.now in
     comes_other g.S.ByteSource c.args.source.now read.new.source out err c.args.run.now read.new.unread read.new.reader _
-    (read.ensures.read c.args.run.now.interpreter.formatter.composer) _ _ _ _ _ (c.pass_behind_front.ensures out err) c.in_default.not-HeldToEnd
+    (read.ensures.read c.args.run.now.interpreter.formatter.composer) _ _ _ _ _ c.pass_behind_front.ensures c.in_default.not-HeldToEnd
