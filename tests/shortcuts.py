@@ -41,7 +41,7 @@ SHORTCUTS = (
     ("arguments_behind_names", "registers, strings and arguments among a request's arguments", PASSING,
      "        ControlRead::HeldToEscape => pass_named(run, None, source, out, err),\n", "        ControlRead::HeldToEscape => Ok(false),\n"),
     ("calls_behind_names", "registers, strings and arguments among those of a call", PASSING,
-     "        ControlRead::HeldForCall => {\n            pass_call_named(run, CALL_ARGUMENTS - 1, source, out, err)\n        }\n", "        ControlRead::HeldForCall => Ok(false),\n"),
+     "        ControlRead::HeldForCall => pass_call_named(run, CALL_ARGUMENTS - 1, source, out, err),\n", "        ControlRead::HeldForCall => Ok(false),\n"),
     ("returns", "ends of calls", PASSING, "        ControlRead::Nothing => Ok(pass_return(run)),\n", "        ControlRead::Nothing => Ok(false),\n"),
     ("branch_blanks", "blanks in front of a branch", PASSING, "    take_branch_blanks(run, source);\n", ""),
     ("dropped", "lines that are dropped", PASSING, "        RunKind::Dropped { within_block } => pass_dropped(run, within_block, source),\n", ""),

@@ -103,7 +103,7 @@ fn pass_control_front<S: ByteSource, O: ByteSink, E: MessageSink>(
         ControlRead::Decided => Ok(true),
         ControlRead::Held => end_comment(run, source, out, err),
         ControlRead::HeldToEscape => pass_named(run, None, source, out, err),
-        ControlRead::HeldForCall => { pass_call_named(run, CALL_ARGUMENTS - 1, source, out, err) }
+        ControlRead::HeldForCall => pass_call_named(run, CALL_ARGUMENTS - 1, source, out, err),
         ControlRead::HeldToEnd => end_control_line(run, out, err),
     }
 }
