@@ -20,7 +20,7 @@ use Rattle.tbl_options.specs.Messages.{told_item, told_items}
 use Rattle.tbl_core.specs.NotesLeft.{most_behind, most_here, noted, notes_left}
 use Rattle.tbl_table.specs.Reading.{Reading, begun, byte_read, bytes_read, given_at_end, last_read, limit_at_end, line_ended, told_behind}
 use Rattle.tbl_table.specs.MayTell.{may_cut, may_tell}
-use Rattle.tbl_table.specs.Table.{TableRead, closed, is_bad, line_read, notes, told_at_cut}
+use Rattle.tbl_table.specs.Table.{TableRead, is_bad, line_read, notes, told_at_cut}
 use Rattle.tbl_core.specs.Tables.{TablesState, IsGiven, byte_step, ending_step, handed}
 use Rattle.tbl_core.specs.Yields.{behind_step}
 use Rattle.tbl_table.proofs.FewNotes.{few_at_cut, few_at_end, few_behind_line, few_closed, one_at_first}

@@ -1,19 +1,19 @@
 -- What stood ready behind bytes that were taken stands ready still.
 use Rattle.std.proofs.Common.{◌≡◌, ◌⊎◌, inl, inr, ◌&&◌, ◌∙◌, ℕ, ◌+◌, ◌-◌, ◌<◌, ◌≤◌, min, nat_le, nat_lt, suc, zero, Bool, true, false, if◌then◌else◌}
-use Rattle.std.proofs.Common.{List, [], ◌∷◌, ◌++◌, Option, Some, None, IfSome, length, map, take, drop, get_or, refl, sym, ap, subst, arith, append-nil}
+use Rattle.std.proofs.Common.{List, [], ◌∷◌, ◌++◌, Option, Some, None, IfSome, length, take, drop, refl, sym, ap, subst, arith}
 use Rattle.std.proofs.Math.Bool.{and-true}
 use Rattle.std.specs.List.{take_while}
 use Rattle.std.specs.Option.{MatchOption}
 use Rattle.std.proofs.lemmas.Bool.Decides.{nat_tests}
 use Rattle.std.proofs.lemmas.List.{length-append, length-take-le}
 use Rattle.std.proofs.lemmas.List.Sums.{take_while-cons}
-use Rattle.input_source.specs.Tape.{Item, OneByte, Tape, Answers, Gives, StaysReady, Took}
+use Rattle.input_source.specs.Tape.{OneByte, StaysReady}
 use Rattle.tbl_format.specs.declared.limits.TblLimits.{TblLimits}
 use Rattle.tbl_core.specs.declared.place.Count.{Count}
 use Rattle.tbl_core.specs.declared.place.Front.{Front}
 use Rattle.tbl_core.specs.Gathered.{bytes_or}
-use Rattle.tbl_core.specs.Lines.{counted, ends_name, front_behind, is_name, line_counted, start_letter}
-use Rattle.tbl_core.specs.Machine.{Place, Outside, RestOfStart, Inside, Standing, Reads, Over, Step}
+use Rattle.tbl_core.specs.Lines.{counted, ends_name, front_behind, is_name, start_letter}
+use Rattle.tbl_core.specs.Machine.{Place, Outside, RestOfStart, Inside, Standing, Reads, Over}
 use Rattle.tbl_core.specs.Machine.{on_start_line, stops, take_at}
 use Rattle.roff_num.specs.declared.limit.Limit.TheVariants.{TblBytes}
 use Rattle.tbl_core.specs.Passing.{before_table, front_over, is_of_line, most_looked_at, passed, passes_next, passing, passing_in}
@@ -192,18 +192,6 @@ pub given_stays : (old new : TablesState) (idle : Bool) (next : Option ℕ) (bef
     → IfSome next (λ b. StaysReady 1 (if idle then before else []) (if idle then after else []))
 given_stays old new idle None before after none given = tt
 given_stays old new idle (Some b) before after none given = given_none old new idle b before after none given
-
--- the first of the bytes that stood ready was given
-pub first_split : (bytes : List ℕ) → 1 ≤ length bytes → bytes ≡ get_or bytes 0 0 ∷ drop 1 bytes
-first_split [] some = absurd (omega (arith, some))
-first_split (b ∷ bytes) some = refl
-
-pub first_answers : (old new : Tape → Type 0) (b : ℕ) (bytes : List ℕ) → bytes ≡ b ∷ drop 1 bytes
-    → Took old new (map OneByte (take 1 bytes)) → Answers old new (Gives (OneByte b))
-first_answers old new b bytes first took =
-    let one : map OneByte (take 1 bytes) ≡ OneByte b ∷ [] = ap (λ (all : List ℕ). map OneByte (take 1 all)) first in
-    let gave : Took old new (OneByte b ∷ []) = subst (λ (items : List Item). Took old new items) one took in
-    record { before = gave.before; final = λ ending is. cc; some = gave.some; some_given = gave.some_given }
 
 -- what is left of bytes stands ready still, or others do
 stays_or_by : (left others now behind : List ℕ) (n : ℕ) → (drop n left ≡ []) ⊎ (1 ≤ length (drop n left)) → 1 ≤ length left
