@@ -1,8 +1,8 @@
 -- What a buffer in front of a writer was given.
-use Rattle.std.proofs.Common.{◌≡◌, ◌≤◌, ℕ, List, [], ◌++◌, Option, None, Some, IfSome, drop, length, take, sym, ap, ◌∙◌, append_assoc, append-nil, arith}
+use Rattle.std.proofs.Common.{◌≡◌, ◌≤◌, ℕ, List, [], ◌++◌, Option, None, Some, IfSome, drop, length, take, sym, ap, ◌∙◌, append_assoc, append-nil, arith, take-append-drop}
 use Rattle.std.specs.Io.KnownBytes.{Appends, Keeps, append_known}
 use Rattle.std.proofs.KnownBytes.{Keeps-refl}
-use Rattle.std.proofs.lemmas.List.{drop_all, take-append-drop}
+use Rattle.std.proofs.lemmas.List.{drop_all}
 use Rattle.cli_devices.specs.Buffered.{with_held}
 use Rattle.page_bytes.specs.Sinks.{Sunk, Writes}
 

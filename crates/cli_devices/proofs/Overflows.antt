@@ -1,7 +1,6 @@
 -- What a watched sink is given, up to the first byte that has no room, and what it keeps of that.
-use Rattle.std.proofs.Common.{◌≡◌, ℕ, suc, ◌+◌, ◌<◌, ◌≤◌, false, List, [], ◌∷◌, ◌++◌, length, get_or, take, drop, ◌⊎◌, inl, inr, Option, Some, None, Err, refl, sym, ap, ◌∙◌, subst, append_assoc, append-nil, arith, length-append}
+use Rattle.std.proofs.Common.{◌≡◌, ℕ, suc, ◌+◌, ◌<◌, ◌≤◌, false, List, [], ◌∷◌, ◌++◌, length, get_or, take, drop, ◌⊎◌, inl, inr, Option, Some, None, Err, refl, sym, ap, ◌∙◌, subst, append_assoc, append-nil, arith, length-append, take_all, take-append-drop}
 use Rattle.std.proofs.Math.Seq.{take-append-add, take-append_seam, take-suc}
-use Rattle.std.proofs.lemmas.List.{take_all, take-append-drop}
 use Rattle.std.specs.Option.{is_some, option_to_list}
 use Rattle.std.specs.Result.{IsOk}
 use Rattle.page_bytes.specs.Sinks.{CountsFault, Fails, Sunk}

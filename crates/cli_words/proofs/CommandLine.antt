@@ -1,6 +1,5 @@
 -- The command line.
-use Rattle.std.proofs.Common.{◌≡◌, ◌∙◌, ◌<◌, ◌+◌, ◌^◌, ℕ, Bool, true, false, not, ◌&&◌, is_some, List, [], ◌∷◌, map, take, get_or, length, nat_lt, ap, refl, sym, subst, Option, Some, None, option_map, lt-ltb, ltb-true}
-use Rattle.std.specs.Prelude.{Box, IsErrAnd, MatchResult, Ok, Err, Result, decimal, fold, option_and_then, unwrap_or}
+use Rattle.std.proofs.Common.{◌≡◌, ◌∙◌, ◌<◌, ◌+◌, ◌^◌, ℕ, Bool, true, false, not, ◌&&◌, is_some, List, [], ◌∷◌, map, take, get_or, length, nat_lt, ap, refl, sym, subst, Option, Some, None, option_map, lt-ltb, ltb-true, Box, IsErrAnd, MatchResult, Ok, Err, Result, decimal, fold, option_and_then, unwrap_or}
 use Rattle.std.specs.Box.{box_value}
 use Rattle.std.specs.Char.{digit_value}
 use Rattle.std.specs.List.{list_all}

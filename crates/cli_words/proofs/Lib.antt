@@ -4,3 +4,4 @@ pub mod Commands
 pub mod OptionLaws
 pub mod PreparedWords
 pub mod PageLists
+pub mod OnLiterals

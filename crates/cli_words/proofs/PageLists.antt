@@ -1,12 +1,10 @@
 -- Lists of pages: their parts, their ranges and numbers, read one after another.
-use Rattle.std.proofs.Common.{◌≡◌, ◌≢◌, ◌∙◌, ◌<◌, ◌^◌, ◌++◌, ℕ, ℤ, suc, Bool, true, false, List, [], ◌∷◌, Option, Some, None, ap, arith, get_or, length, nat_lt, refl, rules, sym, w32, lt-ltb, ltb-true}
-use Rattle.std.proofs.lemmas.Bool.{eq-eqb, ne_eqb}
+use Rattle.std.proofs.Common.{◌≡◌, ◌≢◌, ◌∙◌, ◌<◌, ◌^◌, ◌++◌, ℕ, ℤ, suc, Bool, true, false, List, [], ◌∷◌, Option, Some, None, ap, arith, get_or, length, nat_lt, refl, rules, sym, w32, lt-ltb, ltb-true, eq-eqb, ne_eqb, Result, Ok, Err, if◌then◌else◌, option_and_then, option_map, ◌==◌}
 use Rattle.std.proofs.lemmas.Str.Parse.{IsNumeralModel, numerals_by_value, parse_signed_digits}
 use Rattle.std.specs.Borrow.{Bor}
 use Rattle.std.specs.Char.{is_ascii_digit}
 use Rattle.std.specs.List.{list_all}
 use Rattle.std.specs.Option.{MatchOption}
-use Rattle.std.specs.Prelude.{Result, Ok, Err, if◌then◌else◌, option_and_then, option_map, ◌==◌}
 use Rattle.std.specs.Str.Parse.{ParsesSigned, digits_value}
 use Rattle.clap.specs.Words.{Text}
 use Rattle.roff_num.specs.declared.num.Num.{Num}

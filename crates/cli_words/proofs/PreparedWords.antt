@@ -1,7 +1,6 @@
 -- Words that are put into the form that the parser reads, one after another.
-use Rattle.std.proofs.Common.{◌≡◌, ◌∙◌, ◌++◌, Bool, List, [], ◌∷◌, ap, append_assoc, length, map, sym}
-use Rattle.std.proofs.lemmas.List.{append-nil, map-append, nil_from_length}
-use Rattle.std.specs.Prelude.{◌||◌, bytes_eq, codes}
+use Rattle.std.proofs.Common.{◌≡◌, ◌∙◌, ◌++◌, Bool, List, [], ◌∷◌, ap, append_assoc, length, map, sym, append-nil, ◌||◌, bytes_eq, codes}
+use Rattle.std.proofs.lemmas.List.{map-append, nil_from_length}
 use Rattle.clap.specs.Words.{Text}
 use Rattle.cli_words.specs.Preparing.{word_prepared, words_prepared}
 

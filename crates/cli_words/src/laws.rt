@@ -18,6 +18,7 @@ pub fn limit_options()
 {}
 
 /// What command lines ask for: files and limits.
+#[tactic(auto, unfolding(crate::proofs::OnLiterals::words_on_literals))]
 pub fn command_lines()
     ensures nothing { asked (codes "nroff" ∷ []) ≡ formats (codes "-" ∷ []) default_limits }
     ensures options { asked (codes "nroff" ∷ codes "a" ∷ codes "--line=0" ∷ codes " b"
@@ -49,6 +50,7 @@ pub fn command_lines()
 {}
 
 /// The registers that command lines set.
+#[tactic(auto, unfolding(crate::proofs::OnLiterals::words_on_literals))]
 pub fn command_line_registers()
     ensures none { registers (codes "nroff" ∷ []) ≡ Some (Ok []) }
     ensures in_order { registers (codes "nroff" ∷ codes "-ra5" ∷ codes "-r" ∷ codes "b1i"
@@ -65,6 +67,7 @@ pub fn command_line_registers()
 {}
 
 /// The number of the first page, and the pages that command lines ask for.
+#[tactic(auto, unfolding(crate::proofs::OnLiterals::words_on_literals))]
 pub fn command_line_pages()
     ensures no_number { first_page (codes "nroff" ∷ []) ≡ Some None }
     ensures number { first_page (codes "nroff" ∷ codes "-n5" ∷ []) ≡ Some (Some (page 5)) }
@@ -87,6 +90,7 @@ pub fn command_line_pages()
 {}
 
 /// The faults of command lines.
+#[tactic(auto, unfolding(crate::proofs::OnLiterals::words_on_literals))]
 pub fn command_line_faults()
     ensures no_command { fault [] ≡ MissingSubcommand ∷ [] }
     ensures help { fault (codes "--help" ∷ []) ≡ DisplayHelp ∷ [] }

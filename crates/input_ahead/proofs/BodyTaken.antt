@@ -1,6 +1,6 @@
 -- A byte is taken of a body in front, which stays while its lease gives something.
-use Rattle.std.proofs.Common.{◌≡◌, ◌≢◌, ◌<◌, ◌≤◌, ℕ, List, [], ◌∷◌, ◌++◌, length, map, take, drop, slice_index_or, get_or, IsSome, refl, sym, ap, subst, ◌∙◌, arith, All, Some}
-use Rattle.std.proofs.lemmas.List.{drop_all, take-append-drop, take-append-le}
+use Rattle.std.proofs.Common.{◌≡◌, ◌≢◌, ◌<◌, ◌≤◌, ℕ, List, [], ◌∷◌, ◌++◌, length, map, take, drop, slice_index_or, get_or, IsSome, refl, sym, ap, subst, ◌∙◌, arith, All, Some, take-append-drop}
+use Rattle.std.proofs.lemmas.List.{drop_all, take-append-le}
 use Rattle.std.proofs.lemmas.List.Elements.{All-cons, All-tail}
 use Rattle.std.proofs.lemmas.List.Sums.{sum_by-cons}
 use Rattle.input_model.specs.Input.{Ahead, ByteAhead, DoAhead, bytes_ahead, ends_ahead, events_ahead, first, frees_ahead}

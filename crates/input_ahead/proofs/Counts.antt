@@ -1,7 +1,6 @@
 -- What is counted of what stands ahead, as marks and a stack of bytes stand for it.
-use Rattle.std.proofs.Common.{◌≡◌, ◌<◌, ◌≤◌, ◌+◌, ℕ, zero, suc, List, [], ◌∷◌, ◌++◌, length, take, drop, refl, sym, arith, length-drop}
-use Rattle.std.specs.Prelude.{reverse, replicate}
-use Rattle.std.proofs.lemmas.List.{length-reverse, length-take-le}
+use Rattle.std.proofs.Common.{◌≡◌, ◌≤◌, ◌+◌, ℕ, zero, suc, List, [], ◌∷◌, ◌++◌, length, take, drop, refl, sym, arith, length-drop, reverse, replicate, length-take-le}
+use Rattle.std.proofs.lemmas.List.{length-reverse}
 use Rattle.input_model.specs.Input.{Ahead, EndAhead, bytes_ahead, ends_ahead, events_ahead, frees_ahead}
 use Rattle.input_model.proofs.Counts.{bytes_ahead-bytes, ends_ahead-bytes, events_ahead-bytes, frees_ahead-bytes}
 use Rattle.input_ahead.specs.PushedTexts.Standing.{standing, items_of, IsStacked}
@@ -96,9 +95,3 @@ module _ {E : Type 0} where
   pub ends_ahead-more : (n : ℕ) (items : List (Ahead E)) → n ≤ ends_ahead (replicate n EndAhead ++ items)
   ends_ahead-more zero items = omega arith
   ends_ahead-more (suc n) items = omega (arith, ends_ahead-more n items)
-
-  -- where the slots stand for no more than there is room for, one more can be used
-  pub has_slot : (pushed_texts : List (MarkAt E)) (bytes : List ℕ) (texts events frees capacity : ℕ)
-      → ends_ahead (standing pushed_texts bytes) + events_ahead (standing pushed_texts bytes) + frees_ahead (standing pushed_texts bytes) < texts + events + frees
-      → texts + events + frees ≤ capacity → length pushed_texts < capacity
-  has_slot pushed_texts bytes texts events frees capacity few room = omega (arith, length-pushed_texts pushed_texts bytes)

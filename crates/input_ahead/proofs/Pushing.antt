@@ -1,6 +1,5 @@
 -- Texts and bytes are put in front of what slots hold.
-use Rattle.std.proofs.Common.{◌≡◌, ◌<◌, ◌≤◌, ◌+◌, ℕ, List, [], ◌∷◌, ◌++◌, length, length-append, map, refl, arith}
-use Rattle.std.specs.Prelude.{reverse}
+use Rattle.std.proofs.Common.{◌≡◌, ◌<◌, ◌≤◌, ◌+◌, ℕ, List, [], ◌∷◌, ◌++◌, length, length-append, map, refl, arith, reverse}
 use Rattle.std.proofs.lemmas.List.{length-reverse}
 use Rattle.input_model.specs.Input.{ByteAhead, FreeAhead, EndAhead, bytes_ahead, ends_ahead, frees_ahead, most_frees}
 use Rattle.input_ahead.specs.PushedTexts.Held.{Held, HasRoom}

@@ -1,6 +1,5 @@
 -- What is seen ahead, with bodies in the place of their bytes.
-use Rattle.std.proofs.Common.{get_or, ◌≡◌, ◌<◌, ℕ, List, [], ◌∷◌, ◌++◌, length, map, refl, arith, All, Some, None, ap, ◌∙◌, sym, subst}
-use Rattle.std.specs.Prelude.{Option, take}
+use Rattle.std.proofs.Common.{get_or, ◌≡◌, ◌<◌, ℕ, List, [], ◌∷◌, ◌++◌, length, map, refl, arith, All, Some, None, ap, ◌∙◌, sym, subst, Option, take}
 use Rattle.input_model.specs.Input.{Ahead, ByteAhead, FreeAhead, EndAhead, ReturnAhead, DoAhead, first_but_ends}
 use Rattle.input_model.specs.Shown.{Sighted, SeesByte, seen_ahead}
 use Rattle.input_ahead.specs.InputAhead.Bodies.{items_of, leases_in, with_bodies}

@@ -1,10 +1,9 @@
 -- What slots stand for, behind each change of theirs.
-use Rattle.std.proofs.Common.{false, ◌==◌, ◌≡◌, ◌<◌, ◌≤◌, ◌+◌, ℕ, suc, List, [], ◌∷◌, ◌++◌, length, map, drop, refl, arith, append_assoc, add-one}
-use Rattle.std.specs.Prelude.{reverse}
+use Rattle.std.proofs.Common.{false, ◌==◌, ◌≡◌, ◌<◌, ◌≤◌, ℕ, suc, List, [], ◌∷◌, ◌++◌, length, map, drop, refl, arith, append_assoc, reverse}
 use Rattle.std.proofs.lemmas.Bool.Decides.{nat_tests}
 use Rattle.std.proofs.Math.Seq.{drop-length, take-length}
 use Rattle.std.proofs.lemmas.List.{drop-append-le, take-append-le, reverse-append, reverse-reverse, map-append}
-use Rattle.input_model.specs.Input.{Ahead, ByteAhead, EndAhead, is_none_ahead}
+use Rattle.input_model.specs.Input.{Ahead, ByteAhead, is_none_ahead}
 use Rattle.input_ahead.specs.PushedTexts.Standing.{standing, items_of, IsStacked}
 use Rattle.input_ahead.specs.declared.pushed_texts.MarkAt.{MarkAt}
 use Rattle.input_ahead.specs.declared.pushed_texts.Mark.TheVariants.{Ends, Return, Free, Do}
@@ -60,7 +59,3 @@ module _ {E : Type 0} where
   -- the slot in front is the last one
   pub reverse_front : (pushed_texts below : List (MarkAt E)) (slot : MarkAt E) → pushed_texts ≡ below ++ slot ∷ [] → reverse pushed_texts ≡ slot ∷ reverse below
   reverse_front pushed_texts below slot split = rw (split, reverse-append) refl
-
-  -- an end in front of others
-  pub one_more_end : (more : ℕ) (items : List (Ahead E)) → items_of (Ends (more + 1)) ++ items ≡ EndAhead ∷ (items_of (Ends more) ++ items)
-  one_more_end more items = rw add-one refl

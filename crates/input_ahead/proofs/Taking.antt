@@ -1,8 +1,7 @@
 -- The front item of what slots stand for.
-use Rattle.std.proofs.Common.{Bool, Some, true, false, ◌≡◌, ◌<◌, ◌≤◌, ◌+◌, ◌-◌, ℕ, zero, suc, List, [], ◌∷◌, ◌++◌, length, length-append, drop, take, get_or, refl, sym, ap, subst, ◌∙◌, arith}
-use Rattle.std.specs.Prelude.{replicate}
+use Rattle.std.proofs.Common.{Bool, Some, true, false, ◌≡◌, ◌<◌, ◌≤◌, ◌+◌, ◌-◌, ℕ, zero, suc, List, [], ◌∷◌, ◌++◌, length, length-append, drop, take, get_or, refl, sym, ap, subst, ◌∙◌, arith, replicate, take_all}
 use Rattle.std.proofs.lemmas.Bool.Decides.{nat_tests}
-use Rattle.std.proofs.lemmas.List.{take_more, take_all}
+use Rattle.std.proofs.lemmas.List.{take_more}
 use Rattle.input_model.specs.Input.{Ahead, ByteAhead, EndAhead, first, first_but_ends}
 use Rattle.input_ahead.specs.declared.pushed_texts.Mark.{Mark}
 use Rattle.input_ahead.specs.declared.pushed_texts.Mark.TheVariants.{Ends, Return, Free, Do}
@@ -33,12 +32,6 @@ module _ {E : Type 0} where
   standing_byte (slot ∷ pushed_texts) bytes b next =
       let below : slot.height ≤ length bytes = grind (arith, nat_tests, length-append bytes (b ∷ [])) in
       standing-append slot pushed_texts bytes (b ∷ []) below
-
-  -- and behind it the heights are in order
-  pub IsStacked_byte : (pushed_texts : List (MarkAt E)) (bytes : List ℕ) (b : ℕ) → is_byte_next pushed_texts (bytes ++ b ∷ []) ≡ true
-      → IsStacked pushed_texts (length (bytes ++ b ∷ [])) → IsStacked pushed_texts (length bytes)
-  IsStacked_byte [] bytes b next stacked = cc
-  IsStacked_byte (slot ∷ pushed_texts) bytes b next stacked = (grind (arith, nat_tests, length-append bytes (b ∷ [])), stacked.1)
 
   -- a byte comes next where there is one
   pub some_byte : (pushed_texts : List (MarkAt E)) (bytes : List ℕ) → is_byte_next pushed_texts bytes ≡ true → 0 < length bytes

@@ -1,8 +1,7 @@
 -- Arguments that lie in a block.
-use Rattle.std.proofs.Common.{◌≡◌, ℕ, ◌+◌, ◌<◌, ◌≤◌, true, false, List, [], ◌∷◌, ◌++◌, length, drop, refl, sym, ◌∙◌, ap, arith, zero, suc, inl, inr, ◌⊎◌, length-drop, append-nil}
-use Rattle.std.specs.Prelude.{reverse, nat_lt}
+use Rattle.std.proofs.Common.{◌≡◌, ℕ, ◌+◌, ◌<◌, ◌≤◌, true, false, List, [], ◌∷◌, ◌++◌, length, drop, refl, sym, ◌∙◌, ap, arith, zero, suc, inl, inr, ◌⊎◌, length-drop, append-nil, reverse, nat_lt, ltb-true}
 use Rattle.std.proofs.Math.Seq.{drop-length}
-use Rattle.std.proofs.lemmas.Bool.{cases_Bool, ltb-true}
+use Rattle.std.proofs.lemmas.Bool.{cases_Bool}
 use Rattle.std.proofs.lemmas.Bool.Decides.{nat_tests}
 use Rattle.std.proofs.lemmas.List.{drop-append-le, drop_all, length-reverse, reverse-reverse, reverse-append}
 use Rattle.input_model.specs.Arguments.{Arguments, with_byte, with_whole, total_length, held, has_byte, kept_by_place, kept, only_kept}

@@ -1,6 +1,5 @@
 -- Arguments of calls, stacked in one block.
-use Rattle.std.proofs.Common.{◌≡◌, ℕ, ◌+◌, ◌*◌, ◌≤◌, List, [], ◌∷◌, ◌++◌, append-nil, length, length-append, length-drop, take, drop, suc, refl, sym, subst, ap, arith}
-use Rattle.std.proofs.lemmas.List.{take_at, drop_at, length-take-le}
+use Rattle.std.proofs.Common.{◌≡◌, ℕ, ◌+◌, ◌*◌, ◌≤◌, List, [], ◌∷◌, ◌++◌, append-nil, length, length-append, length-drop, take, drop, suc, refl, sym, subst, ap, arith, take_at, drop_at, length-take-le}
 use Rattle.input_model.specs.Arguments.{total_length}
 use Rattle.input_model.specs.Arguments.{live_bytes}
 use Rattle.roff_num.specs.Lists.{EndInOrder}

@@ -1,8 +1,7 @@
 -- Texts in a block, by where each ends.
-use Rattle.std.proofs.Common.{◌≡◌, ℕ, ◌+◌, ◌-◌, ◌≤◌, List, [], ◌∷◌, ◌++◌, length, take, drop, zero, suc, refl, sym, ◌∙◌, ap, arith, length-drop}
-use Rattle.std.specs.Prelude.{slice_get, Some, None}
+use Rattle.std.proofs.Common.{◌≡◌, ℕ, ◌+◌, ◌-◌, ◌≤◌, List, [], ◌∷◌, ◌++◌, length, take, drop, zero, suc, refl, sym, ◌∙◌, ap, arith, length-drop, slice_get, Some, None, take-append-drop, length-take-le}
 use Rattle.std.specs.List.{slice_range}
-use Rattle.std.proofs.lemmas.List.{take-append-le, drop-append-le, take-append-drop, take_rest, length-take-le}
+use Rattle.std.proofs.lemmas.List.{take-append-le, drop-append-le, take_rest}
 use Rattle.input_model.specs.Arguments.{total_length}
 use Rattle.roff_num.specs.Lists.{last_end}
 use Rattle.roff_num.specs.Lists.{EndInOrder}

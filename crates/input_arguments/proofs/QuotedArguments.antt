@@ -1,9 +1,7 @@
 -- Arguments written in quotes are read as they were.
-use Rattle.std.proofs.Common.{◌≡◌, ℕ, Bool, true, false, List, [], ◌∷◌, ◌++◌, refl, sym, ◌∙◌, ap, append_assoc}
-use Rattle.std.specs.Prelude.{fold, reverse, if◌then◌else◌, ◌==◌}
+use Rattle.std.proofs.Common.{◌≡◌, ℕ, Bool, true, false, List, [], ◌∷◌, ◌++◌, refl, sym, ◌∙◌, ap, append_assoc, fold, reverse, if◌then◌else◌, ◌==◌, eqb-true, append-nil}
 use Rattle.std.specs.List.{flat_map}
-use Rattle.std.proofs.lemmas.Bool.{eqb-true}
-use Rattle.std.proofs.lemmas.List.{append-nil, reverse-reverse, reverse-append}
+use Rattle.std.proofs.lemmas.List.{reverse-reverse, reverse-append}
 use Rattle.std.proofs.lemmas.List.Sums.{fold-append}
 use Rattle.input_model.specs.Arguments.{Arguments, with_argument_byte, arguments_read}
 use Rattle.input_source.specs.Bytes.{blank, quote}

@@ -1,6 +1,5 @@
 -- The code's table of characters has the definition's rows.
-use Rattle.std.proofs.Common.{◌≡◌, ℕ, Bool, true, false, cond, List, [], ◌∷◌, map, Option, Some, bytes_eq, option_map, refl, ap, ◌∙◌}
-use Rattle.std.specs.Prelude.{find}
+use Rattle.std.proofs.Common.{◌≡◌, ℕ, Bool, true, false, cond, List, [], ◌∷◌, map, Option, Some, bytes_eq, option_map, refl, ap, ◌∙◌, find}
 use Rattle.input_escapes.specs.Characters.{Character, character, characters}
 use Rattle.input_escapes.specs.Characters.Coded.{bytes_of, character_of}
 use Rattle.input_escapes.specs.declared.characters.TheConstants.{ROWS}

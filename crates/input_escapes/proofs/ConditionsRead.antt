@@ -1,9 +1,6 @@
 -- Conditions of two texts, read as they are.
-use Rattle.std.proofs.Common.{◌≡◌, ℕ, Bool, true, false, ◌&&◌, List, [], ◌∷◌, ◌++◌, length, Option, Some, None, refl, sym, ap, ap₂, append_assoc, ◌∙◌}
-use Rattle.std.specs.Prelude.{bytes_eq, ◌==◌, ◌||◌, not, if◌then◌else◌}
+use Rattle.std.proofs.Common.{◌≡◌, ℕ, Bool, true, false, ◌&&◌, List, [], ◌∷◌, ◌++◌, length, Option, Some, None, refl, sym, ap, ap₂, append_assoc, ◌∙◌, bytes_eq, ◌==◌, ◌||◌, not, if◌then◌else◌, eq-eqb, append-nil}
 use Rattle.std.proofs.Math.Seq.{drop-append_seam, take-append_seam}
-use Rattle.std.proofs.lemmas.Bool.{eq-eqb}
-use Rattle.std.proofs.lemmas.List.{append-nil}
 use Rattle.input_source.specs.Bytes.{newline, blank, backslash}
 use Rattle.input_escapes.specs.Conditions.{begins_expression, byte_or_backslash, delimiter_met, so_unless}
 use Rattle.input_escapes.specs.OpenEscape.{OpenEscape, Condition}

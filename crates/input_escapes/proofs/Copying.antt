@@ -1,8 +1,6 @@
 -- Texts without interpolations, copied.
-use Rattle.std.proofs.Common.{◌≡◌, ℕ, Bool, true, false, ◌&&◌, cond, List, [], ◌∷◌, ◌++◌, map, Option, Some, refl, sym, ap, subst, append_assoc, ◌∙◌}
-use Rattle.std.specs.Prelude.{◌==◌, ◌||◌, find, flat_map, not, if◌then◌else◌}
+use Rattle.std.proofs.Common.{◌≡◌, ℕ, Bool, true, false, ◌&&◌, cond, List, [], ◌∷◌, ◌++◌, map, Option, Some, refl, sym, ap, subst, append_assoc, ◌∙◌, ◌==◌, ◌||◌, find, flat_map, not, if◌then◌else◌, eqb-true}
 use Rattle.std.specs.List.{list_all, list_any}
-use Rattle.std.proofs.lemmas.Bool.{eqb-true}
 use Rattle.std.proofs.lemmas.Grind.{flat_map-append}
 use Rattle.std.proofs.lemmas.List.{map-append}
 use Rattle.input_source.specs.Bytes.{start_of_text, tab, newline, dot, backslash}

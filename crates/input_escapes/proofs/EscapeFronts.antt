@@ -1,8 +1,6 @@
 -- Fronts of escapes that read a name: what is half read behind them.
-use Rattle.std.proofs.Common.{◌≡◌, ℕ, suc, ◌+◌, ◌<◌, Bool, true, List, [], ◌∷◌, ◌++◌, length, drop, take, get_or, refl, sym, ap, subst, ◌∙◌, arith}
+use Rattle.std.proofs.Common.{◌≡◌, ℕ, suc, ◌+◌, ◌<◌, Bool, true, List, [], ◌∷◌, ◌++◌, length, drop, take, get_or, refl, sym, ap, subst, ◌∙◌, arith, false, not, ◌&&◌, ◌||◌, ◌==◌, eqb-true}
 use Rattle.std.proofs.Math.Seq.{take-suc}
-use Rattle.std.specs.Prelude.{false, not, ◌&&◌, ◌||◌, ◌==◌}
-use Rattle.std.proofs.lemmas.Bool.{eqb-true}
 use Rattle.input_source.specs.Bytes.{backslash, is_argument_byte, is_dropped, newline}
 use Rattle.input_escapes.specs.OpenEscape.{Backslash, Comment, OpenEscape, texts_held}
 use Rattle.input_escapes.specs.EscapeTexts.{IsOnTop}

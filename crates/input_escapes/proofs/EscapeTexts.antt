@@ -1,9 +1,9 @@
 -- The texts of what is half read, behind each other in one block.
-use Rattle.std.proofs.Common.{◌≡◌, ℕ, Bool, true, false, suc, ◌+◌, ◌-◌, ◌<◌, ◌≤◌, List, [], ◌∷◌, ◌++◌, length, reverse, take, drop, Option, Some, refl, sym, ap, ap₂, subst, ◌∙◌, arith, rules, length-drop, length-append}
+use Rattle.std.proofs.Common.{◌≡◌, ℕ, Bool, true, false, suc, ◌+◌, ◌-◌, ◌<◌, ◌≤◌, List, [], ◌∷◌, ◌++◌, length, reverse, take, drop, Option, Some, refl, sym, ap, ap₂, subst, ◌∙◌, arith, rules, length-drop, length-append, length-take-le}
 use Rattle.std.proofs.Math.Seq.{take-append_seam, take-length, drop-length}
 use Rattle.std.specs.List.{slice_get, slice_index_or}
 use Rattle.std.specs.Option.{MatchOption}
-use Rattle.std.proofs.lemmas.List.{get_or-reverse, length-reverse, reverse-append, reverse-reverse, drop-append-le, drop_all, take-append-le, length-take-le}
+use Rattle.std.proofs.lemmas.List.{get_or-reverse, length-reverse, reverse-append, reverse-reverse, drop-append-le, drop_all, take-append-le}
 use Rattle.input_escapes.specs.OpenEscape.{OpenEscape, Backslash as OpenBackslash, Comment as OpenComment, Name as OpenName, Size as OpenSize, Delimited, Width as OpenWidth, Condition, text_held, texts_held, unit_bytes}
 use Rattle.input_escapes.specs.EscapeTexts.{AreJoined, BeginsBehind, IsOnTop, begun, holds_text, joined, text_on_top}
 use Rattle.input_escapes.specs.declared.escapes.TextUse.{TextUse}

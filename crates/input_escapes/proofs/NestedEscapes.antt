@@ -1,7 +1,6 @@
 -- How many things may be half read within each other.
-use Rattle.std.proofs.Common.{◌≡◌, ℕ, ◌+◌, ◌*◌, ◌<◌, ◌≤◌, Bool, true, false, ◌&&◌, not, List, [], ◌∷◌, drop, length, Option, refl, sym, ap, subst, ◌∙◌, arith, rules}
-use Rattle.std.specs.Prelude.{pos, nat_le, if◌then◌else◌}
-use Rattle.std.proofs.lemmas.Bool.{leb-false, lt-leb}
+use Rattle.std.proofs.Common.{◌≡◌, ℕ, ◌+◌, ◌*◌, ◌<◌, ◌≤◌, Bool, true, false, ◌&&◌, not, List, [], ◌∷◌, drop, length, Option, refl, sym, ap, subst, ◌∙◌, arith, rules, pos, nat_le, if◌then◌else◌, leb-false}
+use Rattle.std.proofs.lemmas.Bool.{lt-leb}
 use Rattle.input_escapes.specs.OpenEscape.{OpenEscape, Backslash, Comment, Name, Size, Delimited, Width, Condition, names_in, text_held, widths_in}
 use Rattle.input_escapes.specs.EscapeTexts.{IsOnTop}
 use Rattle.input_escapes.specs.OpenEscapes.{most_names, most_widths, surroundings, reads_text, reads_widths}

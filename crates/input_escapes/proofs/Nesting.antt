@@ -1,6 +1,5 @@
 -- What is half read stays within each other as it may be, whatever is read.
-use Rattle.std.proofs.Common.{◌≡◌, ℕ, Bool, true, false, ◌&&◌, List, [], ◌∷◌, Option, Some, None, Result, Ok, Err, refl}
-use Rattle.std.specs.Prelude.{ℤ, pos, ◌==◌, ◌||◌, not, nat_le, if◌then◌else◌}
+use Rattle.std.proofs.Common.{◌≡◌, ℕ, Bool, true, false, ◌&&◌, List, [], ◌∷◌, Option, Some, None, Result, Ok, Err, refl, ℤ, pos, ◌==◌, ◌||◌, not, nat_le, if◌then◌else◌}
 use Rattle.roff_num.specs.declared.num.Num.{Num}
 use Rattle.roff_num.specs.declared.num.NumFault.{NumFault}
 use Rattle.input_source.specs.Bytes.{start_of_text, tab, newline, blank, dot, backslash, quote}

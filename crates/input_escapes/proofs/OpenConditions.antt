@@ -1,6 +1,5 @@
 -- A byte that delimits no texts of a condition.
-use Rattle.std.proofs.Common.{◌≡◌, ℕ, Bool, false, List, Option, refl, ap}
-use Rattle.std.specs.Prelude.{◌==◌, if◌then◌else◌}
+use Rattle.std.proofs.Common.{◌≡◌, ℕ, Bool, false, List, Option, refl, ap, ◌==◌, if◌then◌else◌}
 use Rattle.input_escapes.specs.Conditions.{byte_of_condition, byte_or_backslash, delimiter_met}
 use Rattle.input_escapes.specs.OpenEscape.{OpenEscape}
 use Rattle.input_escapes.specs.declared.open_escape.ConditionPart.{ConditionPart}

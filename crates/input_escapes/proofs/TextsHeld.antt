@@ -1,6 +1,5 @@
 -- Reading makes no text longer: only what is held does.
-use Rattle.std.proofs.Common.{◌≡◌, ℕ, ◌+◌, ◌≤◌, Bool, true, false, ◌&&◌, List, [], ◌∷◌, length, Option, Some, None, Result, Ok, Err, refl, arith}
-use Rattle.std.specs.Prelude.{ℤ, pos, ◌==◌, ◌||◌, not, nat_le, if◌then◌else◌}
+use Rattle.std.proofs.Common.{◌≡◌, ℕ, ◌+◌, ◌≤◌, Bool, true, false, ◌&&◌, List, [], ◌∷◌, length, Option, Some, None, Result, Ok, Err, refl, arith, ℤ, pos, ◌==◌, ◌||◌, not, nat_le, if◌then◌else◌}
 use Rattle.roff_num.specs.Expressions.{value_at}
 use Rattle.roff_num.specs.declared.num.Num.{Num}
 use Rattle.roff_num.specs.declared.num.NumFault.{NumFault}

@@ -1,8 +1,5 @@
 -- Texts between delimiters, read as they are.
-use Rattle.std.proofs.Common.{◌≡◌, ℕ, ◌+◌, ◌*◌, ◌≤◌, Bool, true, false, ◌&&◌, List, [], ◌∷◌, ◌++◌, Some, refl, sym, ap, append_assoc, arith, ◌∙◌}
-use Rattle.std.specs.Prelude.{ℤ, ◌==◌, ◌||◌, min, not, if◌then◌else◌}
-use Rattle.std.proofs.lemmas.Bool.{eq-eqb}
-use Rattle.std.proofs.lemmas.List.{append-nil}
+use Rattle.std.proofs.Common.{◌≡◌, ℕ, ◌+◌, ◌*◌, ◌≤◌, Bool, true, false, ◌&&◌, List, [], ◌∷◌, ◌++◌, Some, refl, sym, ap, append_assoc, arith, ◌∙◌, ℤ, ◌==◌, ◌||◌, min, not, if◌then◌else◌, eq-eqb, append-nil}
 use Rattle.std.proofs.lemmas.List.Sums.{sum_by-cons}
 use Rattle.input_source.specs.Bytes.{newline, backslash}
 use Rattle.input_escapes.specs.Escapes.{escape_of}

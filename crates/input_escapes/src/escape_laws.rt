@@ -136,6 +136,7 @@ pub fn widths()
 
 /// `\h'text'` moves by the number that its text is, in columns. One below 0 is none, and is told,
 /// and so is one that isn't a number. `|` measures from the place on the line.
+#[tactic(auto, unfolding(roff_num::proofs::OnLiterals::numbers_on_literals))]
 pub fn motions()
     ensures read { (place : ℤ) (delimiter : ℕ) (text : List ℕ) → is_between delimiter text ≡ true
         → reads_through (InText place) [] (text_escape 104 delimiter text)

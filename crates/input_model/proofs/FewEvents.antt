@@ -1,5 +1,5 @@
 -- Events that were put back are few, so there is room for more of them.
-use Rattle.std.proofs.Common.{◌≡◌, ◌<◌, ◌≤◌, ◌+◌, ◌-◌, ◌*◌, ℕ, List, [], ◌∷◌, ◌++◌, length, map, Some, None, refl, sym, ◌∙◌, arith}
+use Rattle.std.proofs.Common.{◌≡◌, ◌≤◌, ◌+◌, ◌-◌, ◌*◌, ℕ, List, [], ◌∷◌, ◌++◌, length, map, Some, refl, sym, ◌∙◌, arith}
 use Rattle.input_model.specs.Input.{Ahead, ByteAhead, FreeAhead, EndAhead, ReturnAhead, DoAhead, ends_ahead, events_ahead}
 use Rattle.input_model.specs.Input.Few.{AreFewFrom, AreFew}
 use Rattle.input_model.specs.Shown.{SeesByte, SeesNothing, seen_ahead}
@@ -62,11 +62,3 @@ module _ {E : Type 0} where
 
   pub few-seen : (room b : ℕ) (items : List (Ahead E)) → AreFewFrom room items → seen_ahead items ≡ Some (SeesByte b) → AreFewFrom 0 items
   few-seen room b items few seen = few-behind room items few (λ none. let is = sym seen ∙ none in cc)
-
-  pub few-ended : (room : ℕ) (items : List (Ahead E)) → AreFewFrom room items → seen_ahead items ≡ None → AreFewFrom 0 items
-  few-ended room items few seen = few-behind room items few (λ none. let is = sym seen ∙ none in cc)
-
-  -- so there is room for one event more, and those behind it
-  pub room-few : (room depth : ℕ) (items : List (Ahead E)) → AreFewFrom room items → room ≤ 4 → ends_ahead items ≤ depth
-      → events_ahead items < 5 * (depth + 1)
-  room-few room depth items few more within = omega (arith, events-few room items few)

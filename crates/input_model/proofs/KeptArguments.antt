@@ -1,7 +1,5 @@
 -- Arguments of which only those are there that are kept.
-use Rattle.std.proofs.Common.{◌≡◌, ℕ, ◌+◌, Bool, true, false, List, [], ◌∷◌, ◌++◌, length, refl, sym, ◌∙◌, ap, arith, zero-add, add_assoc}
-use Rattle.std.specs.Prelude.{◌||◌, not, reverse, nat_lt, if◌then◌else◌, ◌==◌}
-use Rattle.std.proofs.lemmas.Bool.{eqb-true, ne_eqb}
+use Rattle.std.proofs.Common.{◌≡◌, ℕ, ◌+◌, Bool, true, false, List, [], ◌∷◌, ◌++◌, length, refl, sym, ◌∙◌, ap, arith, zero-add, add_assoc, ◌||◌, not, reverse, nat_lt, if◌then◌else◌, ◌==◌, eqb-true, ne_eqb}
 use Rattle.std.proofs.lemmas.List.{length-reverse, reverse-reverse, reverse-append}
 use Rattle.input_model.specs.Arguments.{Arguments, with_byte, with_byte_at, with_argument_byte, with_two_bytes, with_kept, with_unit, with_whole, between, settled_at, settled, finished_at, finished, total_length, held, has_byte, kept_by_place, kept, only_kept, is_held}
 use Rattle.input_source.specs.Bytes.{blank, quote, backslash}

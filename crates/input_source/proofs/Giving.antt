@@ -1,7 +1,7 @@
 -- What sources might have given, by what they may give behind an answer.
-use Rattle.std.proofs.Common.{◌≡◌, ◌<◌, ◌≤◌, ◌+◌, ℕ, List, [], ◌∷◌, ◌++◌, length, map, take, drop, get_or, refl, sym, ap, ◌∙◌, append_assoc, append-nil, arith, length-take, None}
+use Rattle.std.proofs.Common.{◌≡◌, ◌<◌, ◌≤◌, ◌+◌, ℕ, List, [], ◌∷◌, ◌++◌, length, map, take, drop, get_or, refl, sym, ap, ◌∙◌, append_assoc, append-nil, arith, length-take, None, drop-drop, take-append-drop, get_or-take}
 use Rattle.std.proofs.Math.Seq.{take-append_seam}
-use Rattle.std.proofs.lemmas.List.{nil_from_length, drop_all, drop_more, drop-drop, take-append-drop, map-append, get_or-take}
+use Rattle.std.proofs.lemmas.List.{nil_from_length, drop_all, drop_more, map-append}
 use Rattle.input_source.specs.BlockRead.{GivesBytes, SomeTape}
 use Rattle.input_source.specs.ReadSource.Reach.{GivesBehind, MayGive, reach_ending, ready_at}
 use Rattle.input_source.specs.declared.source.Reach.{Reach}

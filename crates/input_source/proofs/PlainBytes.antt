@@ -1,10 +1,9 @@
 -- Bytes that change nothing, and those of plain text, as code counts them.
-use Rattle.std.proofs.Common.{◌≡◌, ◌==◌, ℕ, Bool, true, false, not, ◌||◌, List, Option, Some, None, inl, inr, length, map, take_while, refl, sym, ap, subst, arith, ◌∙◌, zero, suc, ◌+◌, ◌^◌, ◌%◌, ◌≤◌, ◌<◌, [], ◌∷◌, take, drop, get_or, cond, eqb, ltb, bit_or, replicate}
+use Rattle.std.proofs.Common.{◌≡◌, ◌==◌, ℕ, Bool, true, false, not, ◌||◌, List, Option, Some, None, inl, inr, length, map, take_while, refl, sym, ap, subst, arith, ◌∙◌, zero, suc, ◌+◌, ◌^◌, ◌%◌, ◌≤◌, ◌<◌, [], ◌∷◌, take, drop, get_or, cond, eqb, ltb, bit_or, replicate, unwrap_or, if◌then◌else◌, length-drop}
 use Rattle.std.specs.Int.{w64, trailing_zeros}
 use Rattle.std.specs.Simd.Lanes.{chunk, mask_l, top, zip2}
 use Rattle.std.proofs.lemmas.Simd.{zip2_of_maps, zip2_splat}
 use Rattle.std.proofs.lemmas.Bool.{cases_Bool, cases_lt}
-use Rattle.std.specs.Prelude.{unwrap_or, if◌then◌else◌}
 use Rattle.std.proofs.Math.Bool.{or-false, cond}
 use Rattle.std.proofs.lemmas.List.Folds.{length-prefix_len}
 use Rattle.std.proofs.lemmas.List.Sums.{prefix_len-le-length, prefix_len_is, prefix_len-drop_all, prefix_len-drop_no, prefix_len-drop_yes, take_while-cons}
@@ -12,7 +11,6 @@ use Rattle.memchr.specs.Find.{IsFirstByte, is_byte, is_byte2}
 use Rattle.roff_num.proofs.Masks.{first_lane, mask_l-lanes}
 use Rattle.input_source.specs.Bytes.{backslash, newline, is_passed, is_text_byte}
 use Rattle.std.specs.List.{prefix_len, AllByRecursion}
-use Rattle.std.proofs.lemmas.List.{length-drop}
 
 -- a byte that isn't found
 not_found : (t : Bool) → (t ≡ true → ⊥) → not t ≡ true

@@ -1,6 +1,5 @@
 -- Where what happens is put: in the innermost open diversion, or on the page.
-use Rattle.std.proofs.Common.{◌≡◌, Bool, true, false, not, ◌||◌, List, [], ◌∷◌, ◌++◌, Option, Some, None, arith, append-nil, refl, sym, ◌∙◌, ap, subst}
-use Rattle.std.specs.Prelude.{is_some, nat_le, if◌then◌else◌}
+use Rattle.std.proofs.Common.{◌≡◌, Bool, true, false, not, ◌||◌, List, [], ◌∷◌, ◌++◌, Option, Some, None, arith, append-nil, refl, sym, ◌∙◌, ap, subst, is_some, nat_le, if◌then◌else◌}
 use Rattle.page_model.specs.DeviceText.{device_lines, device_text}
 use Rattle.page_model.specs.DivertedText.{diverted_lines, diverted_text}
 use Rattle.page_model.specs.DueTexts.{TextDue, bytes_due, text_due}

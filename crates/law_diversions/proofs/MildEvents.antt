@@ -1,6 +1,5 @@
 -- Events that neither open a diversion nor close the run: where they are put back, and what becomes of texts behind them.
-use Rattle.std.proofs.Common.{◌≡◌, Bool, true, false, List, [], ◌∷◌, ◌++◌, map, ℕ, Option, Some, None, refl}
-use Rattle.std.specs.Prelude.{option_map}
+use Rattle.std.proofs.Common.{◌≡◌, Bool, true, false, List, [], ◌∷◌, ◌++◌, map, ℕ, Option, Some, None, refl, option_map}
 use Rattle.input_model.specs.Input.{Ahead, ByteAhead, FreeAhead, EndAhead, ReturnAhead, DoAhead}
 use Rattle.page_model.specs.DivertedText.{diverted_text}
 use Rattle.page_model.specs.DueTexts.{TextDue, bytes_due, due_by, end_due}

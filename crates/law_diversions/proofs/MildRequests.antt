@@ -1,7 +1,6 @@
 -- What a request means: no event that closes the run, and one that opens a diversion only alone; and calls that leave the texts in the
 -- making.
-use Rattle.std.proofs.Common.{◌≡◌, ◌⊎◌, inl, inr, ℕ, zero, suc, ℤ, Bool, true, false, List, [], ◌∷◌, map, refl}
-use Rattle.std.specs.Prelude.{◌&&◌}
+use Rattle.std.proofs.Common.{◌≡◌, ◌⊎◌, inl, inr, ℕ, zero, suc, ℤ, Bool, true, false, List, [], ◌∷◌, map, refl, ◌&&◌}
 use Rattle.page_model.specs.declared.layout_event.LayoutEvent.TheVariants.{Close, Divert as DivertEvent}
 use Rattle.page_model.specs.declared.stop.StopKind.{StopKind}
 use Rattle.roff_num.specs.declared.short_name.ShortName.{ShortName}

@@ -1,6 +1,5 @@
 -- How many diversions are open.
-use Rattle.std.proofs.Common.{◌≡◌, ◌≤◌, ◌+◌, ℕ, Bool, true, false, List, [], ◌∷◌, length, Option, Some, None, arith, refl, sym, subst}
-use Rattle.std.specs.Prelude.{nat_le, option_map, if◌then◌else◌}
+use Rattle.std.proofs.Common.{◌≡◌, ◌≤◌, ◌+◌, ℕ, Bool, true, false, List, [], ◌∷◌, length, Option, Some, None, arith, refl, sym, subst, nat_le, option_map, if◌then◌else◌}
 use Rattle.page_model.specs.Happenings.{Happening, Does, Places, Titles}
 use Rattle.page_model.specs.Layout.{Box, Diversion, Layout, page_place}
 use Rattle.page_model.specs.Behind.{finished}

@@ -1,8 +1,6 @@
 -- The newest of the texts in the making, one of a number among them, and calls on them.
-use Rattle.std.proofs.Common.{◌≡◌, ◌++◌, ◌+◌, ℕ, true, false, Bool, List, [], ◌∷◌, length, length-append, append-nil, get_or, set, Option, Some, None, arith, refl, sym, ◌∙◌, ap, subst}
-use Rattle.std.specs.Prelude.{nat_lt, if◌then◌else◌}
+use Rattle.std.proofs.Common.{◌≡◌, ◌++◌, ◌+◌, ℕ, true, false, Bool, List, [], ◌∷◌, length, length-append, append-nil, get_or, set, Option, Some, None, arith, refl, sym, ◌∙◌, ap, subst, nat_lt, if◌then◌else◌, lt-ltb}
 use Rattle.std.specs.List.{remove}
-use Rattle.std.proofs.lemmas.Bool.{lt-ltb}
 use Rattle.input_model.specs.Input.Names.{adding, calling, calling_on, dropping, entering, open_numbered, texts_of}
 use Rattle.run_model.specs.Reading.Items.{PageInput}
 use Rattle.roff_store.specs.TextCalls.{Call, DropOpen, Enter, PushOpen, open_text}

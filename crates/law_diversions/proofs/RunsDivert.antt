@@ -1,8 +1,7 @@
 -- The texts in the making of a run are those of its open diversions, and one that is being made.
 --
 -- Each function f of the run has its lemma Diverts-f here, with a line for each of its cases.
-use Rattle.std.proofs.Common.{◌≡◌, ◌⊎◌, inl, inr, ℕ, ◌-◌, Bool, true, false, not, List, [], ◌∷◌, ◌++◌, append-nil, Option, Some, None, refl, sym, ◌∙◌, ap, subst}
-use Rattle.std.specs.Prelude.{IsSome, ◌&&◌, if◌then◌else◌, ◌==◌}
+use Rattle.std.proofs.Common.{◌≡◌, ◌⊎◌, inl, inr, ℕ, ◌-◌, Bool, true, false, not, List, [], ◌∷◌, ◌++◌, append-nil, Option, Some, None, refl, sym, ◌∙◌, ap, subst, IsSome, ◌&&◌, if◌then◌else◌, ◌==◌}
 use Rattle.input_model.specs.Input.{Ahead, ByteAhead, FreeAhead, EndAhead, ReturnAhead, DoAhead, counting, item_taken, outermost_back}
 use Rattle.input_model.specs.Input.Calls.{called_text}
 use Rattle.input_model.specs.Input.Names.{body_named}

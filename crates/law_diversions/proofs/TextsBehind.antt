@@ -1,6 +1,5 @@
 -- What becomes of the texts of open diversions behind what happens, and behind the change of a text.
-use Rattle.std.proofs.Common.{◌≡◌, ◌-◌, ℕ, Bool, true, false, not, List, [], ◌∷◌, ◌++◌, length, length-append, append_assoc, append-nil, get_or, set, Option, Some, None, arith, refl, sym, ◌∙◌, ap, subst}
-use Rattle.std.specs.Prelude.{nat_le, if◌then◌else◌}
+use Rattle.std.proofs.Common.{◌≡◌, ◌-◌, ℕ, Bool, true, false, not, List, [], ◌∷◌, ◌++◌, length, length-append, append_assoc, append-nil, get_or, set, Option, Some, None, arith, refl, sym, ◌∙◌, ap, subst, nat_le, if◌then◌else◌}
 use Rattle.std.specs.List.{remove}
 use Rattle.input_model.specs.Input.Names.{calling, calling_on, entering_open, open_numbered, texts_of}
 use Rattle.page_model.specs.DivertedText.{diverted_line, diverted_lines}

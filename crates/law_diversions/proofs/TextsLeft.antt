@@ -2,8 +2,7 @@
 --
 -- Each function f of reading has its lemma here, with a line for each of its cases: Texts-f where no text is being made, and else
 -- Leaves-f.
-use Rattle.std.proofs.Common.{◌≡◌, ℕ, Bool, true, false, List, [], ◌∷◌, ◌++◌, map, Option, Some, None, refl, ◌∙◌}
-use Rattle.std.specs.Prelude.{◌||◌, if◌then◌else◌, ◌==◌}
+use Rattle.std.proofs.Common.{◌≡◌, ℕ, Bool, true, false, List, [], ◌∷◌, ◌++◌, map, Option, Some, None, refl, ◌∙◌, ◌||◌, if◌then◌else◌, ◌==◌}
 use Rattle.page_model.specs.declared.event.Event.TheVariants.{Print, WordEnd, LineEnd, Count, Break, Tab}
 use Rattle.page_model.specs.declared.glyph.Glyph.{Glyph}
 use Rattle.page_model.specs.declared.glyph.Glyph.TheVariants.{Blanks, Printed}

@@ -2,8 +2,7 @@
 -- opened where none is made, by an event that stands alone.
 --
 -- Each function f of reading has its lemma Moves-f here, with a line for each of its cases.
-use Rattle.std.proofs.Common.{◌≡◌, inl, ℕ, Bool, true, false, List, ◌++◌, Option, Some, None, refl}
-use Rattle.std.specs.Prelude.{◌||◌, ◌&&◌, ◌==◌}
+use Rattle.std.proofs.Common.{◌≡◌, inl, ℕ, Bool, true, false, List, ◌++◌, Option, Some, None, refl, ◌||◌, ◌&&◌, ◌==◌}
 use Rattle.roff_num.specs.declared.short_name.ShortName.{ShortName}
 use Rattle.roff_num.specs.ShortNames.{name_at, name_bytes}
 use Rattle.input_model.specs.Arguments.{no_arguments}

@@ -1,6 +1,5 @@
 -- Titles leave the texts in the making, as `TextsLeft` says it of text lines.
-use Rattle.std.proofs.Common.{ℕ, List, Option, Some, None, refl}
-use Rattle.std.specs.Prelude.{◌==◌}
+use Rattle.std.proofs.Common.{ℕ, List, Option, Some, None, refl, ◌==◌}
 use Rattle.input_source.specs.Bytes.{newline, blank}
 use Rattle.input_escapes.specs.Characters.{character}
 use Rattle.input_escapes.specs.Escapes.{escape_of}

@@ -40,6 +40,7 @@ pub fn entered_texts()
 {}
 
 /// What the definitions give on worked rows of diversions.
+#[tactic(auto, unfolding(roff_num::proofs::OnLiterals::numbers_on_literals))]
 pub fn diversion_rows()
     ensures read_again { formatted
         (codes ".pl 4\n.nf\n.di D\na  b\n.sp\n c\n.di\n\\n(dn \\n(dl\n.D\n")

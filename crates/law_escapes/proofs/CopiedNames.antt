@@ -1,6 +1,5 @@
 -- Names in parentheses as copy mode makes them: their first two bytes.
-use Rattle.std.proofs.Common.{◌≡◌, ◌<◌, ℕ, Bool, true, false, List, [], ◌∷◌, ◌++◌, Some, refl, ◌∙◌, ap, length}
-use Rattle.std.specs.Prelude.{take, ◌||◌, ◌==◌, if◌then◌else◌}
+use Rattle.std.proofs.Common.{◌≡◌, ◌<◌, ℕ, Bool, true, false, List, [], ◌∷◌, ◌++◌, Some, refl, ◌∙◌, ap, length, take, ◌||◌, ◌==◌, if◌then◌else◌}
 use Rattle.roff_num.specs.declared.limits.Limits.{Limits}
 use Rattle.input_source.specs.Bytes.{backslash, dot, is_dropped, newline, tab}
 use Rattle.input_escapes.specs.EscapeLaws.{sign}

@@ -1,8 +1,5 @@
 -- A message with an escape in it tells the text that is read in the escape's place.
-use Rattle.std.proofs.Common.{◌≡◌, ℕ, ◌+◌, ◌≤◌, Bool, true, false, List, [], ◌∷◌, ◌++◌, length, map, reverse, Some, None, refl, ap, sym, subst, ◌∙◌, arith}
-use Rattle.std.specs.Prelude.{All, fold, if◌then◌else◌}
-use Rattle.std.proofs.lemmas.Bool.{le-ltb}
-use Rattle.std.proofs.lemmas.List.{append-nil, length-append}
+use Rattle.std.proofs.Common.{◌≡◌, ℕ, ◌+◌, ◌≤◌, Bool, true, false, List, [], ◌∷◌, ◌++◌, length, map, reverse, Some, None, refl, ap, sym, subst, ◌∙◌, arith, All, fold, if◌then◌else◌, le-ltb, append-nil, length-append}
 use Rattle.std.proofs.lemmas.List.Sums.{fold-append}
 use Rattle.roff_num.specs.declared.limit.Limit.TheVariants.{Bytes}
 use Rattle.roff_num.specs.declared.limits.Limits.{Limits}
@@ -161,14 +158,8 @@ module _ (l : Limits) (s : State) (control : ℕ) (name : ShortName) (front behi
   abbrev u2 : State
   u2 = run_at s names (telling texts t1) read text (with_charge c2)
 
-  abbrev u3 : State
-  u3 = run_at s names (telling texts t2) read [] (with_charge c3)
-
   abbrev u4 : State
   u4 = run_at s names (telling texts t2) from last (with_charge c4)
-
-  abbrev u5 : State
-  u5 = run_at s names (telling texts t3) from (newline ∷ []) (with_charge c5)
 
   abbrev u6 : State
   u6 = run_at s names (stage (Told false) t3.1 texts) from [] (with_charge (c5 + 1))

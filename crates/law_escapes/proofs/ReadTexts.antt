@@ -1,9 +1,6 @@
 -- An escape is read as its text, wherever its line stands, and the text's end is taken.
-use Rattle.std.proofs.Common.{◌≡◌, ℕ, ◌+◌, ◌≤◌, Bool, true, false, List, [], ◌∷◌, ◌++◌, length, Option, Some, None, refl, ap, sym, subst, ◌∙◌, arith}
-use Rattle.std.specs.Prelude.{All, decimal, is_some, map, not, ◌&&◌, ◌||◌, if◌then◌else◌, ◌==◌}
-use Rattle.std.proofs.lemmas.Bool.{le-ltb}
+use Rattle.std.proofs.Common.{◌≡◌, ℕ, ◌+◌, ◌≤◌, Bool, true, false, List, [], ◌∷◌, ◌++◌, length, Option, Some, None, refl, ap, sym, subst, ◌∙◌, arith, All, decimal, is_some, map, not, ◌&&◌, ◌||◌, if◌then◌else◌, ◌==◌, le-ltb, append-nil}
 use Rattle.std.proofs.lemmas.List.Elements.{All-append, All-cons, All-head, All-nil, All-tail, All-weaker}
-use Rattle.std.proofs.lemmas.List.{append-nil}
 use Rattle.roff_num.specs.declared.direction.Direction.{Direction}
 use Rattle.input_escapes.specs.OpenEscape.{names_in}
 use Rattle.input_source.specs.Bytes.{is_dropped}

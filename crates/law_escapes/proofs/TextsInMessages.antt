@@ -1,7 +1,5 @@
 -- A message tells what the parts of its line are read as.
-use Rattle.std.proofs.Common.{◌≡◌, ℕ, ◌+◌, ◌≤◌, Bool, true, false, List, [], ◌∷◌, ◌++◌, length, reverse, None, refl, ap, sym, subst, ◌∙◌, arith, append_assoc}
-use Rattle.std.specs.Prelude.{fold}
-use Rattle.std.proofs.lemmas.List.{length-append}
+use Rattle.std.proofs.Common.{◌≡◌, ℕ, ◌+◌, ◌≤◌, Bool, true, false, List, [], ◌∷◌, ◌++◌, length, reverse, None, refl, ap, sym, subst, ◌∙◌, arith, append_assoc, fold, length-append}
 use Rattle.std.proofs.lemmas.List.Sums.{fold-append}
 use Rattle.roff_num.specs.declared.limits.Limits.{Limits}
 use Rattle.roff_num.specs.declared.short_name.ShortName.{ShortName}
@@ -115,8 +113,6 @@ tells-behind : (s : State) (from : Origin) (front : List ℕ) (text : List ℕ) 
     ≡ told_from s from (front ++ newline ∷ []) text
 tells-behind s from front text begins =
     let t : Bool × Arguments = fold tell (true, no_arguments) text in
-    let i : PageInput = behind_byte from newline (behind_bytes from front s.input) in
-    let here : PageInput = record i { ahead = ahead_at from [] } in
     let j : PageInput = counted from (front ++ newline ∷ []) s.input in
     let of : PageInput → Arguments → List OpenEscape → LineState → List ℕ → State = λ m a h r told. record s {
       tape = tape_at from [] s.tape;

@@ -1,7 +1,5 @@
 -- A title of printable bytes is read and placed.
-use Rattle.std.proofs.Common.{◌≡◌, ℕ, ◌+◌, ◌≤◌, Bool, true, false, List, [], ◌∷◌, ◌++◌, length, Option, None, refl, ap, sym, subst, ◌∙◌, arith, append_assoc}
-use Rattle.std.specs.Prelude.{All, ℤ, ◌==◌}
-use Rattle.std.proofs.lemmas.List.{append-nil, length-append}
+use Rattle.std.proofs.Common.{◌≡◌, ℕ, ◌+◌, ◌≤◌, Bool, true, false, List, [], ◌∷◌, ◌++◌, length, Option, None, refl, ap, sym, subst, ◌∙◌, arith, append_assoc, All, ℤ, ◌==◌, append-nil, length-append}
 use Rattle.std.proofs.lemmas.List.Elements.{All-weaker}
 use Rattle.input_model.specs.Input.{lines_taken}
 use Rattle.input_model.specs.Arguments.{Arguments, no_arguments}

@@ -1,6 +1,5 @@
 -- Runs over the bytes of a title, and what comes of it.
-use Rattle.std.proofs.Common.{◌≡◌, ℕ, ◌+◌, ◌≤◌, List, ◌∷◌, ◌++◌, length, None, refl, ap, ◌∙◌, arith}
-use Rattle.std.proofs.lemmas.List.{append-nil}
+use Rattle.std.proofs.Common.{◌≡◌, ℕ, ◌+◌, ◌≤◌, List, ◌∷◌, ◌++◌, length, None, refl, ap, ◌∙◌, arith, append-nil}
 use Rattle.input_model.specs.Arguments.{no_arguments}
 use Rattle.roff_num.specs.declared.limits.Limits.{Limits}
 use Rattle.roff_store.specs.Named.{Named}

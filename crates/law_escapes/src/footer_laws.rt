@@ -63,6 +63,7 @@ pub fn macro_ends()
 {}
 
 /// What the definitions give on worked rows of footers: some leave a word open.
+#[tactic(auto, unfolding(roff_num::proofs::OnLiterals::numbers_on_literals))]
 pub fn footer_rows()
     ensures between_words { formatted
         (codes ".pl 3\n.ll 9n\n.na\n.de F\nfoot\n..\n.wh 1v F\na bb ccc ddd e\n")

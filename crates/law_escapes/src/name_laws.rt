@@ -16,6 +16,7 @@ pub fn names()
 /// What the definitions give on worked rows of names with an escape that stays in copy mode, which
 /// is two bytes: of what a name in parentheses is copied to the first two bytes are the name, and
 /// what is left of the escape is dropped.
+#[tactic(auto, unfolding(roff_num::proofs::OnLiterals::numbers_on_literals))]
 pub fn name_rows()
     ensures second_of_a_register { formatted (codes ".pl 1\n.nr a\\\\ 1\n\\n(a\\xb\n")
         ≡ gives (codes "1b\n") [] Done }

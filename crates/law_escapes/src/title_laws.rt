@@ -18,6 +18,7 @@ pub fn printed_titles()
 {}
 
 /// What the definitions give on worked rows of titles.
+#[tactic(auto, unfolding(roff_num::proofs::OnLiterals::numbers_on_literals))]
 pub fn title_rows()
     ensures alone { formatted (codes ".pl 1\n.tl\n") ≡ gives (codes "\n") [] Done }
     ensures at_both_ends { formatted (codes ".pl 1\n.lt 9n\n.tl 'ab''c'\n")

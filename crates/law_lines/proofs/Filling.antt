@@ -1,6 +1,5 @@
 -- The lines of a paragraph are the longest fronts of its words.
-use Rattle.std.proofs.Common.{◌≡◌, Bool, true, false, List, [], ◌∷◌, refl, sym, ap, ◌∙◌}
-use Rattle.std.specs.Prelude.{if◌then◌else◌}
+use Rattle.std.proofs.Common.{◌≡◌, Bool, true, false, List, [], ◌∷◌, refl, sym, ap, ◌∙◌, if◌then◌else◌}
 use Rattle.page_model.specs.Fitting.{Word, fits, placed}
 use Rattle.law_lines.specs.Filling.{with_word, lines_of, words_of, last_of, EachFits, BeginsBehind, AreLongestFronts, FillsLines}
 

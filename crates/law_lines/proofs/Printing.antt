@@ -1,6 +1,5 @@
 -- Printed bytes above the blank are written as themselves.
-use Rattle.std.proofs.Common.{◌≡◌, ℕ, ◌<◌, false, List, [], ◌∷◌, ◌++◌, length, Some, refl, ap, ◌∙◌, arith}
-use Rattle.std.specs.Prelude.{map, reverse, All, option_map}
+use Rattle.std.proofs.Common.{◌≡◌, ℕ, ◌<◌, false, List, [], ◌∷◌, ◌++◌, length, Some, refl, ap, ◌∙◌, arith, map, reverse, All, option_map}
 use Rattle.std.specs.List.{flat_map}
 use Rattle.std.proofs.lemmas.List.Elements.{All-head, All-tail}
 use Rattle.page_model.specs.declared.glyph.Glyph.TheVariants.{Printed}

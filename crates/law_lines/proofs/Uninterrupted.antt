@@ -1,6 +1,5 @@
 -- An interruption of a line of the input changes nothing, nor does it in a field.
-use Rattle.std.proofs.Common.{◌≡◌, ℕ, Bool, true, false, List, [], ◌∷◌, ◌++◌, map, reverse, Option, Some, None, refl, sym, ap, ap₂, subst, ◌∙◌, append_assoc}
-use Rattle.std.specs.Prelude.{if◌then◌else◌, ◌==◌}
+use Rattle.std.proofs.Common.{◌≡◌, ℕ, Bool, true, false, List, [], ◌∷◌, ◌++◌, map, reverse, Option, Some, None, refl, sym, ap, ap₂, subst, ◌∙◌, append_assoc, if◌then◌else◌, ◌==◌}
 use Rattle.std.proofs.lemmas.List.{reverse-append, map-append}
 use Rattle.page_model.specs.declared.glyph.Glyph.{Glyph}
 use Rattle.page_model.specs.declared.glyph.Glyph.TheVariants.{Blanks}

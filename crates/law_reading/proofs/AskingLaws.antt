@@ -1,6 +1,6 @@
 -- A condition leads to its branch, which is read or skipped.
-use Rattle.std.proofs.Common.{◌≡◌, ℕ, ◌+◌, ◌≤◌, Bool, true, false, List, [], ◌∷◌, ◌++◌, length, Option, Some, None, refl, ap, sym, subst, ◌∙◌, arith}
-use Rattle.std.specs.Prelude.{⊤, All, Result, Ok, ◌%◌, ◌==◌, int_lt, map, not, pos, unsigned_abs, if◌then◌else◌}
+use Rattle.std.proofs.Common.{◌≡◌, ℕ, ◌+◌, ◌≤◌, Bool, true, false, List, [], ◌∷◌, ◌++◌, length, Option, Some, None, refl, ap, sym, subst, ◌∙◌, arith, All, Result, Ok, ◌%◌, ◌==◌, int_lt, map, not, pos, unsigned_abs, if◌then◌else◌}
+use Rattle.std.specs.Prelude.{⊤}
 use Rattle.roff_num.specs.Expressions.{value_at}
 use Rattle.roff_num.specs.declared.limits.Limits.{Limits}
 use Rattle.roff_num.specs.declared.num.Num.{Num}

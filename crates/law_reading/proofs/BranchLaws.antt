@@ -1,8 +1,6 @@
 -- Of two branches one is read: the other takes the newest result that is kept, and results end with the body in which they were kept.
-use Rattle.std.proofs.Common.{◌≡◌, ℕ, ◌+◌, ◌<◌, ◌≤◌, Bool, true, List, [], ◌∷◌, ◌++◌, length, Option, Some, None, refl, ap, sym, ◌∙◌, arith, ◌-◌, false}
-use Rattle.std.specs.Prelude.{drop, if◌then◌else◌, All}
-use Rattle.std.proofs.lemmas.Bool.{le-leb, le-ltb, lt-leb}
-use Rattle.std.proofs.lemmas.List.{length-append, length-drop}
+use Rattle.std.proofs.Common.{◌≡◌, ℕ, ◌+◌, ◌<◌, ◌≤◌, Bool, true, List, [], ◌∷◌, ◌++◌, length, Option, Some, None, refl, ap, sym, ◌∙◌, arith, ◌-◌, false, drop, if◌then◌else◌, All, le-leb, le-ltb, length-append, length-drop}
+use Rattle.std.proofs.lemmas.Bool.{lt-leb}
 use Rattle.std.proofs.lemmas.List.Elements.{All-head, All-tail}
 use Rattle.roff_num.specs.declared.limit.Limit.TheVariants.{Bytes}
 use Rattle.roff_num.specs.declared.limits.Limits.{Limits}
@@ -110,13 +108,11 @@ reads-newest (result ∷ others) = refl
 is-else : (s : State) (from : Origin) (front : List ℕ) (b : ℕ) → BeginsLine s
     → without s from [] (behind_byte from b (behind_bytes from front s.input)) ≡ else_from s from (front ++ b ∷ [])
 is-else s from front b begins =
-    let i : PageInput = behind_byte from b (behind_bytes from front s.input) in
     let of : PageInput → Arguments → List OpenEscape → State = λ j a h. record s {
       tape = tape_at from [] s.tape;
       input = without_last (record j { arguments = a; escapes = h; names = s.input.names; open_texts = s.input.open_texts });
       reading = branch_of (reads_else (last_result j));
     } in
-    let here : PageInput = record i { ahead = ahead_at from [] } in
     let j : PageInput = counted from (front ++ b ∷ []) s.input in
     ap (λ (k : PageInput). of k no_arguments []) (counted-last from front b s.input)
     ∙ ap (λ (a : Arguments). of j a []) (sym begins.arguments)

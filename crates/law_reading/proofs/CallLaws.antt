@@ -1,6 +1,5 @@
 -- Lines that call a body lead to where it is read.
-use Rattle.std.proofs.Common.{◌≡◌, ℕ, ◌+◌, ◌≤◌, List, ◌∷◌, ◌++◌, length, Option, Some, refl, ap, sym, subst, ◌∙◌, arith, []}
-use Rattle.std.specs.Prelude.{All, map, reverse, take}
+use Rattle.std.proofs.Common.{◌≡◌, ℕ, ◌+◌, ◌≤◌, List, ◌∷◌, ◌++◌, length, Option, Some, refl, ap, sym, subst, ◌∙◌, arith, [], All, map, reverse, take}
 use Rattle.std.proofs.Math.Seq.{take-nil}
 use Rattle.roff_num.specs.declared.limits.Limits.{Limits}
 use Rattle.input_model.specs.Arguments.{Arguments, finished, no_arguments, only_kept, total_length}

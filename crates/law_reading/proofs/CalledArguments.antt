@@ -1,11 +1,9 @@
 -- The arguments of a call in quotes, byte by byte.
-use Rattle.std.proofs.Common.{◌≡◌, ℕ, zero, suc, ◌+◌, ◌≤◌, Bool, true, false, List, ◌∷◌, ◌++◌, length, refl, ap, sym, subst, ◌∙◌, arith, append_assoc, []}
-use Rattle.std.specs.Prelude.{All, ◌||◌, nat_le, reverse, sum_by, take, if◌then◌else◌, ◌==◌}
+use Rattle.std.proofs.Common.{◌≡◌, ℕ, zero, suc, ◌+◌, ◌≤◌, Bool, true, false, List, ◌∷◌, ◌++◌, length, refl, ap, sym, subst, ◌∙◌, arith, append_assoc, [], All, ◌||◌, nat_le, reverse, sum_by, take, if◌then◌else◌, ◌==◌, eqb-true, append-nil}
 use Rattle.std.specs.List.{flat_map}
 use Rattle.std.proofs.Math.Seq.{take-nil}
-use Rattle.std.proofs.lemmas.Bool.{eqb-true}
 use Rattle.std.proofs.lemmas.Bool.Decides.{nat_tests}
-use Rattle.std.proofs.lemmas.List.{append-nil, length-reverse, reverse-reverse}
+use Rattle.std.proofs.lemmas.List.{length-reverse, reverse-reverse}
 use Rattle.std.proofs.lemmas.List.Elements.{All-head, All-tail}
 use Rattle.input_model.proofs.KeptArguments.{reverse-cons}
 use Rattle.input_model.specs.Arguments.{Arguments, finished, held, kept_behind, only_kept, settled, total_length, with_argument_byte}

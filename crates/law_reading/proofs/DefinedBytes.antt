@@ -1,9 +1,7 @@
 -- The lines of a definition, unit by unit, up to what ends them.
-use Rattle.std.proofs.Common.{◌≡◌, ℕ, ◌+◌, ◌≤◌, Bool, true, false, List, ◌∷◌, ◌++◌, length, Option, Some, None, refl, ap, sym, subst, ◌∙◌, arith, append_assoc, []}
-use Rattle.std.specs.Prelude.{All, ◌||◌, drop, set, sum_by, take, if◌then◌else◌, ◌==◌}
+use Rattle.std.proofs.Common.{◌≡◌, ℕ, ◌+◌, ◌≤◌, Bool, true, false, List, ◌∷◌, ◌++◌, length, Option, Some, None, refl, ap, sym, subst, ◌∙◌, arith, append_assoc, [], All, ◌||◌, drop, set, sum_by, take, if◌then◌else◌, ◌==◌, eqb-true, ne_eqb, length-append}
 use Rattle.std.proofs.Math.Seq.{drop-append_seam, get_or-append_seam, set-append_seam, take-append_seam}
-use Rattle.std.proofs.lemmas.Bool.{eqb-false, eqb-true, ne_eqb}
-use Rattle.std.proofs.lemmas.List.{length-append}
+use Rattle.std.proofs.lemmas.Bool.{eqb-false}
 use Rattle.std.proofs.lemmas.List.Elements.{All-head, All-tail}
 use Rattle.input_model.specs.Arguments.{Arguments, held}
 use Rattle.input_source.specs.Bytes.{backslash, is_dropped, newline}

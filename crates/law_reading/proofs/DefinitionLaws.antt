@@ -1,8 +1,6 @@
 -- The lines of definitions are copied, one after another, and enter their names as they are.
-use Rattle.std.proofs.Common.{◌≡◌, ℕ, ◌+◌, ◌-◌, ◌≤◌, Bool, List, ◌∷◌, ◌++◌, length, Option, Some, None, refl, ap, sym, subst, ◌∙◌, arith, [], true, false, append_assoc}
-use Rattle.std.specs.Prelude.{remove, sum_by, if◌then◌else◌, All, IsTrue, ◌&&◌, ◌||◌, not, ◌==◌}
+use Rattle.std.proofs.Common.{◌≡◌, ℕ, ◌+◌, ◌-◌, ◌≤◌, Bool, List, ◌∷◌, ◌++◌, length, Option, Some, None, refl, ap, sym, subst, ◌∙◌, arith, [], true, false, append_assoc, remove, sum_by, if◌then◌else◌, All, IsTrue, ◌&&◌, ◌||◌, not, ◌==◌, append-nil, length-append, eqb-true}
 use Rattle.std.proofs.Math.Seq.{drop-length, get_or-append_seam}
-use Rattle.std.proofs.lemmas.List.{append-nil, length-append}
 use Rattle.std.proofs.lemmas.List.Edits.{remove-append_right}
 use Rattle.std.proofs.lemmas.List.Sums.{sum_by-append, sum_by-cons}
 use Rattle.roff_num.specs.declared.limits.Limits.{Limits}
@@ -34,7 +32,7 @@ use Rattle.run_model.specs.declared.line_state.LineState.TheVariants.{Collecting
 use Rattle.run_model.specs.declared.purpose.Purpose.TheVariants.{Defining}
 use Rattle.roff_num.specs.declared.short_name.ShortName.{ShortName}
 use Rattle.law_reading.proofs.DefinedBytes.{Allows, Definition, defining, making, newest-last, reads-unit, AsItself, Escaped, IsCopied, NoUnit, OneUnit, no_newline, onward-mark, path-line}
-use Rattle.std.proofs.lemmas.Bool.{eqb-false, eqb-true}
+use Rattle.std.proofs.lemmas.Bool.{eqb-false}
 use Rattle.std.proofs.lemmas.List.Elements.{All-head, All-tail}
 use Rattle.input_escapes.proofs.Copying.{taken-copied}
 use Rattle.input_escapes.specs.EscapeLaws.{begins_reading, copied, copied_escape, is_only_copied}

@@ -1,6 +1,5 @@
 -- The laws of sentences, centred lines, indents for one line and spacing.
-use Rattle.std.proofs.Common.{◌≡◌, ℕ, ◌-◌, Bool, true, false, List, [], ◌∷◌, length, reverse, Option, Some, None, refl, sym, ap, subst, ◌∙◌, arith}
-use Rattle.std.specs.Prelude.{All, IfSome, ◌&&◌, ◌||◌, not, if◌then◌else◌, ◌==◌}
+use Rattle.std.proofs.Common.{◌≡◌, ℕ, ◌-◌, Bool, true, false, List, [], ◌∷◌, length, reverse, Option, Some, None, refl, sym, ap, subst, ◌∙◌, arith, All, IfSome, ◌&&◌, ◌||◌, not, if◌then◌else◌, ◌==◌}
 use Rattle.std.proofs.lemmas.List.Elements.{All-head, All-tail}
 use Rattle.roff_lines.proofs.Fields.{ends_sentence-field, settings_after-field}
 use Rattle.roff_lines.proofs.Told.{settings_after-plain, settings_after-told}

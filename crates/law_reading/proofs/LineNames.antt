@@ -1,6 +1,5 @@
 -- Lines up to their names, byte by byte.
-use Rattle.std.proofs.Common.{◌≡◌, ℕ, ◌≤◌, Bool, true, false, List, ◌∷◌, length, Option, Some, None, refl, ap, ◌∙◌, arith, []}
-use Rattle.std.specs.Prelude.{All, sum_by, if◌then◌else◌}
+use Rattle.std.proofs.Common.{◌≡◌, ℕ, ◌≤◌, Bool, true, false, List, ◌∷◌, length, Option, Some, None, refl, ap, ◌∙◌, arith, [], All, sum_by, if◌then◌else◌}
 use Rattle.std.proofs.lemmas.List.Elements.{All-head, All-tail}
 use Rattle.input_model.specs.Arguments.{Arguments, held}
 use Rattle.input_source.specs.Bytes.{blank, is_dropped, newline}
@@ -81,7 +80,6 @@ reads-name_of : (most : Most) (names : Named Entry) (a : Arguments) (texts : Lis
     → ReadsAs names (record { first = first; second = second }) there
     → ReadsName most names a texts (control ∷ name_bytes (record { first = first; second = second })) there
 reads-name_of most names a texts control first None there is_control belong allows reads =
-    let name : ShortName = record { first = first; second = None } in
     let begins = turns-control names a texts control is_control in
     record {
       reading = Name begins.0 first;

@@ -1,6 +1,5 @@
 -- There is room for the bytes of a line of which nothing is held.
-use Rattle.std.proofs.Common.{◌≡◌, ℕ, ◌+◌, ◌≤◌, List, [], ◌∷◌, length, refl, sym, subst, arith}
-use Rattle.std.specs.Prelude.{sum_by}
+use Rattle.std.proofs.Common.{◌≡◌, ℕ, ◌+◌, ◌≤◌, List, [], ◌∷◌, length, refl, sym, subst, arith, sum_by}
 use Rattle.roff_num.specs.declared.limits.Limits.{Limits}
 use Rattle.input_model.specs.Arguments.{no_arguments}
 use Rattle.law_reading.specs.CallLaws.{BeginsLine}

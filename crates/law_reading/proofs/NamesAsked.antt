@@ -1,6 +1,5 @@
 -- The bytes of an escape, up to the last one of its name, which asks for a text.
-use Rattle.std.proofs.Common.{◌≡◌, ℕ, ◌<◌, Bool, true, false, List, ◌∷◌, ◌++◌, Option, Some, None, refl, ap, ◌∙◌, []}
-use Rattle.std.specs.Prelude.{nat_le, not, ◌&&◌, ◌||◌, if◌then◌else◌, ◌==◌}
+use Rattle.std.proofs.Common.{◌≡◌, ℕ, ◌<◌, Bool, true, false, List, ◌∷◌, ◌++◌, Option, Some, None, refl, ap, ◌∙◌, [], nat_le, not, ◌&&◌, ◌||◌, if◌then◌else◌, ◌==◌}
 use Rattle.std.proofs.lemmas.Bool.{lt-leb}
 use Rattle.std.specs.List.{list_any}
 use Rattle.input_source.specs.Bytes.{newline, backslash, is_dropped}

@@ -1,6 +1,5 @@
 -- Events behind which nothing follows.
-use Rattle.std.proofs.Common.{◌≡◌, Bool, true, false, not, ◌||◌, List, [], Option, Some, None, refl, ap, ◌∙◌}
-use Rattle.std.specs.Prelude.{option_map, if◌then◌else◌}
+use Rattle.std.proofs.Common.{◌≡◌, Bool, true, false, not, ◌||◌, List, [], Option, Some, None, refl, ap, ◌∙◌, option_map, if◌then◌else◌}
 use Rattle.page_model.specs.Behind.{finished}
 use Rattle.page_model.specs.DivertedText.{diverted_lines, diverted_text}
 use Rattle.page_model.specs.DueTexts.{bytes_due, drop_due, due_by, end_due}

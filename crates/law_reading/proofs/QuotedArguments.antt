@@ -1,8 +1,7 @@
 -- Requests get the arguments that are written in quotes.
-use Rattle.std.proofs.Common.{◌≡◌, ℕ, Bool, true, false, List, [], ◌∷◌, ◌++◌, refl, sym, ◌∙◌, ap}
-use Rattle.std.specs.Prelude.{fold, All, ◌||◌, reverse, if◌then◌else◌, ◌==◌, Option, Some, None}
+use Rattle.std.proofs.Common.{◌≡◌, ℕ, Bool, true, false, List, [], ◌∷◌, ◌++◌, refl, sym, ◌∙◌, ap, fold, All, ◌||◌, reverse, if◌then◌else◌, ◌==◌, Option, Some, None, append-nil}
 use Rattle.std.specs.List.{flat_map}
-use Rattle.std.proofs.lemmas.List.{append-nil, reverse-reverse}
+use Rattle.std.proofs.lemmas.List.{reverse-reverse}
 use Rattle.std.proofs.lemmas.List.Elements.{All-nil, All-cons, All-head, All-tail, All-append}
 use Rattle.input_model.proofs.KeptArguments.{only_kept-finished, only_kept-with_unit}
 use Rattle.input_arguments.proofs.QuotedArguments.{quoted_arguments_read_back}

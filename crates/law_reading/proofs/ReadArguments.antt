@@ -1,10 +1,9 @@
 -- What a call holds of its line, and what the line's arguments are read as.
-use Rattle.std.proofs.Common.{◌≡◌, ℕ, ◌+◌, ◌≤◌, Bool, true, false, List, [], ◌∷◌, ◌++◌, length, refl, ap, sym, subst, ◌∙◌, arith}
-use Rattle.std.specs.Prelude.{⊤, fold, nat_le, reverse, take, if◌then◌else◌, ◌==◌}
+use Rattle.std.proofs.Common.{◌≡◌, ℕ, ◌+◌, ◌≤◌, Bool, true, false, List, [], ◌∷◌, ◌++◌, length, refl, ap, sym, subst, ◌∙◌, arith, fold, nat_le, reverse, take, if◌then◌else◌, ◌==◌, leb-true, take_all}
+use Rattle.std.specs.Prelude.{⊤}
 use Rattle.std.proofs.Math.Seq.{take-append_seam}
-use Rattle.std.proofs.lemmas.Bool.{leb-true}
 use Rattle.std.proofs.lemmas.Bool.Decides.{nat_tests}
-use Rattle.std.proofs.lemmas.List.{length-reverse, reverse-append, take_all}
+use Rattle.std.proofs.lemmas.List.{length-reverse, reverse-append}
 use Rattle.input_model.proofs.KeptArguments.{held-finished, held-only_kept, held-settled, held-with_argument_byte, total_length-reverse}
 use Rattle.input_model.specs.Arguments.{Arguments, arguments_read, between, finished, held, only_kept, settled, total_length, with_argument_byte, with_whole}
 use Rattle.input_model.specs.Arguments.{is_held}

@@ -1,7 +1,5 @@
 -- Branches that are skipped end behind the shortest bytes behind which they may end, and runs pass over them.
-use Rattle.std.proofs.Common.{◌≡◌, ℕ, ◌+◌, ◌≤◌, true, false, List, [], ◌∷◌, ◌++◌, length, None, Some, refl, ap, sym, subst, ◌∙◌, arith, append_assoc, Bool}
-use Rattle.std.specs.Prelude.{map, not, nat_le, ◌&&◌, if◌then◌else◌, ◌==◌}
-use Rattle.std.proofs.lemmas.List.{append-nil, length-append}
+use Rattle.std.proofs.Common.{◌≡◌, ℕ, ◌+◌, ◌≤◌, true, false, List, [], ◌∷◌, ◌++◌, length, None, Some, refl, ap, sym, subst, ◌∙◌, arith, append_assoc, Bool, map, not, nat_le, ◌&&◌, if◌then◌else◌, ◌==◌, append-nil, length-append, eqb-true, le-leb, leb-true}
 use Rattle.std.proofs.lemmas.List.Elements.{All-head, All-tail}
 use Rattle.roff_num.specs.declared.limits.Limits.{Limits}
 use Rattle.input_source.specs.Bytes.{newline, is_dropped, backslash}
@@ -20,7 +18,6 @@ use Rattle.run_model.specs.Reading.Items.{PageInput, Taking, going_on}
 use Rattle.run_model.specs.Run.{State, known_at, made, taken_as, step, after}
 use Rattle.run_model.specs.declared.line_state.LineState.{LineState}
 use Rattle.run_model.specs.declared.line_state.LineState.TheVariants.{LineStart, Skipping}
-use Rattle.std.proofs.lemmas.Bool.{eqb-true, le-leb, leb-true}
 use Rattle.law_reading.specs.Quoting.{both, taking_all}
 use Rattle.run_model.specs.Registers.{Known}
 

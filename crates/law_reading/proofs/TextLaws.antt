@@ -1,9 +1,6 @@
 -- A text line tells its words and gaps, and a line of blanks alone is a blank line.
-use Rattle.std.proofs.Common.{◌≡◌, ℕ, zero, suc, ◌+◌, ◌≤◌, Bool, true, false, List, ◌∷◌, ◌++◌, length, Option, None, refl, ap, sym, subst, ◌∙◌, arith, []}
-use Rattle.std.specs.Prelude.{All, ◌||◌, not, min, nat_lt, replicate, if◌then◌else◌, ◌==◌}
+use Rattle.std.proofs.Common.{◌≡◌, ℕ, zero, suc, ◌+◌, ◌≤◌, Bool, true, false, List, ◌∷◌, ◌++◌, length, Option, None, refl, ap, sym, subst, ◌∙◌, arith, [], All, ◌||◌, not, min, nat_lt, replicate, if◌then◌else◌, ◌==◌, ne_eqb, length-append}
 use Rattle.std.specs.List.{flat_map}
-use Rattle.std.proofs.lemmas.Bool.{ne_eqb}
-use Rattle.std.proofs.lemmas.List.{length-append}
 use Rattle.std.proofs.lemmas.List.Elements.{All-head, All-tail}
 use Rattle.roff_num.specs.declared.limits.Limits.{Limits}
 use Rattle.input_model.specs.Arguments.{Arguments, no_arguments}
@@ -161,14 +158,12 @@ is-told : (s : State) (from : Origin) (front : List ℕ) (events : List PageEven
     → let h : PageHistory = behind_all s.registers events s.history in
     text_at s LineStart from [] (behind_byte from newline (behind_bytes from front s.input)) h ≡ told_from s from (front ++ newline ∷ []) events
 is-told s from front events begins =
-    let i : PageInput = behind_byte from newline (behind_bytes from front s.input) in
     let of : PageInput → Arguments → List OpenEscape → LineState → State = λ j a h r. record s {
       tape = tape_at from [] s.tape;
       input = record j { arguments = a; escapes = h; names = s.input.names; open_texts = s.input.open_texts };
       reading = r;
       history = behind_all s.registers events s.history;
     } in
-    let here : PageInput = record i { ahead = ahead_at from [] } in
     let j : PageInput = counted from (front ++ newline ∷ []) s.input in
     ap (λ (k : PageInput). of k no_arguments [] LineStart) (counted-last from front newline s.input)
     ∙ ap (λ (a : Arguments). of j a [] LineStart) (sym begins.arguments)
@@ -318,7 +313,6 @@ empty-from : (l : Limits) (s : State) (from : Origin) → BeginsLine s → inter
     ≡ told_from s from (newline ∷ []) (all_performed s.registers blank_line s.history)
 empty-from l s from begins none_goes ahead tape within charged allowed =
     let line : List ℕ = newline ∷ [] in
-    let start : State = text_at s LineStart from line s.input s.history in
     let at : State = text_at s LineStart from [] (behind_byte from newline s.input) s.history in
     ap (after l (suc (steps_of s.registers blank_line s.history)))
     (sym (is-run_at s from line (reads_at LineStart s) begins.reading begins.escapes begins.arguments refl ahead tape))

@@ -33,6 +33,7 @@ pub fn two_dots()
 
 /// What the definitions give on worked rows of lines that end a definition as they are copied: the
 /// escape of a dot is a dot there, and what is read in the place of a string is of the line.
+#[tactic(auto, unfolding(roff_num::proofs::OnLiterals::numbers_on_literals))]
 pub fn definition_rows()
     ensures dot_of_an_escape { formatted (codes ".pl 1\n.de M\na\n\\..\n.M\n")
         ≡ gives (codes "a\n") (codes "") Done }

@@ -47,6 +47,7 @@ pub fn ended_lines()
 {}
 
 /// What the definitions give on worked rows of the end of a run, and of registers that are given.
+#[tactic(auto, unfolding(roff_num::proofs::OnLiterals::numbers_on_literals))]
 pub fn end_rows()
     ensures behind_text { formatted (codes ".pl 1\n.nf\n.de Z\nend\n..\n.em Z\na\n")
         ≡ gives (codes "a\nend\n") (codes "") Done }

@@ -1,7 +1,5 @@
 -- The law of reading again, from a run's beginning.
-use Rattle.std.proofs.Common.{◌≡◌, ◌≤◌, Bool, false, List, [], ◌∷◌, Some, None, refl, ap, ◌∙◌, arith}
-use Rattle.std.specs.Prelude.{if◌then◌else◌, map}
-use Rattle.std.proofs.lemmas.Bool.{le-ltb}
+use Rattle.std.proofs.Common.{◌≡◌, ◌≤◌, Bool, false, List, [], ◌∷◌, Some, None, refl, ap, ◌∙◌, arith, if◌then◌else◌, map, le-ltb, append-nil}
 use Rattle.roff_num.specs.declared.limit.Limit.TheVariants.{Diversions, Line, Output}
 use Rattle.page_model.specs.DueTexts.{Begins}
 use Rattle.page_model.specs.declared.event.Event.TheVariants.{Set}
@@ -13,7 +11,6 @@ use Rattle.run_model.specs.Run.{after, blank_state, first_input}
 use Rattle.run_model.specs.Run.Counts.{first_passed}
 use Rattle.run_model.specs.declared.event.PageEvent.TheVariants.{Page, Text}
 use Rattle.law_reading_again.proofs.Events.{IsQuiet, event-step, text-step}
-use Rattle.std.proofs.lemmas.List.{append-nil}
 use Rattle.roff_num.specs.declared.limits.Limits.{Limits}
 use Rattle.roff_num.specs.declared.short_name.ShortName.{ShortName}
 use Rattle.input_model.specs.Input.Names.{names_added, stored}

@@ -1,7 +1,6 @@
 -- What the bytes of a diversion's text do, one after another.
-use Rattle.std.proofs.Common.{◌≡◌, ℕ, Bool, true, false, List, [], ◌∷◌, Option, None, inl, inr, refl, sym, ap, subst, ◌∙◌}
-use Rattle.std.specs.Prelude.{◌==◌, ◌||◌, codes, not, nat_lt, if◌then◌else◌}
-use Rattle.std.proofs.lemmas.Bool.{cases_Bool, eqb-true}
+use Rattle.std.proofs.Common.{◌≡◌, ℕ, Bool, true, false, List, [], ◌∷◌, Option, None, inl, inr, refl, sym, ap, subst, ◌∙◌, ◌==◌, ◌||◌, codes, not, nat_lt, if◌then◌else◌, eqb-true}
+use Rattle.std.proofs.lemmas.Bool.{cases_Bool}
 use Rattle.input_escapes.specs.OpenEscape.{OpenEscape, Backslash}
 use Rattle.input_source.specs.Bytes.{backslash, is_text_byte}
 use Rattle.page_model.specs.Diverted.{escaped_byte}

@@ -1,7 +1,5 @@
 -- What is put in an open diversion: no page begins or ends, no trap is met, and its text gets the box.
-use Rattle.std.proofs.Common.{◌≡◌, ℕ, ◌-◌, Bool, true, false, List, [], ◌∷◌, length, Option, Some, None, refl, ap, ◌∙◌, arith}
-use Rattle.std.specs.Prelude.{◌||◌, not, ◌==◌, if◌then◌else◌}
-use Rattle.std.proofs.lemmas.Bool.{eq-eqb}
+use Rattle.std.proofs.Common.{◌≡◌, ℕ, ◌-◌, Bool, true, false, List, [], ◌∷◌, length, Option, Some, None, refl, ap, ◌∙◌, arith, ◌||◌, not, ◌==◌, if◌then◌else◌, eq-eqb}
 use Rattle.page_model.specs.DeviceText.{device_text}
 use Rattle.page_model.specs.DivertedText.{diverted_line}
 use Rattle.page_model.specs.DueTexts.{Gets, text_due}

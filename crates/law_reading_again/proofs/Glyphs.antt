@@ -1,9 +1,8 @@
 -- The glyphs of a text, and what a line of them prints.
-use Rattle.std.proofs.Common.{◌≡◌, ℕ, ◌+◌, ◌-◌, ◌<◌, ◌≤◌, Bool, true, false, List, [], ◌∷◌, ◌++◌, length, reverse, inl, inr, refl, sym, ap, ◌∙◌, arith, append_assoc}
-use Rattle.std.specs.Prelude.{◌==◌, ◌||◌, nat_lt, if◌then◌else◌}
+use Rattle.std.proofs.Common.{◌≡◌, ℕ, ◌+◌, ◌-◌, ◌<◌, ◌≤◌, Bool, true, false, List, [], ◌∷◌, ◌++◌, length, reverse, inl, inr, refl, sym, ap, ◌∙◌, arith, append_assoc, ◌==◌, ◌||◌, nat_lt, if◌then◌else◌, eqb-true, ltb-false, ne_eqb, append-nil, length-append}
 use Rattle.std.specs.List.{AllByRecursion, flat_map}
-use Rattle.std.proofs.lemmas.Bool.{cases_Bool, eqb-false, eqb-true, lt-leb, ltb-false, ne_eqb, not-true, or_from, or_parts}
-use Rattle.std.proofs.lemmas.List.{append-nil, length-append, reverse-append}
+use Rattle.std.proofs.lemmas.Bool.{cases_Bool, eqb-false, lt-leb, not-true, or_from, or_parts}
+use Rattle.std.proofs.lemmas.List.{reverse-append}
 use Rattle.std.proofs.lemmas.List.Concat.{flat_map-append}
 use Rattle.page_model.specs.Columns.{added_columns, printed, spaces, spread}
 use Rattle.page_model.specs.Glyphs.{gaps_in, glyph_blank, glyph_text}

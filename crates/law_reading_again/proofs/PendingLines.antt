@@ -1,6 +1,5 @@
 -- What a line in a diversion has pending, where nothing is filled, and what its end finishes.
-use Rattle.std.proofs.Common.{◌≡◌, ℕ, ◌+◌, Bool, true, false, List, [], ◌∷◌, length, reverse, Option, Some, None, refl, ap, ◌∙◌, arith}
-use Rattle.std.specs.Prelude.{◌&&◌, not, if◌then◌else◌}
+use Rattle.std.proofs.Common.{◌≡◌, ℕ, ◌+◌, Bool, true, false, List, [], ◌∷◌, length, reverse, Option, Some, None, refl, ap, ◌∙◌, arith, ◌&&◌, not, if◌then◌else◌}
 use Rattle.std.specs.List.{flat_map}
 use Rattle.page_model.specs.declared.event.Event.TheVariants.{Print, WordEnd, LineEnd, Break}
 use Rattle.page_model.specs.Events.{History, settings_after}

@@ -1,6 +1,5 @@
 -- The bytes of the boxes in open diversions.
-use Rattle.std.proofs.Common.{◌≡◌, ℕ, ◌+◌, Bool, true, false, List, [], ◌∷◌, Option, Some, None, subst, sym}
-use Rattle.std.specs.Prelude.{◌==◌, ◌&&◌, IfSome, not, nat_le, option_map, replicate}
+use Rattle.std.proofs.Common.{◌≡◌, ℕ, ◌+◌, Bool, true, false, List, [], ◌∷◌, Option, Some, None, subst, sym, ◌==◌, ◌&&◌, IfSome, not, nat_le, option_map, replicate}
 use Rattle.std.specs.List.{AllByRecursion}
 use Rattle.roff_num.specs.declared.limits.Limits.{Limits}
 use Rattle.page_model.specs.Behind.{finished}

@@ -1,8 +1,7 @@
 -- The bytes of lines, as they are printed.
-use Rattle.std.proofs.Common.{◌≡◌, ℕ, zero, suc, ◌+◌, ◌-◌, ◌<◌, Bool, true, false, List, [], ◌∷◌, ◌++◌, reverse, Option, Some, None, refl, sym, ap, subst, ◌∙◌, arith}
-use Rattle.std.specs.Prelude.{◌==◌, ◌&&◌, ◌||◌, IfSome, not, nat_le, nat_lt, replicate, if◌then◌else◌}
+use Rattle.std.proofs.Common.{◌≡◌, ℕ, zero, suc, ◌+◌, ◌-◌, ◌<◌, Bool, true, false, List, [], ◌∷◌, ◌++◌, reverse, Option, Some, None, refl, sym, ap, subst, ◌∙◌, arith, ◌==◌, ◌&&◌, ◌||◌, IfSome, not, nat_le, nat_lt, replicate, if◌then◌else◌, le-ltb, leb-false}
 use Rattle.std.specs.List.{AllByRecursion, flat_map}
-use Rattle.std.proofs.lemmas.Bool.{le-ltb, leb-false, not_from_false, or_from, or_parts}
+use Rattle.std.proofs.lemmas.Bool.{not_from_false, or_from, or_parts}
 use Rattle.std.proofs.lemmas.List.{reverse-append}
 use Rattle.page_model.specs.Columns.{added_columns, printed, spaces, spread}
 use Rattle.page_model.specs.Events.{History, settings_after}

@@ -1,6 +1,5 @@
 -- Lists that others begin with.
-use Rattle.std.proofs.Common.{ℕ, List, [], ◌++◌, refl, sym, append_assoc}
-use Rattle.std.proofs.lemmas.List.{append-nil}
+use Rattle.std.proofs.Common.{ℕ, List, [], ◌++◌, refl, sym, append_assoc, append-nil}
 use Rattle.roff_num.specs.Lists.{IsBeginning}
 
 -- a list begins with itself

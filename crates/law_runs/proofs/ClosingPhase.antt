@@ -1,6 +1,5 @@
 -- Once the closing phase has begun nothing ends it.
-use Rattle.std.proofs.Common.{◌≡◌, Bool, true, false, List, ◌∷◌, Option, Some, None, refl, ◌∙◌}
-use Rattle.std.specs.Prelude.{nat_le, option_map, if◌then◌else◌}
+use Rattle.std.proofs.Common.{◌≡◌, Bool, true, false, List, ◌∷◌, Option, Some, None, refl, ◌∙◌, nat_le, option_map, if◌then◌else◌}
 use Rattle.page_model.specs.Behind.{finished}
 use Rattle.page_model.specs.Lines.{Finished}
 use Rattle.page_model.specs.Happenings.{Happening, Does, Places, Titles}

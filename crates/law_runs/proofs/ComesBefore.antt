@@ -1,8 +1,6 @@
 -- How many steps come before an event at the most: those of the end of an open field and of an open word, and of the first page's
 -- beginning.
-use Rattle.std.proofs.Common.{◌≡◌, ◌≤◌, ◌+◌, ℕ, Bool, true, false, not, ◌||◌, List, [], ◌∷◌, Option, Some, None, refl, sym, ◌∙◌, ap, subst, arith}
-use Rattle.std.specs.Prelude.{◌&&◌, nat_le, is_some, if◌then◌else◌, ◌==◌}
-use Rattle.std.proofs.lemmas.Bool.{ne_eqb}
+use Rattle.std.proofs.Common.{◌≡◌, ◌≤◌, ◌+◌, ℕ, Bool, true, false, not, ◌||◌, List, [], ◌∷◌, Option, Some, None, refl, sym, ◌∙◌, ap, subst, arith, ◌&&◌, nat_le, is_some, if◌then◌else◌, ◌==◌, ne_eqb}
 use Rattle.page_model.specs.Behind.{finished, has_open_word}
 use Rattle.page_model.specs.Events.{History}
 use Rattle.page_model.specs.Fields.{Field, Told, is_in_field, so_far, told_plainly, told_behind}

@@ -1,6 +1,5 @@
 -- A run has ended, or it goes on.
-use Rattle.std.proofs.Common.{◌≡◌, ◌⊎◌, inl, inr, ℕ, zero, suc, Option, Some, None, refl, ◌∙◌, ap}
-use Rattle.std.specs.Prelude.{IsSome}
+use Rattle.std.proofs.Common.{◌≡◌, ◌⊎◌, inl, inr, ℕ, zero, suc, Option, Some, None, refl, ◌∙◌, ap, IsSome}
 use Rattle.roff_num.specs.declared.limits.Limits.{Limits}
 use Rattle.run_model.specs.declared.status.Status.{Status}
 use Rattle.run_model.specs.Run.{State, after, step, step_behind, told_after}

@@ -1,6 +1,5 @@
 -- Switches between environments, and what happened in each.
-use Rattle.std.proofs.Common.{◌≡◌, ◌∙◌, Bool, true, false, List, [], ◌∷◌, Option, refl, ap}
-use Rattle.std.specs.Prelude.{if◌then◌else◌}
+use Rattle.std.proofs.Common.{◌≡◌, ◌∙◌, Bool, true, false, List, [], ◌∷◌, Option, refl, ap, if◌then◌else◌}
 use Rattle.page_model.specs.declared.event.Event.{Event}
 use Rattle.page_model.specs.declared.event.Event.TheVariants.{Interrupt as IsInterrupted}
 use Rattle.run_model.specs.Environments.{PageHistory, InEnvironment, Environments, environments, gone_back, happened, is_same, number_behind, switched_to, ring_turned, turned_to, ring_turned_unless}

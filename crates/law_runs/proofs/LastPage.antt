@@ -1,7 +1,5 @@
 -- The last page: as it is ejected it ends, unless that goes on behind a macro, and then the pages are whole.
-use Rattle.std.proofs.Common.{◌≡◌, ◌⊎◌, inl, inr, ℕ, Bool, true, false, not, ◌&&◌, ◌||◌, List, [], ◌∷◌, ◌++◌, length, Option, refl, sym, ◌∙◌, ap, subst, arith, append-nil}
-use Rattle.std.specs.Prelude.{is_some, nat_le, if◌then◌else◌, ◌==◌}
-use Rattle.std.proofs.lemmas.Bool.{eq-eqb, eqb-true}
+use Rattle.std.proofs.Common.{◌≡◌, ◌⊎◌, inl, inr, ℕ, Bool, true, false, not, ◌&&◌, ◌||◌, List, [], ◌∷◌, ◌++◌, length, Option, refl, sym, ◌∙◌, ap, subst, arith, append-nil, is_some, nat_le, if◌then◌else◌, ◌==◌, eq-eqb, eqb-true}
 use Rattle.page_model.specs.DeviceText.{device_lines}
 use Rattle.page_model.specs.Happenings.{Happening, Does}
 use Rattle.page_model.specs.Layout.{Box, Layout, page_place}

@@ -1,10 +1,8 @@
 -- A run that is done wrote whole pages.
 --
 -- Each function f of the run has its lemma Writes-f here, with a line for each of its cases.
-use Rattle.std.proofs.Common.{◌≡◌, ◌⊎◌, inl, inr, ℕ, zero, suc, Bool, true, false, not, ◌&&◌, ◌||◌, List, [], ◌∷◌, ◌++◌, map, Option, Some, None, refl, sym, ◌∙◌, ap, subst}
+use Rattle.std.proofs.Common.{◌≡◌, ◌⊎◌, inl, inr, ℕ, zero, suc, Bool, true, false, not, ◌&&◌, ◌||◌, List, [], ◌∷◌, ◌++◌, map, Option, Some, None, refl, sym, ◌∙◌, ap, subst, is_some, ◌==◌, eqb-true}
 use Rattle.run_model.specs.Results.{last_state}
-use Rattle.std.specs.Prelude.{is_some, ◌==◌}
-use Rattle.std.proofs.lemmas.Bool.{eqb-true}
 use Rattle.page_model.specs.declared.event.Event.TheVariants.{FieldEnd, WordEnd, Break}
 use Rattle.roff_num.specs.declared.limit.Limit.{Limit}
 use Rattle.roff_num.specs.declared.limit.Limit.TheVariants.{Messages}
@@ -139,7 +137,6 @@ begins-closing : (l : Limits) (s : State) → s.ended ≡ None → s.phase ≡ C
     → Written (step_with l closing_events s)
 begins-closing l s going phase none so_far =
     let rest : List PageEvent = Text WordEnd ∷ Text Break ∷ Page EjectLast ∷ [] in
-    let h : PageHistory = Page Close ∷ s.history in
     subst (λ (own : Option PageEvent). Written (performing l own (Page Close) rest s)) (sym (none-closes (takes_text (layout_of s.history))))
     (closes-performed l (Page Close) rest s _ (performed_or_stopped l None (Page Close) rest s) going phase (tt, (tt, (refl, tt)))
     (subst (AllMeantAhead true) (sym none) tt) (λ goes. inl (inr (inr (inl refl)))) refl (so_far-close s.history so_far))

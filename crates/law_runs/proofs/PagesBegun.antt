@@ -1,6 +1,5 @@
 -- No page that was begun goes back.
-use Rattle.std.proofs.Common.{◌≤◌, Bool, true, false, List, ◌∷◌, Option, Some, None, arith}
-use Rattle.std.specs.Prelude.{nat_le, option_map, if◌then◌else◌}
+use Rattle.std.proofs.Common.{◌≤◌, Bool, true, false, List, ◌∷◌, Option, Some, None, arith, nat_le, option_map, if◌then◌else◌}
 use Rattle.page_model.specs.Behind.{finished}
 use Rattle.page_model.specs.Lines.{Finished}
 use Rattle.page_model.specs.Happenings.{Happening, Does, Places, Titles}

@@ -1,7 +1,5 @@
 -- What was written behind what requests mean: space that is asked for or needed, ejects, no-space mode, traps, and diversions.
-use Rattle.std.proofs.Common.{◌≡◌, ◌<◌, ℕ, ℤ, Bool, true, false, not, ◌&&◌, ◌||◌, [], ◌∷◌, ◌++◌, Option, Some, None, refl, sym, subst, arith}
-use Rattle.std.specs.Prelude.{is_some, if◌then◌else◌, ◌==◌}
-use Rattle.std.proofs.lemmas.Bool.{eqb-true}
+use Rattle.std.proofs.Common.{◌≡◌, ◌<◌, ℕ, ℤ, Bool, true, false, not, ◌&&◌, ◌||◌, [], ◌∷◌, ◌++◌, Option, Some, None, refl, sym, subst, arith, is_some, if◌then◌else◌, ◌==◌, eqb-true}
 use Rattle.roff_num.specs.declared.num.Num.{Num}
 use Rattle.page_model.specs.DeviceText.{device_lines, device_text}
 use Rattle.page_model.specs.Happenings.{Happening, Does}

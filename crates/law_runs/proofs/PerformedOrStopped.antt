@@ -1,6 +1,5 @@
 -- The step at an event has few outcomes. What is proved of each of them holds of it, however events are counted.
-use Rattle.std.proofs.Common.{◌≡◌, Bool, true, false, List, [], ◌∷◌, map, Option, Some, None, refl, sym, ◌∙◌, ap}
-use Rattle.std.specs.Prelude.{is_some}
+use Rattle.std.proofs.Common.{◌≡◌, Bool, true, false, List, [], ◌∷◌, map, Option, Some, None, refl, sym, ◌∙◌, ap, is_some}
 use Rattle.page_model.specs.Happenings.{Does}
 use Rattle.page_model.specs.Springs.{goes_on}
 use Rattle.page_model.specs.declared.layout_event.LayoutEvent.{LayoutEvent}

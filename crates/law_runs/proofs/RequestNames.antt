@@ -1,6 +1,5 @@
 -- Each request of the table is the one of its name, and stands there once.
-use Rattle.std.proofs.Common.{◌≡◌, ℕ, List, bytes_eq, refl, Some}
-use Rattle.std.specs.Prelude.{count_by, Contains}
+use Rattle.std.proofs.Common.{◌≡◌, ℕ, List, bytes_eq, refl, Some, count_by, Contains}
 use Rattle.std.specs.List.{AllByRecursion}
 use Rattle.std.proofs.lemmas.List.Elements.{All-contains, All-from_recursion}
 use Rattle.law_runs.specs.RequestLaws.{EachIsNamed, EachIsListedOnce, name_of}

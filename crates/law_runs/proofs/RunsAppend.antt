@@ -1,6 +1,5 @@
 -- What a run wrote and reported is never taken back.
-use Rattle.std.proofs.Common.{◌≡◌, ℕ, ◌+◌, zero, suc, inl, inr, List, [], ◌++◌, sym, ◌∙◌, ap, subst, add_comm}
-use Rattle.std.proofs.lemmas.List.{append-nil}
+use Rattle.std.proofs.Common.{◌≡◌, ℕ, ◌+◌, zero, suc, inl, inr, List, [], ◌++◌, sym, ◌∙◌, ap, subst, add_comm, append-nil}
 use Rattle.roff_num.specs.Lists.{IsBeginning}
 use Rattle.roff_num.specs.declared.limits.Limits.{Limits}
 use Rattle.law_runs.specs.Laws.{GoesOnTo, StepsOnlyAppend}

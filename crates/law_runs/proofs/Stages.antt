@@ -1,8 +1,7 @@
 -- Nothing closes a run before its input has ended: until then no event ends the last page.
 --
 -- Each function f of the run has its lemma Stage-f here, with a line for each of its cases.
-use Rattle.std.proofs.Common.{◌≡◌, ℕ, Bool, true, false, List, [], ◌∷◌, ◌++◌, map, Option, Some, None, ◌⊎◌, inl, inr, refl, sym, ◌∙◌, ap, subst}
-use Rattle.std.specs.Prelude.{nat_le, option_map, if◌then◌else◌}
+use Rattle.std.proofs.Common.{◌≡◌, ℕ, Bool, true, false, List, [], ◌∷◌, ◌++◌, map, Option, Some, None, ◌⊎◌, inl, inr, refl, sym, ◌∙◌, ap, subst, nat_le, option_map, if◌then◌else◌}
 use Rattle.page_model.specs.Behind.{finished}
 use Rattle.page_model.specs.Lines.{Finished}
 use Rattle.page_model.specs.declared.event.Event.TheVariants.{FieldEnd, WordEnd}

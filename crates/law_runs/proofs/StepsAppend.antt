@@ -3,8 +3,7 @@
 -- Each function f of the run has its lemma OnlyCuts-f here, with a line for each of its cases. Where a case
 -- leaves the history and the messages as they are, the line is `OnlyCuts-same s _ refl refl`; where it appends
 -- messages alone, `OnlyCuts-message s _ _ refl refl`; and where it calls another function, that one's lemma.
-use Rattle.std.proofs.Common.{◌≡◌, ℕ, ◌+◌, Bool, true, false, List, [], ◌∷◌, ◌++◌, Option, Some, None, refl}
-use Rattle.std.specs.Prelude.{nat_lt, if◌then◌else◌}
+use Rattle.std.proofs.Common.{◌≡◌, ℕ, ◌+◌, Bool, true, false, List, [], ◌∷◌, ◌++◌, Option, Some, None, refl, nat_lt, if◌then◌else◌}
 use Rattle.roff_num.specs.declared.limit.Limit.{Limit}
 use Rattle.roff_num.specs.declared.limits.Limits.{Limits}
 use Rattle.input_escapes.specs.Waiting.{is_ended_by}

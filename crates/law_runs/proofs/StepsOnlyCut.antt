@@ -4,8 +4,7 @@
 -- by no limit, the line is `Same tape beside refl`; where the limit on bytes may stop it, a call of `Cut-stopped`,
 -- with a lemma that what passes a larger limit passes a smaller one; where it leads to a state that is made unless
 -- a count passes its limit there, a call of `Cut-made`; and where it calls another function, that one's lemma.
-use Rattle.std.proofs.Common.{◌≡◌, ◌⊎◌, inl, inr, ℕ, ◌+◌, Bool, true, false, List, [], ◌∷◌, ◌++◌, Option, Some, None, refl, sym, subst, arith}
-use Rattle.std.specs.Prelude.{nat_lt, if◌then◌else◌}
+use Rattle.std.proofs.Common.{◌≡◌, ◌⊎◌, inl, inr, ℕ, ◌+◌, Bool, true, false, List, [], ◌∷◌, ◌++◌, Option, Some, None, refl, sym, subst, arith, nat_lt, if◌then◌else◌}
 use Rattle.std.proofs.lemmas.Bool.{cases_Bool, both_ways, false_from_ne_true}
 use Rattle.std.proofs.lemmas.Bool.Decides.{nat_tests}
 use Rattle.roff_num.specs.LimitValues.{value_of}

@@ -17,7 +17,7 @@ pub use Rattle.law_runs.specs.BoundedMessages.{ToldOrStopped, AllTold, StopsBefo
 use Rattle.law_runs.specs.BoundedMessages.{MessagesAreWithin, MessagesOnlyStop}
 use Rattle.law_runs.proofs.Ended.{after-ended, ended_or_not, step-ended, told_after-ended}
 use Rattle.law_runs.proofs.StepsAppend.{OnlyCuts-same, OnlyCuts-step}
-use Rattle.run_model.proofs.Leads.{ToldLeads-to, told_step-beyond, told_step-ended, told_step-within}
+use Rattle.run_model.proofs.Leads.{told_step-beyond, told_step-ended, told_step-within}
 
 -- a beginning isn't longer
 pub length-beginning : (xs ys : List ℕ) → IsBeginning xs ys → length xs ≤ length ys
@@ -88,12 +88,6 @@ told_where_within l s t leads within =
     let at_end : length (after l leads.steps s).messages ≤ l.messages =
     subst (λ (u : State). length u.messages ≤ l.messages) (sym leads.there) within in
     record { steps = leads.steps; there = told_after-within l leads.steps s at_end ∙ leads.there }
-
--- and where the next one would pass the limit, to where the run stops
-pub told_stops : (l : Limits) (s t : State) → Leads l s t → t.ended ≡ None → length t.messages ≤ l.messages
-    → l.messages < length (step l t).messages → ToldLeads l s (stopped_by l Messages t)
-told_stops l s t leads going within beyond =
-    ToldLeads-to l s t (stopped_by l Messages t) (told_where_within l s t leads within) (told_step-beyond l t going beyond)
 
 -- one step in front
 ToldOrStopped-suc : (l : Limits) (n : ℕ) (s t : State) → ToldOrStopped l n (step l s) t → ToldOrStopped l (suc n) s t

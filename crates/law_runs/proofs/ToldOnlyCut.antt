@@ -1,6 +1,5 @@
 -- A run that may be cut short beside the whole run, step by step, where the messages of both are bounded.
-use Rattle.std.proofs.Common.{◌≡◌, inl, inr, List, ℕ, ◌≤◌, zero, suc, Some, nat_lt, if◌then◌else◌, length, refl, sym, ap, subst}
-use Rattle.std.specs.Prelude.{IsSome, is_some}
+use Rattle.std.proofs.Common.{◌≡◌, inl, inr, List, ℕ, ◌≤◌, zero, suc, Some, nat_lt, if◌then◌else◌, length, refl, sym, ap, subst, IsSome, is_some}
 use Rattle.roff_num.specs.declared.limit.Limit.TheVariants.{Messages}
 use Rattle.roff_num.specs.declared.limits.Limits.{Limits}
 use Rattle.run_model.specs.Run.{State, step, stopped_by, told_after, told_step, unless_untold}

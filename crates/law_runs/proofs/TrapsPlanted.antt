@@ -1,6 +1,5 @@
 -- How many traps are planted on pages behind what happens.
-use Rattle.std.proofs.Common.{◌≡◌, ◌≤◌, ℕ, Bool, true, false, List, [], ◌∷◌, length, Option, Some, None, refl, sym, subst, arith}
-use Rattle.std.specs.Prelude.{nat_le, option_map, if◌then◌else◌}
+use Rattle.std.proofs.Common.{◌≡◌, ◌≤◌, ℕ, Bool, true, false, List, [], ◌∷◌, length, Option, Some, None, refl, sym, subst, arith, nat_le, option_map, if◌then◌else◌}
 use Rattle.page_model.specs.Lines.{Finished}
 use Rattle.page_model.specs.Happenings.{Happening, Places}
 use Rattle.page_model.specs.Layout.{Box, Layout, page_place}

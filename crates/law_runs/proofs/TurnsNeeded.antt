@@ -1,6 +1,5 @@
 -- How many turns of a run are enough, and that what is read leaves fewer.
-use Rattle.std.proofs.Common.{◌≡◌, ◌⊎◌, inl, inr, ◌≤◌, ◌+◌, ◌-◌, ◌*◌, ℕ, suc, true, false, List, [], ◌∷◌, ◌++◌, length, refl, ap, arith}
-use Rattle.std.specs.Prelude.{IsSome}
+use Rattle.std.proofs.Common.{◌≡◌, ◌⊎◌, inl, inr, ◌≤◌, ◌+◌, ◌-◌, ◌*◌, ℕ, suc, true, false, List, [], ◌∷◌, ◌++◌, length, refl, ap, arith, IsSome}
 use Rattle.roff_num.specs.declared.limits.Limits.{Limits}
 use Rattle.run_model.specs.PageEvents.{PageEvent}
 use Rattle.run_model.specs.Events.Lines.{closing_events}

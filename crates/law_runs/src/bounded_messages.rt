@@ -31,6 +31,7 @@ pub fn told_by_steps()
 /// What the definitions give where a limit on messages holds: just what two messages take, one
 /// byte less, and nothing. The message that ends a run isn't counted. The longest message that an
 /// item means takes 36 bytes and a digit.
+#[tactic(auto, unfolding(roff_num::proofs::OnLiterals::numbers_on_literals))]
 pub fn bounded_message_rows()
     ensures both { formatted_telling 52 (codes ".pl 1\n.nf\nab\n.ll x\ncd\n.ll y\nef\n")
         ≡ gives (codes "ab\ncd\nef\n")

@@ -29,6 +29,7 @@ ghost use Rattle.law_runs.specs.Rows.{gives, formatted, formatted_up_to, formatt
 ghost use Rattle.law_runs.specs.Rows.{formatted_with, formatted_failing};
 
 /// What the definitions give on the worked rows of filled text.
+#[tactic(auto, unfolding(roff_num::proofs::OnLiterals::numbers_on_literals))]
 pub fn filled_text_rows()
     ensures nothing { formatted (codes "") ≡ gives (codes "") (codes "") Done }
     ensures four_columns_over_two_gaps { formatted (codes ".pl 2\n.ll 12n\na bb ccc dddd eeeee\n")
@@ -48,6 +49,7 @@ pub fn filled_text_rows()
 {}
 
 /// What the definitions give on the worked rows of bad numbers, limits and failing sources.
+#[tactic(auto, unfolding(roff_num::proofs::OnLiterals::numbers_on_literals))]
 pub fn limit_rows()
     ensures bad_number { formatted (codes ".pl 1\n.ll x\nab\n")
         ≡ gives (codes "ab\n") (codes "nroff: line 2: bad number\n") Done }
@@ -68,6 +70,7 @@ pub fn limit_rows()
 /// What the definitions give where the limit on bytes is met at the end of a text, and something
 /// waits for the byte behind it: of a source that fails there that is told, and where it ends the
 /// limit.
+#[tactic(auto, unfolding(roff_num::proofs::OnLiterals::numbers_on_literals))]
 pub fn waiting_rows()
     ensures behind_a_dot { formatted_up_to 12 Failed (codes ".ds x .\n\\*x")
         ≡ gives (codes "") (codes "nroff: line 2: read failed\n") Device }
@@ -85,6 +88,7 @@ pub fn waiting_rows()
 
 /// What the definitions give behind a backslash and a newline, with which a line or a branch
 /// begins.
+#[tactic(auto, unfolding(roff_num::proofs::OnLiterals::numbers_on_literals))]
 pub fn joined_line_rows()
     ensures branch { formatted (codes ".pl 1\n.if 1 \\\n.ds a x\n\\*a\n")
         ≡ gives (codes "x\n") (codes "") Done }
@@ -95,6 +99,7 @@ pub fn joined_line_rows()
 {}
 
 /// What the definitions give on the worked rows of number registers.
+#[tactic(auto, unfolding(roff_num::proofs::OnLiterals::numbers_on_literals))]
 pub fn register_rows()
     ensures bad_value { formatted (codes ".pl 1\n.nr a 3+4*2\n\\na\n.nr a 1/0\n\\na\n")
         ≡ gives (codes "14 14\n") (codes "nroff: line 4: bad number\n") Done }
@@ -193,6 +198,7 @@ pub fn rest()
 {}
 
 /// What the definitions give on worked rows of requests that do nothing.
+#[tactic(auto, unfolding(roff_num::proofs::OnLiterals::numbers_on_literals))]
 pub fn other_request_rows()
     ensures registers_stepped { formatted
         (codes ".pl 1\n.nr x 0 1\nab\n.ft \\n+x\n'so \\n+x\n\\nx\n")
@@ -202,6 +208,7 @@ pub fn other_request_rows()
 {}
 
 /// What the definitions give on worked arguments of requests.
+#[tactic(auto, unfolding(roff_num::proofs::OnLiterals::numbers_on_literals))]
 pub fn argument_rows()
     ensures sum { value_in Columns (codes "2+1i") ≡ Ok (pos 288) }
     ensures letters_behind { value_in Lines (codes "2x") ≡ Ok (pos 80) }
@@ -223,6 +230,7 @@ pub fn argument_rows()
 {}
 
 /// What the definitions give on worked rows of names that are removed and renamed.
+#[tactic(auto, unfolding(roff_num::proofs::OnLiterals::numbers_on_literals))]
 pub fn naming_rows()
     ensures renamed { formatted (codes ".pl 1\n.rn br x\na\n.x\nb\n")
         ≡ gives (codes "a\nb\n") [] Done }
@@ -233,6 +241,7 @@ pub fn naming_rows()
 {}
 
 /// What the definitions give on worked rows of escapes.
+#[tactic(auto, unfolding(roff_num::proofs::OnLiterals::numbers_on_literals))]
 pub fn escape_rows()
     ensures characters { formatted (codes ".pl 1\na\\(em\\(xxb\n")
         ≡ gives (codes "a--b\n") (codes "nroff: line 2: unknown character: xx\n") Done }
@@ -249,6 +258,7 @@ pub fn escape_rows()
 {}
 
 /// What the definitions give on worked rows of messages of the input, and of its end.
+#[tactic(auto, unfolding(roff_num::proofs::OnLiterals::numbers_on_literals))]
 pub fn message_rows()
     ensures told { formatted (codes ".tm hi\n") ≡ gives [] (codes "hi\n") Done }
     ensures told_at_the_end { formatted (codes ".pl 1\na\n.tm  \"b c")

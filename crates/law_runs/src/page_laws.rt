@@ -14,6 +14,7 @@ pub fn full_pages()
 {}
 
 /// What the definitions give on rows of page numbers, page offsets, and pages that are written.
+#[tactic(auto, unfolding(roff_num::proofs::OnLiterals::numbers_on_literals))]
 pub fn page_rows()
     ensures offset { formatted (codes ".pl 1\n.po 2n\n.po -9n\n.po +1n\na\n")
         ≡ gives (codes " a\n") (codes "") Done }

@@ -40,6 +40,7 @@ pub fn input_traps()
 {}
 
 /// What the definitions give on worked rows of the input-line trap.
+#[tactic(auto, unfolding(roff_num::proofs::OnLiterals::numbers_on_literals))]
 pub fn input_trap_rows()
     ensures next_line { formatted (codes ".pl 1\n.nf\n.de X\nx\n..\n.it 1 X\na\nb\n")
         ≡ gives (codes "a\nx\nb\n") (codes "") Done }

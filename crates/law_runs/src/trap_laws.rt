@@ -21,6 +21,7 @@ pub fn ejects()
 {}
 
 /// What the definitions give on worked rows of traps.
+#[tactic(auto, unfolding(roff_num::proofs::OnLiterals::numbers_on_literals))]
 pub fn trap_rows()
     ensures footer { formatted
         (codes ".pl 4\n.lt 9n\n.de FO\n'tl ''- % -''\n'bp\n..\n.wh -2v FO\n.nf\na\nb\nc\nd\n")
@@ -51,6 +52,7 @@ pub fn trap_rows()
 {}
 
 /// What they give on rows of ejects, of lines that are needed, and of no-space mode.
+#[tactic(auto, unfolding(roff_num::proofs::OnLiterals::numbers_on_literals))]
 pub fn eject_rows()
     ensures eject { formatted (codes ".pl 2\na\n.bp\nb\n")
         ≡ gives (codes "a\n\nb\n\n") (codes "") Done }

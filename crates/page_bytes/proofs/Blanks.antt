@@ -1,6 +1,5 @@
 -- Blanks at the end of a line.
-use Rattle.std.proofs.Common.{◌≡◌, ℕ, zero, suc, ◌+◌, ◌-◌, true, false, ◌||◌, inl, inr, List, [], ◌∷◌, ◌++◌, length, replicate, refl, ap, ◌∙◌, append_assoc, add-one, arith, ne_eqb}
-use Rattle.std.specs.Prelude.{if◌then◌else◌, ◌==◌}
+use Rattle.std.proofs.Common.{◌≡◌, ℕ, zero, suc, ◌+◌, ◌-◌, true, false, ◌||◌, inl, inr, List, [], ◌∷◌, ◌++◌, length, replicate, refl, ap, ◌∙◌, append_assoc, add-one, arith, ne_eqb, if◌then◌else◌, ◌==◌}
 use Rattle.std.proofs.lemmas.Bool.{and_right, cases_Bool}
 use Rattle.page_model.specs.Glyphs.{gap_blank, further_blank, glyph_blank}
 use Rattle.page_model.specs.Words.{is_empty}

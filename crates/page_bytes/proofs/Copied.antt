@@ -1,7 +1,6 @@
 -- A text that is written as it stands, where nothing is added to a gap.
-use Rattle.std.proofs.Common.{◌≡◌, ℕ, zero, suc, ◌+◌, ◌-◌, ◌*◌, ◌<◌, ◌≤◌, true, false, inl, inr, List, [], ◌∷◌, ◌++◌, length, take, drop, map, nat_le, refl, ap, sym, ◌∙◌, arith, ne_eqb}
-use Rattle.std.specs.Prelude.{◌%◌, ◌==◌, ◌||◌}
-use Rattle.std.proofs.lemmas.Bool.{cases_Bool, eqb-true}
+use Rattle.std.proofs.Common.{◌≡◌, ℕ, zero, suc, ◌+◌, ◌-◌, ◌*◌, ◌<◌, ◌≤◌, true, false, inl, inr, List, [], ◌∷◌, ◌++◌, length, take, drop, map, nat_le, refl, ap, sym, ◌∙◌, arith, ne_eqb, ◌%◌, ◌==◌, ◌||◌, eqb-true}
+use Rattle.std.proofs.lemmas.Bool.{cases_Bool}
 use Rattle.std.proofs.lemmas.Bool.Decides.{nat_tests}
 use Rattle.std.proofs.lemmas.List.{drop_all}
 use Rattle.std.proofs.lemmas.Nat.{mod-mul-add}

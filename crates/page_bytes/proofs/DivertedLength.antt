@@ -1,8 +1,5 @@
 -- How many bytes a diversion keeps of a line.
-use Rattle.std.proofs.Common.{◌≡◌, ℕ, zero, suc, ◌+◌, ◌-◌, ◌*◌, ◌^◌, Bool, true, false, ◌||◌, List, [], ◌∷◌, ◌++◌, length, min, count_by, cond, zero-add, add-zero, arith, refl, sym, ap, ◌∙◌}
-use Rattle.std.specs.Prelude.{if◌then◌else◌, ◌==◌}
-use Rattle.std.proofs.lemmas.Bool.{eqb-true}
-use Rattle.std.proofs.lemmas.List.{length-append}
+use Rattle.std.proofs.Common.{◌≡◌, ℕ, zero, suc, ◌+◌, ◌-◌, ◌*◌, ◌^◌, Bool, true, false, ◌||◌, List, [], ◌∷◌, ◌++◌, length, min, count_by, cond, zero-add, add-zero, arith, refl, sym, ap, ◌∙◌, if◌then◌else◌, ◌==◌, eqb-true, length-append}
 use Rattle.std.proofs.lemmas.List.Sums.{sum_by-cons}
 use Rattle.page_model.specs.Glyphs.{gap_blank, further_blank, glyph_blank, gaps_in}
 use Rattle.page_model.specs.Lines.{Finished}

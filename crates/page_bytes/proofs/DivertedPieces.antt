@@ -1,7 +1,7 @@
 -- What is put in a buffer of what a diversion keeps.
-use Rattle.std.proofs.Common.{◌≡◌, ℕ, ◌+◌, ◌-◌, ◌*◌, ◌<◌, ◌≤◌, min, inl, inr, List, [], ◌∷◌, ◌++◌, length, take, replicate, refl, sym, ap, ◌∙◌, arith, append_assoc, append-nil}
+use Rattle.std.proofs.Common.{◌≡◌, ℕ, ◌+◌, ◌-◌, ◌*◌, ◌<◌, ◌≤◌, min, inl, inr, List, [], ◌∷◌, ◌++◌, length, take, replicate, refl, sym, ap, ◌∙◌, arith, append_assoc, append-nil, length-append}
 use Rattle.std.proofs.lemmas.Bool.{cases_lt}
-use Rattle.std.proofs.lemmas.List.{length-append, length-replicate, replicate-append-replicate, take_more_set}
+use Rattle.std.proofs.lemmas.List.{length-replicate, replicate-append-replicate, take_more_set}
 use Rattle.std.proofs.Math.ListN.{set, length-set}
 use Rattle.page_model.specs.Columns.{spaces}
 use Rattle.page_model.specs.Diverted.{escaped}

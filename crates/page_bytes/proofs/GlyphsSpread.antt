@@ -1,8 +1,6 @@
 -- The glyphs in front of what is written of a text.
-use Rattle.std.proofs.Common.{◌≡◌, ℕ, zero, suc, false, inl, inr, List, [], ◌∷◌, ◌++◌, take, drop, replicate, refl, sym, ap, ◌∙◌, append_assoc}
-use Rattle.std.specs.Prelude.{◌==◌, ◌||◌, nat_lt}
-use Rattle.std.proofs.lemmas.Bool.{cases_Bool, ltb-true}
-use Rattle.std.proofs.lemmas.List.{take-append-drop}
+use Rattle.std.proofs.Common.{◌≡◌, ℕ, zero, suc, false, inl, inr, List, [], ◌∷◌, ◌++◌, take, drop, replicate, refl, sym, ap, ◌∙◌, append_assoc, ◌==◌, ◌||◌, nat_lt, ltb-true, take-append-drop}
+use Rattle.std.proofs.lemmas.Bool.{cases_Bool}
 use Rattle.page_model.specs.Glyphs.{gap_blank, further_blank, glyph_blank}
 use Rattle.page_model.specs.Columns.{spread}
 use Rattle.roff_lines.specs.GlyphsInFront.{glyphs_in_front}

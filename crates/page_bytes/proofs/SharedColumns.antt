@@ -1,8 +1,7 @@
 -- The columns that adjusting adds, gap by gap, by what is over of those before.
-use Rattle.std.proofs.Common.{◌≡◌, ℕ, ◌+◌, ◌*◌, ◌-◌, ◌/◌, ◌<◌, true, false, inl, inr, List, [], ◌∷◌, ◌++◌, refl, ap, sym, ◌∙◌, arith, ne_eqb, append_assoc}
-use Rattle.std.specs.Prelude.{Bool, ◌%◌, ◌==◌, ◌||◌, if◌then◌else◌}
-use Rattle.std.proofs.lemmas.Bool.{cases_Bool, eqb-true}
-use Rattle.std.proofs.lemmas.Nat.{div-add-mod', div-mul-add, mod-mul-add}
+use Rattle.std.proofs.Common.{◌≡◌, ℕ, ◌+◌, ◌*◌, ◌-◌, ◌/◌, ◌<◌, true, false, inl, inr, List, [], ◌∷◌, ◌++◌, refl, ap, sym, ◌∙◌, arith, ne_eqb, append_assoc, Bool, ◌%◌, ◌==◌, ◌||◌, if◌then◌else◌, eqb-true, div-add-mod'}
+use Rattle.std.proofs.lemmas.Bool.{cases_Bool}
+use Rattle.std.proofs.lemmas.Nat.{div-mul-add, mod-mul-add}
 use Rattle.page_model.specs.Glyphs.{gap_blank, further_blank, glyph_blank}
 use Rattle.page_model.specs.Columns.{spaces, added_columns, spread}
 use Rattle.page_bytes.specs.LineBytes.Shares.{shared_out}

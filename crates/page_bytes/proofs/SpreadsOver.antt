@@ -1,8 +1,7 @@
 -- A text that is written with its blanks spread, step by step.
-use Rattle.std.proofs.Common.{◌≡◌, ℕ, zero, suc, ◌+◌, ◌*◌, ◌<◌, ◌≤◌, List, [], ◌∷◌, ◌++◌, length, take, drop, slice_index_or, refl, sym, ap, ◌∙◌, arith, append_assoc, append-nil}
-use Rattle.std.specs.Prelude.{◌%◌}
+use Rattle.std.proofs.Common.{◌≡◌, ℕ, zero, suc, ◌+◌, ◌*◌, ◌<◌, ◌≤◌, List, [], ◌∷◌, ◌++◌, length, take, drop, slice_index_or, refl, sym, ap, ◌∙◌, arith, append_assoc, append-nil, ◌%◌, drop-drop, length-append, length-drop, length-take}
 use Rattle.std.proofs.Math.Seq.{drop-cons}
-use Rattle.std.proofs.lemmas.List.{drop-drop, length-append, length-drop, length-replicate, length-take}
+use Rattle.std.proofs.lemmas.List.{length-replicate}
 use Rattle.page_model.specs.Columns.{spaces, spread}
 use Rattle.roff_lines.specs.GlyphsInFront.{glyphs_in_front}
 use Rattle.page_bytes.specs.LineBytes.Fronts.{SpreadsOver, WritesOver}

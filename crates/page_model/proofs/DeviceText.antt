@@ -1,6 +1,5 @@
 -- What is written to the device where nothing is put.
-use Rattle.std.proofs.Common.{◌≡◌, ℕ, Bool, true, false, List, [], refl}
-use Rattle.std.specs.Prelude.{if◌then◌else◌}
+use Rattle.std.proofs.Common.{◌≡◌, ℕ, Bool, true, false, List, [], refl, if◌then◌else◌}
 
 -- nothing, whatever the layout writes
 pub either_none : (b : Bool) → let none : List ℕ = [] in (if b then none else none) ≡ none

@@ -1,8 +1,6 @@
 -- A comment behind the arguments of a line, read at once up to the newline that ends both.
-use Rattle.std.proofs.Common.{◌≡◌, ◌==◌, ◌||◌, ◌<◌, ◌+◌, ℕ, suc, Bool, true, false, List, [], ◌∷◌, ◌++◌, Option, Some, None, length, get_or, append_assoc, refl, sym, ap, subst, ◌∙◌, arith}
-use Rattle.std.specs.Prelude.{if◌then◌else◌, ◌&&◌, MatchOption}
-use Rattle.std.proofs.lemmas.Bool.{and_parts, eqb-true}
-use Rattle.std.proofs.lemmas.List.{length-append}
+use Rattle.std.proofs.Common.{◌≡◌, ◌==◌, ◌||◌, ◌<◌, ◌+◌, ℕ, suc, Bool, true, false, List, [], ◌∷◌, ◌++◌, Option, Some, None, length, get_or, append_assoc, refl, sym, ap, subst, ◌∙◌, arith, if◌then◌else◌, ◌&&◌, MatchOption, eqb-true, length-append}
+use Rattle.std.proofs.lemmas.Bool.{and_parts}
 use Rattle.memchr.specs.Find.{IsFirstByte, is_byte}
 use Rattle.input_escapes.specs.OpenEscape.{Backslash, Comment, OpenEscape}
 use Rattle.input_model.proofs.Settling.{held-only_kept-settled, settled-only_kept}

@@ -1,7 +1,6 @@
 -- What the code does where a definition begins and ends, as the definition does it.
-use Rattle.std.proofs.Common.{◌≡◌, ℕ, ◌≤◌, Bool, length, Option, Some, None, Result, refl, subst, ◌∙◌, arith}
+use Rattle.std.proofs.Common.{◌≡◌, ℕ, ◌≤◌, Bool, length, Option, Some, None, Result, refl, subst, ◌∙◌, arith, length-take}
 use Rattle.std.specs.Option.{option_flatten}
-use Rattle.std.proofs.lemmas.List.{length-take}
 use Rattle.run_state.specs.declared.composer.Composer.{Composer as ComposerOf}
 use Rattle.roff_num.specs.declared.limit.Limit.{Limit}
 use Rattle.input_model.proofs.KeptArguments.{held-finished, held-only_kept}

@@ -1,7 +1,6 @@
 -- What the code does where a line calls a body, as the definition does it.
-use Rattle.std.proofs.Common.{◌≡◌, ◌<◌, ◌≤◌, ℕ, ◌-◌, Bool, true, false, List, [], ◌∷◌, length, Result, Ok, Err, refl, sym, subst, ap, ◌==◌, arith}
-use Rattle.std.specs.Prelude.{◌&&◌, get_or, if◌then◌else◌, nat_le}
-use Rattle.std.proofs.lemmas.Bool.{le-leb, leb-true, lt-leb}
+use Rattle.std.proofs.Common.{◌≡◌, ◌<◌, ◌≤◌, ℕ, ◌-◌, Bool, true, false, List, [], ◌∷◌, length, Result, Ok, Err, refl, sym, subst, ap, ◌==◌, arith, ◌&&◌, get_or, if◌then◌else◌, nat_le, le-leb, leb-true}
+use Rattle.std.proofs.lemmas.Bool.{lt-leb}
 use Rattle.run_state.specs.declared.composer.Composer.{Composer as ComposerOf}
 use Rattle.roff_num.specs.declared.limit.Limit.{Limit}
 use Rattle.input_model.specs.Unread.{changing}

@@ -1,8 +1,7 @@
 -- What a limit refuses where a string's name is whole, or its text begins.
-use Rattle.std.proofs.Common.{◌≡◌, ◌⊎◌, inl, inr, ℕ, ◌+◌, ◌-◌, ◌<◌, ◌≤◌, ◌++◌, subst, Bool, true, false, List, [], ◌∷◌, length, reverse, Option, Some, None, Err, refl, sym, ap, ◌∙◌, ◌==◌, arith}
-use Rattle.std.specs.Prelude.{nat_lt, get_or, sum_by, if◌then◌else◌}
-use Rattle.std.proofs.lemmas.Bool.{cases_Bool, le-ltb, lt-ltb}
-use Rattle.std.proofs.lemmas.List.{length-append, length-reverse, length-set}
+use Rattle.std.proofs.Common.{◌≡◌, ◌⊎◌, inl, inr, ℕ, ◌+◌, ◌-◌, ◌<◌, ◌≤◌, ◌++◌, subst, Bool, true, false, List, [], ◌∷◌, length, reverse, Option, Some, None, Err, refl, sym, ap, ◌∙◌, ◌==◌, arith, nat_lt, get_or, sum_by, if◌then◌else◌, le-ltb, lt-ltb, length-append, length-set}
+use Rattle.std.proofs.lemmas.Bool.{cases_Bool}
+use Rattle.std.proofs.lemmas.List.{length-reverse}
 use Rattle.std.proofs.lemmas.List.Sums.{sum_by-append, sum_by-set}
 use Rattle.run_state.specs.declared.composer.Composer.{Composer as ComposerOf}
 use Rattle.roff_num.specs.declared.limit.Limit.{Limit}

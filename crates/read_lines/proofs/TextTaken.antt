@@ -1,7 +1,6 @@
 -- Bytes that are read as themselves: neither dropped nor a backslash, where nothing is half read.
-use Rattle.std.proofs.Common.{◌≡◌, ℕ, ◌==◌, Bool, false, List, [], ◌∷◌, Option, Ok, refl, sym, ap, ◌∙◌}
-use Rattle.std.specs.Prelude.{if◌then◌else◌, length, not}
-use Rattle.std.proofs.lemmas.Bool.{eqb-true, not-false}
+use Rattle.std.proofs.Common.{◌≡◌, ℕ, ◌==◌, Bool, false, List, [], ◌∷◌, Option, Ok, refl, sym, ap, ◌∙◌, if◌then◌else◌, length, not, eqb-true}
+use Rattle.std.proofs.lemmas.Bool.{not-false}
 use Rattle.std.proofs.lemmas.List.{nil_from_length}
 use Rattle.roff_num.specs.declared.limits.Limits.{Limits}
 use Rattle.input_source.specs.Bytes.{apostrophe, backslash, dot}

@@ -1,6 +1,5 @@
 -- What is read does at the next item, by whether something is half read.
-use Rattle.std.proofs.Common.{◌≡◌, true, List, [], ◌∷◌, length, refl, ap}
-use Rattle.std.specs.Prelude.{not, ◌==◌}
+use Rattle.std.proofs.Common.{◌≡◌, true, List, [], ◌∷◌, length, refl, ap, not, ◌==◌}
 use Rattle.input_model.specs.declared.place.Place.{Place}
 use Rattle.input_escapes.specs.OpenEscape.{OpenEscape}
 use Rattle.input_escapes.specs.Waiting.{waiting_of}

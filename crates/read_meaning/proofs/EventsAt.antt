@@ -1,6 +1,5 @@
 -- The events of a list at an index.
-use Rattle.std.proofs.Common.{◌≡◌, ℕ, ◌==◌, ◌-◌, false, List, ◌∷◌, zero, suc, ap, arith}
-use Rattle.std.specs.Prelude.{slice_get}
+use Rattle.std.proofs.Common.{◌≡◌, ℕ, ◌==◌, ◌-◌, false, List, ◌∷◌, zero, suc, ap, arith, slice_get}
 
 -- behind the first
 pub slice_get-behind : {A : Type 0} (x : A) (xs : List A) (i : ℕ) → (i == 0) ≡ false → slice_get xs (i - 1) ≡ slice_get (x ∷ xs) i

@@ -1,6 +1,5 @@
 -- Names that are removed one after another, by the arguments that give them.
-use Rattle.std.proofs.Common.{◌≡◌, ℕ, ◌+◌, List, [], ◌∷◌, ◌++◌, take, slice_get, Option, Some, None, refl, sym, ap, ◌∙◌, add-one}
-use Rattle.std.specs.Prelude.{reverse}
+use Rattle.std.proofs.Common.{◌≡◌, ℕ, ◌+◌, List, [], ◌∷◌, ◌++◌, take, slice_get, Option, Some, None, refl, sym, ap, ◌∙◌, add-one, reverse}
 use Rattle.std.proofs.lemmas.List.{map-append}
 use Rattle.roff_num.specs.Names.{name_of}
 use Rattle.input_model.specs.Arguments.{Arguments}

@@ -1,6 +1,5 @@
 -- Effects to which the code comes.
-use Rattle.std.proofs.Common.{◌≡◌, ◌∙◌, ◌&&◌, Bool, true, false, List, [], ◌∷◌, None, ap, refl, slice_get}
-use Rattle.std.specs.Prelude.{ℕ}
+use Rattle.std.proofs.Common.{◌≡◌, ◌∙◌, ◌&&◌, Bool, true, false, List, [], ◌∷◌, None, ap, refl, slice_get, ℕ}
 use Rattle.read_requests.specs.Request.Coded.{calls_of, changes_of, register_named}
 use Rattle.read_requests.specs.declared.requests.effects.Changes.{Changes}
 use Rattle.read_requests.specs.declared.requests.effects.Changes.TheVariants.{Nothing}

@@ -1,6 +1,5 @@
 -- Registers that are removed one after another, by the arguments that name them.
-use Rattle.std.proofs.Common.{◌≡◌, ℕ, ◌≤◌, ◌+◌, List, [], ◌∷◌, ◌++◌, fold, length, take, slice_get, Some, None, sym, ap, ◌∙◌, add-one, arith}
-use Rattle.std.proofs.lemmas.Bool.{le-ltb, ltb-false}
+use Rattle.std.proofs.Common.{◌≡◌, ℕ, ◌≤◌, ◌+◌, List, [], ◌∷◌, ◌++◌, fold, length, take, slice_get, Some, None, sym, ap, ◌∙◌, add-one, arith, le-ltb, ltb-false}
 use Rattle.std.proofs.lemmas.List.Sums.{fold-append}
 use Rattle.read_names.proofs.GivenNames.{named_by, names_given-next, not_named, take_past}
 use Rattle.roff_num.specs.Names.{name_of}

@@ -1,9 +1,8 @@
 -- Heights and widths in basic units: of lines, and of columns, of which no more than 2^33 are counted.
-use Rattle.std.proofs.Common.{◌≡◌, ℕ, Option, Some, None, ap, pos, refl, arith}
+use Rattle.std.proofs.Common.{◌≡◌, ℕ, Option, Some, None, ap, pos, refl, arith, ◌*◌, min, option_map}
 use Rattle.roff_pages.specs.Pages.Counted.{counted}
 use Rattle.run_model.specs.Registers.{at_greatest, in_heights, in_units, place_told}
 use Rattle.roff_num.specs.Ranges.{greatest_number}
-use Rattle.std.specs.Prelude.{◌*◌, min, option_map}
 
 -- a height is told as it is counted
 pub told_counted : (n : ℕ) → at_greatest (in_heights (counted n)) ≡ at_greatest (in_heights n)

@@ -1,6 +1,5 @@
 -- The number registers behind a change, whatever stands beside them.
-use Rattle.std.proofs.Common.{◌≡◌, Bool, false, [], ◌∷◌, Option, refl, sym, ap, ◌∙◌}
-use Rattle.std.specs.Prelude.{if◌then◌else◌}
+use Rattle.std.proofs.Common.{◌≡◌, Bool, false, [], ◌∷◌, Option, refl, sym, ap, ◌∙◌, if◌then◌else◌}
 use Rattle.roff_num.specs.declared.format.Format.{Format}
 use Rattle.roff_num.specs.declared.num.Num.{Num}
 use Rattle.roff_num.specs.declared.short_name.ShortName.{ShortName}

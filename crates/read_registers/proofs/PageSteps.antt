@@ -1,6 +1,5 @@
 -- The page number's step: what is said of it, and its text.
-use Rattle.std.proofs.Common.{◌≡◌, ℕ, Bool, true, false, not, List, [], ◌∷◌, Some, inl, inr, refl, sym, ap, ◌∙◌}
-use Rattle.std.specs.Prelude.{if◌then◌else◌}
+use Rattle.std.proofs.Common.{◌≡◌, ℕ, Bool, true, false, not, List, [], ◌∷◌, Some, inl, inr, refl, sym, ap, ◌∙◌, if◌then◌else◌}
 use Rattle.roff_num.specs.Ranges.{is_in_range}
 use Rattle.roff_num.specs.declared.direction.Direction.{Direction}
 use Rattle.run_model.specs.Registers.{Known, is_page, page_name, page_register, step_messages}

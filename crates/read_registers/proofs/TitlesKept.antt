@@ -1,6 +1,5 @@
 -- The titles that are kept, as those of all registers.
-use Rattle.std.proofs.Common.{◌≡◌, ℕ, Bool, true, false, List, Option, refl}
-use Rattle.std.specs.Prelude.{if◌then◌else◌}
+use Rattle.std.proofs.Common.{◌≡◌, ℕ, Bool, true, false, List, Option, refl, if◌then◌else◌}
 use Rattle.roff_num.specs.declared.short_name.ShortName.{ShortName}
 use Rattle.run_model.specs.Registers.{TitleBegins}
 use Rattle.run_model.specs.Registers.Capped.{title_after}

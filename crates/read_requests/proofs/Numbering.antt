@@ -1,6 +1,5 @@
 -- Number registers that are set and removed, by the arguments that are given.
-use Rattle.std.proofs.Common.{◌≡◌, ℕ, ℤ, Bool, true, false, cond, List, [], ◌∷◌, drop, slice_get, IfSome, Some, Result, arith, ap, refl, sym, ◌∙◌}
-use Rattle.std.specs.Prelude.{filter}
+use Rattle.std.proofs.Common.{◌≡◌, ℕ, ℤ, Bool, true, false, cond, List, [], ◌∷◌, drop, slice_get, IfSome, Some, Result, arith, ap, refl, sym, ◌∙◌, filter}
 use Rattle.std.proofs.lemmas.Bool.Decides.{nat_tests}
 use Rattle.roff_num.specs.declared.num.Num.{Num}
 use Rattle.roff_num.specs.declared.num.NumFault.{NumFault}

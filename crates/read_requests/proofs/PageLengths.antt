@@ -1,6 +1,5 @@
 -- The page length that a text sets.
-use Rattle.std.proofs.Common.{◌≡◌, ℕ, ℤ, pos, List, [], ◌∷◌, Some, Result, Ok, slice_get, ap, ◌∙◌}
-use Rattle.std.specs.Prelude.{◌/◌}
+use Rattle.std.proofs.Common.{◌≡◌, ℕ, ℤ, pos, List, [], ◌∷◌, Some, Result, Ok, slice_get, ap, ◌∙◌, ◌/◌}
 use Rattle.roff_num.specs.Steps.{followed}
 use Rattle.roff_num.specs.declared.num.NumFault.{NumFault}
 use Rattle.run_model.specs.Numbers.{at_least_zero, height_beside, rounded_in_range}

@@ -1,8 +1,7 @@
 -- Leading blanks of a text line behind the first of them only count, and bytes that change only what is read are read past.
-use Rattle.std.proofs.Common.{◌≡◌, ℕ, ◌+◌, ◌≤◌, ◌==◌, Bool, true, false, if◌then◌else◌, List, [], ◌∷◌, length, min, not, Some, inl, inr, refl, sym, ap, subst, ◌∙◌, arith}
+use Rattle.std.proofs.Common.{◌≡◌, ℕ, ◌+◌, ◌≤◌, ◌==◌, Bool, true, false, if◌then◌else◌, List, [], ◌∷◌, length, min, not, Some, inl, inr, refl, sym, ap, subst, ◌∙◌, arith, ◌&&◌, nat_lt, eqb-true, ltb-true, ne_eqb}
 use Rattle.std.specs.List.{AllByRecursion}
-use Rattle.std.specs.Prelude.{◌&&◌, nat_lt}
-use Rattle.std.proofs.lemmas.Bool.{cases_Bool, eqb-true, ltb-true, ne_eqb}
+use Rattle.std.proofs.lemmas.Bool.{cases_Bool}
 use Rattle.page_model.specs.declared.event.Event.TheVariants.{Break, Gap, WordEnd}
 use Rattle.input_model.specs.Arguments.{Arguments}
 use Rattle.input_source.specs.Bytes.{blank}

@@ -1,6 +1,5 @@
 -- Bytes that stood in front were taken: more were taken of the input than before.
-use Rattle.std.proofs.Common.{ℕ, ◌<◌, ◌≤◌, List, [], ◌∷◌, ◌++◌, length, ap, arith, length-append}
-use Rattle.std.proofs.lemmas.List.{length-take-le}
+use Rattle.std.proofs.Common.{ℕ, ◌<◌, ◌≤◌, List, [], ◌∷◌, ◌++◌, length, ap, arith, length-append, length-take-le}
 use Rattle.input_model.specs.Arguments.{Arguments, bytes_held}
 use Rattle.input_source.specs.Bytes.{newline}
 use Rattle.input_source.specs.Tape.{Tape}

@@ -1,7 +1,5 @@
 -- A condition that compares an argument with a text is read at once, and decides: as if the argument's text had been put in front and read.
-use Rattle.std.proofs.Common.{◌≡◌, ℕ, ◌+◌, ◌==◌, ◌≤◌, Bool, true, false, List, [], ◌∷◌, ◌++◌, length, map, None, refl, sym, ap, subst, ◌∙◌, arith, append_assoc, length-append}
-use Rattle.std.specs.Prelude.{bytes_eq}
-use Rattle.std.proofs.lemmas.Bool.{ne_eqb}
+use Rattle.std.proofs.Common.{◌≡◌, ℕ, ◌+◌, ◌==◌, ◌≤◌, Bool, true, false, List, [], ◌∷◌, ◌++◌, length, map, None, refl, sym, ap, subst, ◌∙◌, arith, append_assoc, length-append, bytes_eq, ne_eqb}
 use Rattle.input_source.specs.Bytes.{blank, newline}
 use Rattle.input_source.specs.Tape.{Tape}
 use Rattle.run_state.specs.declared.composer.Composer.{Composer as ComposerOf}

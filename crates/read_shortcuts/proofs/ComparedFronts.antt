@@ -1,6 +1,5 @@
 -- Where a condition stands in front that compares an argument with a text.
-use Rattle.std.proofs.Common.{◌≡◌, ℕ, ◌-◌, ◌≤◌, Bool, true, false, List, [], ◌∷◌, length, take, drop, get_or, Option, Some, None, sym, ap, subst, ◌∙◌, arith, append_assoc}
-use Rattle.std.specs.Prelude.{IfSome}
+use Rattle.std.proofs.Common.{◌≡◌, ℕ, ◌-◌, ◌≤◌, Bool, true, false, List, [], ◌∷◌, length, take, drop, get_or, Option, Some, None, sym, ap, subst, ◌∙◌, arith, append_assoc, IfSome}
 use Rattle.std.proofs.Math.Seq.{take-length}
 use Rattle.input_model.specs.Input.Calls.{argument_live}
 use Rattle.run_model.specs.Reading.Items.{PageUnread}

@@ -1,7 +1,5 @@
 -- A condition that asks nothing is read at once, and decides.
-use Rattle.std.proofs.Common.{◌≡◌, ℕ, ◌==◌, Bool, true, false, List, [], ◌∷◌, ◌++◌, length, Some, None, Ok, refl, sym, ap, subst, ◌∙◌, arith}
-use Rattle.std.specs.Prelude.{◌||◌, not, IsTrue, pos, int_lt, if◌then◌else◌}
-use Rattle.std.proofs.lemmas.Bool.{eqb-true}
+use Rattle.std.proofs.Common.{◌≡◌, ℕ, ◌==◌, Bool, true, false, List, [], ◌∷◌, ◌++◌, length, Some, None, Ok, refl, sym, ap, subst, ◌∙◌, arith, ◌||◌, not, IsTrue, pos, int_lt, if◌then◌else◌, eqb-true}
 use Rattle.roff_num.specs.Expressions.{folded_onto, operand_within, value_at}
 use Rattle.roff_num.specs.declared.num.Num.{Num}
 use Rattle.roff_num.specs.declared.num.Scale.TheVariants.{Units}

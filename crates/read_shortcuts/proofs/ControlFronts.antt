@@ -1,8 +1,6 @@
 -- The front of a control line leads from stage to stage, and is read past.
-use Rattle.std.proofs.Common.{◌≡◌, ◌==◌, ℕ, ◌≤◌, Bool, true, false, List, [], ◌∷◌, ◌++◌, length, take, Some, None, refl, sym, ap, subst, ◌∙◌, arith}
-use Rattle.std.specs.Prelude.{if◌then◌else◌}
+use Rattle.std.proofs.Common.{◌≡◌, ◌==◌, ℕ, ◌≤◌, Bool, true, false, List, [], ◌∷◌, ◌++◌, length, take, Some, None, refl, sym, ap, subst, ◌∙◌, arith, if◌then◌else◌, length-append, take-take}
 use Rattle.std.proofs.Math.Seq.{take-append_seam}
-use Rattle.std.proofs.lemmas.List.{length-append, take-take}
 use Rattle.input_model.specs.Arguments.{Arguments}
 use Rattle.input_source.specs.Bytes.{backslash, is_dropped, newline}
 use Rattle.input_escapes.specs.OpenEscape.{OpenEscape, texts_held}

@@ -1,9 +1,7 @@
 -- Lines that are dropped, read past at once with their newlines.
-use Rattle.std.proofs.Common.{◌≡◌, ◌==◌, ◌≤◌, ◌<◌, ◌+◌, ℕ, zero, suc, Bool, true, false, not, List, [], ◌∷◌, ◌++◌, Some, None, length, take, drop, get_or, append_assoc, refl, sym, ap, subst, ◌∙◌, arith}
-use Rattle.std.specs.Prelude.{if◌then◌else◌}
+use Rattle.std.proofs.Common.{◌≡◌, ◌==◌, ◌≤◌, ◌<◌, ◌+◌, ℕ, zero, suc, Bool, true, false, not, List, [], ◌∷◌, ◌++◌, Some, None, length, take, drop, get_or, append_assoc, refl, sym, ap, subst, ◌∙◌, arith, if◌then◌else◌, eqb-true, length-append, length-take, take-append-drop}
 use Rattle.std.specs.List.{AllByRecursion}
-use Rattle.std.proofs.lemmas.Bool.{eqb-true}
-use Rattle.std.proofs.lemmas.List.{drop_more, length-append, length-take, take-append-drop}
+use Rattle.std.proofs.lemmas.List.{drop_more}
 use Rattle.memchr.specs.Find.{IsFirstByte, is_byte}
 use Rattle.input_escapes.specs.OpenEscape.{OpenEscape}
 use Rattle.input_model.specs.Unread.{IsWithin}

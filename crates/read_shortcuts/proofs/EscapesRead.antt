@@ -1,7 +1,6 @@
 -- The bytes of an escape on a text line, read one by one: all but the last change only what is half read, and the last means
 -- something.
-use Rattle.std.proofs.Common.{◌≡◌, ℕ, ◌+◌, ◌≤◌, Bool, false, List, [], ◌∷◌, length, None, Some, refl, sym, ap, subst, ◌∙◌, arith}
-use Rattle.std.specs.Prelude.{ℤ, if◌then◌else◌}
+use Rattle.std.proofs.Common.{◌≡◌, ℕ, ◌+◌, ◌≤◌, Bool, false, List, [], ◌∷◌, length, None, Some, refl, sym, ap, subst, ◌∙◌, arith, ℤ, if◌then◌else◌}
 use Rattle.roff_num.specs.declared.limits.Limits.{Limits}
 use Rattle.input_escapes.specs.OpenEscape.{Backslash, Name, OpenEscape, Size, texts_held}
 use Rattle.input_escapes.specs.OpenEscapes.{byte_read}

@@ -1,6 +1,5 @@
 -- Which fronts of control lines are read at once.
-use Rattle.std.proofs.Common.{◌≡◌, ◌==◌, ℕ, Bool, true, false, List, subst}
-use Rattle.std.specs.Prelude.{◌&&◌, ◌||◌}
+use Rattle.std.proofs.Common.{◌≡◌, ◌==◌, ℕ, Bool, true, false, List, subst, ◌&&◌, ◌||◌}
 use Rattle.input_source.specs.Bytes.{apostrophe, dot}
 use Rattle.read_shortcuts.specs.ControlFronts.{Fronts, begins_line, control_byte}
 use Rattle.read_shortcuts.specs.declared.control.ControlFront.{ControlFront}

@@ -1,7 +1,5 @@
 -- Control lines that are read at once with their arguments, some of them up to their newlines.
-use Rattle.std.proofs.Common.{◌≡◌, ◌==◌, ◌||◌, ◌+◌, ◌≤◌, ℕ, Bool, true, false, List, [], ◌∷◌, ◌++◌, Option, None, append-nil, length, take, refl, sym, ap, subst, ◌∙◌, arith}
-use Rattle.std.proofs.lemmas.Bool.{eqb-true}
-use Rattle.std.proofs.lemmas.List.{length-append, take-take}
+use Rattle.std.proofs.Common.{◌≡◌, ◌==◌, ◌||◌, ◌+◌, ◌≤◌, ℕ, Bool, true, false, List, [], ◌∷◌, ◌++◌, Option, None, append-nil, length, take, refl, sym, ap, subst, ◌∙◌, arith, eqb-true, length-append, take-take}
 use Rattle.std.specs.List.{AllByRecursion}
 use Rattle.input_escapes.specs.OpenEscape.{OpenEscape}
 use Rattle.input_model.specs.Arguments.{Arguments, bytes_held}

@@ -1,6 +1,5 @@
 -- The escape of a register, a string or an argument: what is half read on its way, and what is read in its place.
-use Rattle.std.proofs.Common.{◌≡◌, ℕ, ◌==◌, Bool, true, false, List, [], ◌∷◌, Option, Some, None, refl, ap, ◌∙◌, arith}
-use Rattle.std.specs.Prelude.{if◌then◌else◌}
+use Rattle.std.proofs.Common.{◌≡◌, ℕ, ◌==◌, Bool, true, false, List, [], ◌∷◌, Option, Some, None, refl, ap, ◌∙◌, arith, if◌then◌else◌}
 use Rattle.input_model.proofs.Settling.{held-only_kept-settled, settled-only_kept}
 use Rattle.input_model.specs.Arguments.{Arguments}
 use Rattle.input_escapes.specs.EscapeFronts.{ReadsOn}

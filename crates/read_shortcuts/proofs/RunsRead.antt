@@ -1,6 +1,5 @@
 -- Bytes that were taken together and changed only what is read were read past, wherever they stood.
-use Rattle.std.proofs.Common.{◌≡◌, ◌+◌, ◌≤◌, ℕ, true, List, [], length, take, take_while, refl, sym, ap, subst, ◌∙◌, arith}
-use Rattle.std.proofs.lemmas.List.{take-take}
+use Rattle.std.proofs.Common.{◌≡◌, ◌+◌, ◌≤◌, ℕ, true, List, [], length, take, take_while, refl, sym, ap, subst, ◌∙◌, arith, take-take}
 use Rattle.input_model.specs.Arguments.{Arguments}
 use Rattle.input_escapes.specs.OpenEscape.{OpenEscape}
 use Rattle.input_source.specs.Tape.{Tape}

@@ -1,7 +1,5 @@
 -- An escape that prints nothing, read byte by byte on a text line or where one begins: it changes only what is read.
-use Rattle.std.proofs.Common.{◌≡◌, ℕ, zero, suc, ◌≤◌, ◌<◌, Bool, true, false, not, ◌==◌, List, [], ◌∷◌, length, take, Option, None, Some, refl, sym, ap, subst, ◌∙◌, arith}
-use Rattle.std.specs.Prelude.{ℤ, ◌&&◌, ◌||◌, nat_le, nat_lt, if◌then◌else◌}
-use Rattle.std.proofs.lemmas.Bool.{eqb-true, leb-true}
+use Rattle.std.proofs.Common.{◌≡◌, ℕ, zero, suc, ◌≤◌, ◌<◌, Bool, true, false, not, ◌==◌, List, [], ◌∷◌, length, take, Option, None, Some, refl, sym, ap, subst, ◌∙◌, arith, ℤ, ◌&&◌, ◌||◌, nat_le, nat_lt, if◌then◌else◌, eqb-true, leb-true}
 use Rattle.std.proofs.lemmas.Bool.Decides.{nat_tests}
 use Rattle.input_escapes.specs.OpenEscape.{Backslash, Name, OpenEscape, Size}
 use Rattle.input_escapes.specs.OpenEscapes.{byte_read, is_first_digit, is_sign, name_or_opening, unit_of_name}

@@ -1,6 +1,5 @@
 -- The escape that steps a register on a text line: what is half read on its way, and what is done behind it.
-use Rattle.std.proofs.Common.{◌≡◌, ℕ, ◌==◌, Bool, true, false, List, [], ◌∷◌, Option, Some, None, refl, ap, ◌∙◌, arith}
-use Rattle.std.specs.Prelude.{if◌then◌else◌}
+use Rattle.std.proofs.Common.{◌≡◌, ℕ, ◌==◌, Bool, true, false, List, [], ◌∷◌, Option, Some, None, refl, ap, ◌∙◌, arith, if◌then◌else◌}
 use Rattle.input_model.specs.Arguments.{Arguments}
 use Rattle.input_escapes.specs.EscapeFronts.{ReadsOn}
 use Rattle.input_escapes.specs.OpenEscape.{OpenEscape, Backslash, Name, Reads}

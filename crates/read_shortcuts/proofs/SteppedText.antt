@@ -1,6 +1,5 @@
 -- The escape that steps a register, taken at once, and the register's text in front.
-use Rattle.std.proofs.Common.{◌≡◌, ℕ, ◌+◌, ◌<◌, ◌≤◌, ◌==◌, false, List, [], length, Option, Some, None, refl, sym, ap, subst, ◌∙◌, arith}
-use Rattle.std.specs.Prelude.{IfSome}
+use Rattle.std.proofs.Common.{◌≡◌, ℕ, ◌+◌, ◌<◌, ◌≤◌, ◌==◌, false, List, [], length, Option, Some, None, refl, sym, ap, subst, ◌∙◌, arith, IfSome}
 use Rattle.run_state.specs.Composer.Standing.{StandFor}
 use Rattle.run_state.specs.declared.composer.Composer.{Composer as ComposerOf}
 use Rattle.input_escapes.specs.OpenEscape.{OpenEscape}

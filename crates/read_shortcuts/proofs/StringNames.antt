@@ -1,8 +1,6 @@
 -- Bytes of a string's name are held in the first argument of the line, one after another, as long as none ends it.
-use Rattle.std.proofs.Common.{◌≡◌, ℕ, ◌<◌, ◌==◌, Bool, true, false, not, ◌||◌, List, [], ◌∷◌, length, Some, inl, inr, refl, sym, ap, subst, ◌∙◌, arith}
-use Rattle.std.specs.Prelude.{if◌then◌else◌}
+use Rattle.std.proofs.Common.{◌≡◌, ℕ, ◌<◌, ◌==◌, Bool, true, false, not, ◌||◌, List, [], ◌∷◌, length, Some, inl, inr, refl, sym, ap, subst, ◌∙◌, arith, if◌then◌else◌, eqb-true}
 use Rattle.std.specs.List.{AllByRecursion}
-use Rattle.std.proofs.lemmas.Bool.{eqb-true}
 use Rattle.input_arguments.proofs.HeldBytes.{held-byte}
 use Rattle.input_model.specs.Arguments.{Arguments, HeldFewer, bytes_held, is_behind_quote, only_kept, with_argument_byte}
 use Rattle.input_model.specs.declared.place.Place.{Place}

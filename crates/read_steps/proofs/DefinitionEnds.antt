@@ -1,7 +1,6 @@
 -- What is left of names and texts behind the line that ends a definition: nothing is given to a request or a body there.
-use Rattle.std.proofs.Common.{◌≡◌, ℕ, ◌≤◌, Bool, true, false, List, [], ◌∷◌, length, Option, Some, None, inl, inr, refl, sym, ap, ◌∙◌, subst, ◌==◌, arith}
-use Rattle.std.specs.Prelude.{◌||◌, ◌&&◌, if◌then◌else◌}
-use Rattle.std.proofs.lemmas.Bool.{cases_Bool, eqb-true}
+use Rattle.std.proofs.Common.{◌≡◌, ℕ, ◌≤◌, Bool, true, false, List, [], ◌∷◌, length, Option, Some, None, inl, inr, refl, sym, ap, ◌∙◌, subst, ◌==◌, arith, ◌||◌, ◌&&◌, if◌then◌else◌, eqb-true}
+use Rattle.std.proofs.lemmas.Bool.{cases_Bool}
 use Rattle.input_source.specs.Bytes.{blank, newline, tab}
 use Rattle.input_escapes.specs.OpenEscapes.{byte_read}
 use Rattle.input_model.specs.Input.{beginning_line}

@@ -1,7 +1,5 @@
 -- What the code takes of a title, as the definition takes it.
-use Rattle.std.proofs.Common.{◌≡◌, ℕ, ◌==◌, Bool, true, false, List, [], ◌∷◌, length, Result, Ok, Err, refl, sym, subst, ap, ◌∙◌, arith}
-use Rattle.std.specs.Prelude.{◌&&◌, not, nat_lt, if◌then◌else◌}
-use Rattle.std.proofs.lemmas.Bool.{le-ltb}
+use Rattle.std.proofs.Common.{◌≡◌, ℕ, ◌==◌, Bool, true, false, List, [], ◌∷◌, length, Result, Ok, Err, refl, sym, subst, ap, ◌∙◌, arith, ◌&&◌, not, nat_lt, if◌then◌else◌, le-ltb}
 use Rattle.page_model.specs.Words.{is_empty}
 use Rattle.roff_num.specs.declared.limit.Limit.{Limit}
 use Rattle.input_escapes.specs.OpenEscape.{OpenEscape}

@@ -1,7 +1,5 @@
 -- A whole run of the code: how it starts, and that it comes further until it ends.
-use Rattle.std.proofs.Common.{◌≡◌, ℕ, [], true, false, List, None, refl, sym, ap, subst, ◌∙◌, arith, ◌+◌, ◌*◌, ◌<◌, Bool, ◌++◌, Ok, Err}
-use Rattle.std.specs.Prelude.{IsSome, nat_lt}
-use Rattle.std.proofs.lemmas.Bool.{le-ltb}
+use Rattle.std.proofs.Common.{◌≡◌, ℕ, [], true, false, List, None, refl, sym, ap, subst, ◌∙◌, arith, ◌+◌, ◌*◌, ◌<◌, Bool, ◌++◌, Ok, Err, IsSome, nat_lt, le-ltb}
 use Rattle.roff_num.specs.declared.limits.Limits.{Limits}
 use Rattle.std.specs.Io.KnownBytes.{Appends}
 use Rattle.input_source.specs.BlockRead.{SomeTape}

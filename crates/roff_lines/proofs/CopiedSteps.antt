@@ -1,9 +1,9 @@
 -- Bytes that are copied into a buffer, step by step.
-use Rattle.std.proofs.Common.{◌≡◌, ℕ, ◌+◌, ◌-◌, ◌<◌, ◌≤◌, List, ◌++◌, length, take, drop, subst, ap, ap₂, sym, ◌∙◌, arith, append_assoc}
+use Rattle.std.proofs.Common.{◌≡◌, ℕ, ◌+◌, ◌-◌, ◌<◌, ◌≤◌, List, ◌++◌, length, take, drop, subst, ap, ap₂, sym, ◌∙◌, arith, append_assoc, length-take, take-take}
 use Rattle.std.specs.Simd.Lanes.{chunk, put_chunk}
 use Rattle.std.proofs.Math.Seq.{take-add, take-append-add}
 use Rattle.std.proofs.lemmas.Simd.{length-chunk, put_chunk_is}
-use Rattle.std.proofs.lemmas.List.{length-take, take-append-le, take-take}
+use Rattle.std.proofs.lemmas.List.{take-append-le}
 
 -- what stands up to a place within a step that was written
 pub take-put_chunk : (place n r : ℕ) (out step : List ℕ) → length step ≡ n → place + n ≤ length out → r ≤ n

@@ -1,11 +1,10 @@
 -- A history with a field told behind it: a motion and the field's glyphs, of one word.
-use Rattle.std.proofs.Common.{◌≡◌, ℕ, ◌+◌, Bool, true, false, not, ◌&&◌, zero-add, nat_le, List, [], ◌∷◌, ◌++◌, map, reverse, length, replicate, refl, sym, ap, ◌∙◌, arith, append_assoc}
-use Rattle.std.specs.Prelude.{if◌then◌else◌, ◌==◌}
+use Rattle.std.proofs.Common.{◌≡◌, ℕ, ◌+◌, Bool, true, false, not, ◌&&◌, zero-add, nat_le, List, [], ◌∷◌, ◌++◌, map, reverse, length, replicate, refl, sym, ap, ◌∙◌, arith, append_assoc, if◌then◌else◌, ◌==◌, eqb-true, append-nil, length-append}
 use Rattle.std.specs.List.{flat_map, sum_by}
-use Rattle.std.proofs.lemmas.Bool.{cond_both, eqb-true}
+use Rattle.std.proofs.lemmas.Bool.{cond_both}
 use Rattle.std.proofs.lemmas.Bool.Decides.{nat_tests}
 use Rattle.std.proofs.lemmas.Grind.{flat_map-append}
-use Rattle.std.proofs.lemmas.List.{append-nil, length-append, length-replicate, reverse-append}
+use Rattle.std.proofs.lemmas.List.{length-replicate, reverse-append}
 use Rattle.std.proofs.lemmas.List.Sums.{sum_by-cons, sum_by-append}
 use Rattle.std.proofs.lemmas.List.Folds.{sum_by-replicate}
 use Rattle.page_model.specs.declared.glyph.Glyph.{Glyph}
@@ -15,7 +14,7 @@ use Rattle.page_model.specs.declared.event.Event.TheVariants.{Print}
 use Rattle.page_model.specs.Events.{History, settings_after, stops_after, is_interrupted}
 use Rattle.page_model.specs.Places.{has_line_glyph, moved, input_place}
 use Rattle.page_model.specs.Fitting.{Word, word_text, line_text, last_line}
-use Rattle.page_model.specs.Words.{is_empty, open_glyphs, has_open_word, last_word_glyphs, is_closer, is_sentence_mark, ends_sentence, begun_gap, blanks, paragraph, words, temporary_indent, open_word}
+use Rattle.page_model.specs.Words.{is_empty, open_glyphs, has_open_word, last_word_glyphs, ends_sentence, begun_gap, blanks, paragraph, words, temporary_indent, open_word}
 use Rattle.page_model.specs.Lines.{pending_line, pending_length}
 use Rattle.page_model.specs.Paragraphs.{finished_lines, until_break}
 use Rattle.page_model.specs.Fields.{Field, field_text, field_told, with_gap, with_glyph}
@@ -246,24 +245,6 @@ pending_length-motion m f h = omega (arith, pending_length-field m f h, pending_
 
 -- a field with a glyph more, or a gap, told behind a history
 module _ (m : ℕ) (g : Glyph) (f : Field) (h : History) where
-  -- the word's text has that of the gap in front of the glyph, and of the glyph
-  pub word_text-field_glyph : word_text (open_word (field_told m (with_glyph g f) h))
-      ≡ word_text (open_word (field_told m f h)) ++ (replicate f.gap glyph_blank ++ glyph_text g)
-  word_text-field_glyph =
-      let more : List ℕ = replicate f.gap glyph_blank ++ glyph_text g in
-      let before = word_text (open_word h) in
-      let blank : List ℕ = replicate m glyph_blank in
-      word_text-field m (with_glyph g f) h
-      ∙ ap (λ t. before ++ (blank ++ t)) (field_text-glyph g f)
-      ∙ ap (λ t. before ++ t) (sym (append_assoc blank (field_text f) more))
-      ∙ sym (append_assoc before (blank ++ field_text f) more)
-      ∙ ap (λ t. t ++ more) (sym (word_text-field m f h))
-
-  -- the place moves by the glyph
-  pub input_place-field_glyph : input_place (field_told m (with_glyph g f) h) ≡ moved (glyph_width g) (input_place (field_told m f h))
-  input_place-field_glyph =
-      omega (arith, input_place-field m (with_glyph g f) h, input_place-field m f h, text_width-field_glyph g f)
-
   -- the pending line has their bytes more
   pub pending_length-field_glyph
       : pending_length (field_told m (with_glyph g f) h) ≡ pending_length (field_told m f h) + f.gap + length (glyph_text g)
@@ -271,26 +252,5 @@ module _ (m : ℕ) (g : Glyph) (f : Field) (h : History) where
       omega (arith, pending_length-field m (with_glyph g f) h, pending_length-field m f h, length-field_glyph g f)
 
 module _ (m n : ℕ) (f : Field) (h : History) where
-  -- a gap moves the place alone
-  pub word_text-field_gap : word_text (open_word (field_told m (with_gap n f) h)) ≡ word_text (open_word (field_told m f h))
-  word_text-field_gap = word_text-field m (with_gap n f) h ∙ sym (word_text-field m f h)
-
-  pub input_place-field_gap : input_place (field_told m (with_gap n f) h) ≡ moved n (input_place (field_told m f h))
-  input_place-field_gap = omega (arith, input_place-field m (with_gap n f) h, input_place-field m f h)
-
   pub pending_length-field_gap : pending_length (field_told m (with_gap n f) h) ≡ pending_length (field_told m f h)
   pending_length-field_gap = pending_length-field m (with_gap n f) h ∙ sym (pending_length-field m f h)
-
--- a sentence ends in front of a glyph as with the field's glyphs, and with none where a gap stands there
-abbrev pub ends_in_field : Field → Bool
-ends_in_field f = f.gap == 0 && ends_sentence f.glyphs
-
-ends_sentence-gap : (none : Bool) (n : ℕ) (gs : List Glyph)
-    → ends_sentence (if none then gs else Blanks n ∷ gs) ≡ (none && ends_sentence gs)
-ends_sentence-gap true n gs = refl
-ends_sentence-gap false n gs = refl
-
-pub ends_sentence-field_glyph : (g : Glyph) (f : Field)
-    → ends_sentence (with_glyph g f).glyphs ≡ (if is_closer g then ends_in_field f else is_sentence_mark g)
-ends_sentence-field_glyph g f =
-    ap (λ ends. if is_closer g then ends else is_sentence_mark g) (ends_sentence-gap (f.gap == 0) f.gap f.glyphs)

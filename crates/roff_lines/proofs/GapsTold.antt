@@ -1,7 +1,6 @@
 -- A gap, where an environment stands for its history.
-use Rattle.std.proofs.Common.{◌≡◌, ℕ, ◌≤◌, ◌^◌, min, true, false, not, ◌∷◌, inl, inr, ne_eqb, refl, sym, ap, subst, ◌∙◌, arith}
-use Rattle.std.specs.Prelude.{◌==◌}
-use Rattle.std.proofs.lemmas.Bool.{cases_Bool, cond_both, eqb-true, eqb-false}
+use Rattle.std.proofs.Common.{◌≡◌, ℕ, ◌≤◌, ◌^◌, min, true, false, not, ◌∷◌, inl, inr, ne_eqb, refl, sym, ap, subst, ◌∙◌, arith, ◌==◌, eqb-true}
+use Rattle.std.proofs.lemmas.Bool.{cases_Bool, cond_both, eqb-false}
 use Rattle.page_model.specs.declared.event.Event.TheVariants.{Gap}
 use Rattle.page_model.specs.Events.{History}
 use Rattle.page_model.specs.Places.{has_line_glyph, moved}

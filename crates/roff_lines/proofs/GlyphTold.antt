@@ -1,6 +1,5 @@
 -- A glyph, where an environment stands for its history: in the open field, if one is open.
-use Rattle.std.proofs.Common.{◌≡◌, ◌↔◌, ℕ, ◌+◌, ◌<◌, ◌≤◌, ◌∷◌, Option, Some, None, Result, Ok, Err, OnOk, IsErr, inl, inr, ap, sym, subst, arith}
-use Rattle.std.specs.Prelude.{length}
+use Rattle.std.proofs.Common.{◌≡◌, ◌↔◌, ℕ, ◌+◌, ◌<◌, ◌≤◌, ◌∷◌, Option, Some, None, Result, Ok, Err, OnOk, IsErr, inl, inr, ap, sym, subst, arith, length}
 use Rattle.std.proofs.lemmas.Bool.{cases_lt}
 use Rattle.page_model.specs.declared.glyph.Glyph.{Glyph}
 use Rattle.page_model.specs.declared.event.Event.TheVariants.{Print}

@@ -12,7 +12,6 @@ pub mod Gaps
 pub mod Printed
 pub mod WordEnd
 pub mod LineEnd
-pub mod Tabs
 pub mod ToldGlyphs
 pub mod Tells
 pub mod TextRuns

@@ -1,7 +1,6 @@
 -- A line's end, where an environment stands for its history.
-use Rattle.std.proofs.Common.{◌≡◌, ℕ, ◌^◌, true, false, not, ◌&&◌, ◌||◌, List, [], ◌∷◌, refl, sym, ap, ◌∙◌, arith, min, Some, None, inl, inr}
-use Rattle.std.specs.Prelude.{if◌then◌else◌}
-use Rattle.std.proofs.lemmas.Bool.{cond_both, cases_Bool, true≢false}
+use Rattle.std.proofs.Common.{◌≡◌, ℕ, ◌^◌, true, false, not, ◌&&◌, ◌||◌, List, [], ◌∷◌, refl, sym, ap, ◌∙◌, arith, min, Some, None, inl, inr, if◌then◌else◌, true≢false}
+use Rattle.std.proofs.lemmas.Bool.{cond_both, cases_Bool}
 use Rattle.page_model.specs.declared.event.Event.TheVariants.{LineEnd}
 use Rattle.page_model.specs.Events.{History, settings_after}
 use Rattle.page_model.specs.Settings.{fills, counted}

@@ -1,6 +1,6 @@
 -- Ends of words and lines, where an environment stands for its history.
-use Rattle.std.proofs.Common.{◌≡◌, ℕ, false, not, Option, Some, None, refl, sym, subst, ◌∙◌}
-use Rattle.std.proofs.lemmas.Bool.{cond_both, not-false, true≢false}
+use Rattle.std.proofs.Common.{◌≡◌, ℕ, false, not, Option, Some, None, refl, sym, subst, ◌∙◌, true≢false}
+use Rattle.std.proofs.lemmas.Bool.{cond_both, not-false}
 use Rattle.page_model.specs.declared.event.Event.TheVariants.{WordEnd, LineEnd}
 use Rattle.page_model.specs.Events.{History}
 use Rattle.page_model.specs.Fields.{Field, plain, told_plainly, told_behind}

@@ -1,8 +1,7 @@
 -- The pending line of a history, and its length.
-use Rattle.std.proofs.Common.{◌≡◌, ℕ, ◌+◌, ◌-◌, ◌≤◌, true, false, not, List, [], ◌∷◌, ◌++◌, length, refl, arith, eqb, replicate, inl, inr}
-use Rattle.std.specs.Prelude.{if◌then◌else◌}
-use Rattle.std.proofs.lemmas.Bool.{cond_both, cases_Bool, not-false, eqb-true, eqb-false}
-use Rattle.std.proofs.lemmas.List.{length-append, length-replicate}
+use Rattle.std.proofs.Common.{◌≡◌, ℕ, ◌+◌, ◌-◌, ◌≤◌, true, false, not, List, [], ◌∷◌, ◌++◌, length, refl, arith, eqb, replicate, inl, inr, if◌then◌else◌, eqb-true, length-append}
+use Rattle.std.proofs.lemmas.Bool.{cond_both, cases_Bool, not-false, eqb-false}
+use Rattle.std.proofs.lemmas.List.{length-replicate}
 use Rattle.page_model.specs.Glyphs.{gap_blank, further_blank}
 use Rattle.page_model.specs.declared.event.Event.TheVariants.{WordEnd, LineEnd}
 use Rattle.page_model.specs.Events.{History, settings_after}

@@ -1,6 +1,5 @@
 -- Where no field is open: an environment stands for its history as it does for the plain one that tells it without fields.
-use Rattle.std.proofs.Common.{◌≡◌, ◌≤◌, ℕ, List, [], ◌∷◌, Option, Some, None, refl, sym, ap, subst, ◌∙◌}
-use Rattle.std.specs.Prelude.{is_some, if◌then◌else◌, ◌==◌}
+use Rattle.std.proofs.Common.{◌≡◌, ◌≤◌, ℕ, List, [], ◌∷◌, Option, Some, None, refl, sym, ap, subst, ◌∙◌, is_some, if◌then◌else◌, ◌==◌}
 use Rattle.page_model.specs.declared.event.Event.TheVariants.{WordEnd}
 use Rattle.page_model.specs.Events.{History}
 use Rattle.page_model.specs.Fields.{Field, Told, so_far, told_plainly, unfielded}

@@ -1,9 +1,8 @@
 -- A glyph, where an environment stands for its history.
-use Rattle.std.proofs.Common.{◌≡◌, ℕ, ◌+◌, ◌<◌, ◌≤◌, ◌^◌, min, Bool, true, false, [], ◌∷◌, ◌++◌, length, refl, sym, ap, ◌∙◌, arith}
-use Rattle.std.specs.Prelude.{reverse, if◌then◌else◌, not, ◌&&◌, List}
+use Rattle.std.proofs.Common.{◌≡◌, ℕ, ◌+◌, ◌<◌, ◌≤◌, ◌^◌, min, Bool, true, false, [], ◌∷◌, ◌++◌, length, refl, sym, ap, ◌∙◌, arith, reverse, if◌then◌else◌, not, ◌&&◌, List, append-nil, length-append}
 use Rattle.std.specs.List.{flat_map}
 use Rattle.std.proofs.lemmas.Grind.{flat_map-append}
-use Rattle.std.proofs.lemmas.List.{append-nil, length-append, reverse-append}
+use Rattle.std.proofs.lemmas.List.{reverse-append}
 use Rattle.page_model.specs.declared.glyph.Glyph.{Glyph}
 use Rattle.page_model.specs.Glyphs.{glyph_text, glyph_width}
 use Rattle.page_model.specs.declared.event.Event.TheVariants.{Print}

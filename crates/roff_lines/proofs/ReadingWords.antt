@@ -1,7 +1,5 @@
 -- Words that are read on, by a step or by a byte.
-use Rattle.std.proofs.Common.{◌≡◌, ℕ, ◌+◌, ◌-◌, ◌<◌, ◌≤◌, Bool, true, false, List, length, take, slice_index_or, nat_lt, refl, sym, ap, subst, ◌∙◌, arith}
-use Rattle.std.specs.Prelude.{if◌then◌else◌}
-use Rattle.std.proofs.lemmas.Bool.{ltb-true, ltb-false}
+use Rattle.std.proofs.Common.{◌≡◌, ℕ, ◌+◌, ◌-◌, ◌<◌, ◌≤◌, Bool, true, false, List, length, take, slice_index_or, nat_lt, refl, sym, ap, subst, ◌∙◌, arith, if◌then◌else◌, ltb-true, ltb-false}
 use Rattle.page_model.specs.Glyphs.{gaps_in}
 use Rattle.roff_lines.specs.Env.Tells.{Begins, Further, GoesOn, IsRun, ReadsWords, WholeWords}
 use Rattle.roff_lines.proofs.WordRuns.{IsRun-front, WholeWords-run, gaps_in-blank, gaps_in-first, gaps_in-no}

@@ -1,6 +1,5 @@
 -- Ends of sentences behind printed bytes.
-use Rattle.std.proofs.Common.{◌≡◌, ℕ, Bool, List, [], ◌∷◌, ◌++◌, refl}
-use Rattle.std.specs.Prelude.{if◌then◌else◌}
+use Rattle.std.proofs.Common.{◌≡◌, ℕ, Bool, List, [], ◌∷◌, ◌++◌, refl, if◌then◌else◌}
 use Rattle.page_model.specs.declared.glyph.Glyph.TheVariants.{Printed}
 use Rattle.page_model.specs.Words.{is_closer, is_sentence_mark, ends_sentence_behind}
 

@@ -1,6 +1,5 @@
 -- What an environment keeps, whether a field is open or not: with the open field's text at its tab it stands for all that happened.
-use Rattle.std.proofs.Common.{◌≡◌, ℕ, ◌^◌, min, true, false, Option, Some, None, refl, sym, ap, subst, ◌∙◌}
-use Rattle.std.specs.Prelude.{◌++◌}
+use Rattle.std.proofs.Common.{◌≡◌, ℕ, ◌^◌, min, true, false, Option, Some, None, refl, sym, ap, subst, ◌∙◌, ◌++◌}
 use Rattle.page_model.specs.Events.{History, settings_after, is_interrupted}
 use Rattle.page_model.specs.Fields.{Field, field_text, field_told, plain, so_far, told_plainly}
 use Rattle.page_model.specs.Behind.{last_text, last_width}

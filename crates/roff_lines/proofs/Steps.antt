@@ -1,6 +1,5 @@
 -- From the mask of a step to the bytes of a text.
-use Rattle.std.proofs.Common.{◌≡◌, ℕ, zero, suc, ◌+◌, ◌-◌, ◌*◌, ◌%◌, ◌/◌, ◌^◌, ◌<◌, ◌≤◌, eqb, leb, ltb, nat_lt, cond, Bool, true, false, not, ◌||◌, ◌&&◌, List, [], ◌∷◌, map, length, take, drop, slice_index_or, replicate, bit_and, bit_or, refl, sym, ap, ap₂, subst, ◌∙◌, arith}
-use Rattle.std.specs.Prelude.{◌==◌, count_ones, if◌then◌else◌}
+use Rattle.std.proofs.Common.{◌≡◌, ℕ, zero, suc, ◌+◌, ◌-◌, ◌*◌, ◌%◌, ◌/◌, ◌^◌, ◌<◌, ◌≤◌, eqb, leb, ltb, nat_lt, cond, Bool, true, false, not, ◌||◌, ◌&&◌, List, [], ◌∷◌, map, length, take, drop, slice_index_or, replicate, bit_and, bit_or, refl, sym, ap, ap₂, subst, ◌∙◌, arith, ◌==◌, count_ones, if◌then◌else◌, eqb-true, get_or-take, get_or-drop, length-drop, length-take, take-take}
 use Rattle.std.specs.List.{prefix_len, count_by, sum_by}
 use Rattle.std.specs.Int.{w64, trailing_zeros}
 use Rattle.std.specs.Int.Count.{count_leading_zeros, leading_unique}
@@ -9,9 +8,9 @@ use Rattle.std.proofs.Math.Arith.{mod-mul}
 use Rattle.std.proofs.Math.Nat.{mod-one, one-le-pow, zero-mod, pow-zero, pow-suc}
 use Rattle.std.proofs.Math.Seq.{take-add}
 use Rattle.std.proofs.lemmas.Simd.{get_or-chunk, get_or-zip2, length-chunk, length-zip2, map-map, ones-mask_l, zip2_of_maps, zip2_splat, zip2_splat_left}
-use Rattle.std.proofs.lemmas.Bool.{and_parts, eqb-true, not-true, not-false, or_parts}
+use Rattle.std.proofs.lemmas.Bool.{and_parts, not-true, not-false, or_parts}
 use Rattle.std.proofs.lemmas.Bool.Decides.{nat_tests}
-use Rattle.std.proofs.lemmas.List.{get_or-take, get_or-drop, length-drop, length-map, length-take, take-take}
+use Rattle.std.proofs.lemmas.List.{length-map}
 use Rattle.std.proofs.lemmas.List.Sums.{prefix_len-le-length, prefix_len_passes, prefix_len_stops, sum_by-append, sum_by-cons}
 use Rattle.roff_num.specs.Widths.{byte_width}
 use Rattle.roff_num.proofs.Masks.{first_lane, mask_l-lanes}

@@ -1,8 +1,6 @@
 -- A tab behind an open field: the field ends, and with it the word before a gap at its end.
-use Rattle.std.proofs.Common.{◌≡◌, ℕ, ◌+◌, ◌≤◌, ◌^◌, min, Bool, true, false, not, ◌&&◌, List, ◌∷◌, ◌++◌, length, Option, Some, None, map, replicate, refl, sym, ap, ap₂, subst, ◌∙◌, arith}
-use Rattle.std.specs.Prelude.{if◌then◌else◌, ◌==◌, reverse}
+use Rattle.std.proofs.Common.{◌≡◌, ℕ, ◌+◌, ◌≤◌, ◌^◌, min, Bool, true, false, not, ◌&&◌, List, ◌∷◌, ◌++◌, length, Option, Some, None, map, replicate, refl, sym, ap, ap₂, subst, ◌∙◌, arith, if◌then◌else◌, ◌==◌, reverse, eqb-true}
 use Rattle.std.specs.List.{cons_option}
-use Rattle.std.proofs.lemmas.Bool.{eqb-true}
 use Rattle.page_model.specs.declared.event.Event.TheVariants.{Gap, Print, Tab, WordEnd}
 use Rattle.page_model.specs.declared.glyph.Glyph.TheVariants.{Blanks}
 use Rattle.page_model.specs.Glyphs.{glyph_blank, text_width}

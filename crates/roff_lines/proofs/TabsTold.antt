@@ -1,8 +1,5 @@
 -- A field's end and a tab, whatever an environment stands for.
-use Rattle.std.proofs.Common.{◌≡◌, ◌↔◌, ℕ, suc, ◌<◌, ◌≤◌, max, Bool, true, false, [], ◌∷◌, Option, Some, None, refl, sym, ap, ap₂, subst, ◌∙◌, arith}
-use Rattle.std.specs.Prelude.{if◌then◌else◌, ◌==◌, not, Result, Ok, Err, IsErr, OnOk}
-use Rattle.std.proofs.lemmas.List.{append-nil}
-use Rattle.std.proofs.lemmas.Bool.{cond_both}
+use Rattle.std.proofs.Common.{◌≡◌, ◌↔◌, ℕ, suc, ◌<◌, ◌≤◌, max, Bool, true, false, [], ◌∷◌, Option, Some, None, refl, sym, ap, ap₂, subst, ◌∙◌, arith, Result, Ok, Err, IsErr, OnOk, append-nil}
 use Rattle.std.proofs.Math.Nat.{lt_of_not-le}
 use Rattle.roff_num.specs.declared.limit.Limit.{Limit}
 use Rattle.page_model.specs.declared.glyph.Glyph.TheVariants.{Blanks}
@@ -14,7 +11,7 @@ use Rattle.page_model.specs.Behind.{finished_by_tab, length_reached, pending_len
 use Rattle.page_model.specs.TabStops.{Way, way_to_next}
 use Rattle.page_model.specs.Places.{input_place}
 use Rattle.page_model.specs.Lines.{pending_length}
-use Rattle.roff_lines.specs.Env.Kept.{Kept, KeptField, at_tab, length_ended, length_of_words, length_with, with_field_ended, with_field_opened, kept_with_glyph, with_word_ended, word_fits}
+use Rattle.roff_lines.specs.Env.Kept.{Kept, at_tab, length_ended, length_of_words, length_with, with_field_ended, with_field_opened, kept_with_glyph}
 use Rattle.roff_lines.specs.Env.Stands.{Finishes, Stands, StandsBehind, StandsBehindTab, StandsFor, StandsPlain, StandsTold, length_at_tab}
 use Rattle.roff_lines.proofs.InField.{Stands-field_ended, length-stands, limit-ended}
 use Rattle.roff_lines.proofs.PlainStanding.{plain_of}
@@ -104,28 +101,6 @@ not_reached cap one other first second more =
     let low : one < suc cap = lt_of_not-le {n = suc cap} {m = one} first in
     let lower : other < suc cap = lt_of_not-le {n = suc cap} {m = other} second in
     absurd (omega (arith, low, lower, more))
-
--- what is kept in front of a tab has no field
-word_ended-field : (k : Kept) → k.field ≡ None → (with_word_ended k).field ≡ None
-word_ended-field k none =
-    let Goal : Kept → Type 0 = λ now. now.field ≡ None in
-    cond_both (not k.is_open) _ _ Goal (λ _. none)
-    (λ _. cond_both (not k.has_line) _ _ Goal (λ _. none) (λ _. cond_both (word_fits k) _ _ Goal (λ _. none) (λ _. none)))
-
-at_tab-by : (k : Kept) (o : Option KeptField) → k.field ≡ o → (at_tab k).field ≡ None
-at_tab-by k None is = rw is refl
-at_tab-by k (Some f) is =
-    let ended : (with_field_ended k).field ≡ None = rw is refl in
-    let Goal : Kept → Type 0 = λ now. now.field ≡ None in
-    let at : (at_tab k) ≡ (if k.blanks == 0 then with_field_ended k else record (with_word_ended (with_field_ended k)) { blanks = k.blanks }) =
-    ap (λ (o : Option KeptField). elim o [
-      | None ↦ k
-      | Some f ↦ if k.blanks == 0 then with_field_ended k else record (with_word_ended (with_field_ended k)) { blanks = k.blanks }
-    ]) is in
-    subst Goal (sym at) (cond_both (k.blanks == 0) _ _ Goal (λ _. ended) (λ _. word_ended-field (with_field_ended k) ended))
-
-pub at_tab-none : (k : Kept) → (at_tab k).field ≡ None
-at_tab-none k = at_tab-by k k.field refl
 
 -- a tab to a stop at which a field opens
 pub StandsBehindTab-opened : (old new : Kept) (columns : ℕ) (kind : StopKind) (is_centred : Bool)

@@ -1,10 +1,8 @@
 -- Bytes of a text line that are told, of so many in front.
-use Rattle.std.proofs.Common.{◌≡◌, ℕ, zero, suc, ◌+◌, ◌-◌, ◌<◌, ◌≤◌, min, true, inl, inr, List, [], ◌∷◌, length, take, drop, slice_index_or, refl, sym, ap, subst, ◌∙◌, arith}
-use Rattle.std.specs.Prelude.{nat_lt}
+use Rattle.std.proofs.Common.{◌≡◌, ℕ, zero, suc, ◌+◌, ◌-◌, ◌<◌, ◌≤◌, min, true, inl, inr, List, [], ◌∷◌, length, take, drop, slice_index_or, refl, sym, ap, subst, ◌∙◌, arith, nat_lt, drop-drop, get_or-take, length-drop, length-take, take-take, take_all}
 use Rattle.std.specs.List.{AllByRecursion}
 use Rattle.std.proofs.Math.Seq.{drop-cons, take-nil}
 use Rattle.std.proofs.lemmas.Bool.{cases_Bool, cases_lt}
-use Rattle.std.proofs.lemmas.List.{drop-drop, drop_all, get_or-take, length-drop, length-take, take-take, take_all}
 use Rattle.page_model.specs.Events.{History}
 use Rattle.page_model.specs.Telling.{bytes_told}
 use Rattle.roff_lines.specs.Env.Tells.{PlainlyTold}
@@ -106,12 +104,6 @@ module _ (count told : ℕ) (bytes : List ℕ) (old new : Kept) (text : count �
 
 -- a place among so many bytes in front
 module _ (bytes : List ℕ) (place count : ℕ) (text : count ≤ length bytes) where
-  -- at their end nothing stands
-  pub EndsBlanks-end : (k : Kept) → place ≡ count → EndsBlanks (drop place (take count bytes)) k
-  EndsBlanks-end k ends =
-      let none : [] ≡ drop place (take count bytes) = sym (drop_all place (take count bytes) (omega (arith, ends, length-take count bytes))) in
-      subst (λ xs. EndsBlanks xs k) none tt
-
   module _ (within : place < count) where
     -- before it the byte of that place
     pub drop-place : slice_index_or bytes place 0 ∷ drop (place + 1) (take count bytes) ≡ drop place (take count bytes)

@@ -1,10 +1,8 @@
 -- A run of a text line, as far as it can be told at once.
-use Rattle.std.proofs.Common.{◌≡◌, ℕ, zero, suc, ◌+◌, ◌-◌, ◌<◌, ◌≤◌, true, false, inl, inr, List, [], ◌∷◌, ◌++◌, length, take, drop, refl, sym, ap, subst, ◌∙◌, arith}
-use Rattle.std.specs.Prelude.{◌⊎◌, nat_lt}
+use Rattle.std.proofs.Common.{◌≡◌, ℕ, zero, suc, ◌+◌, ◌-◌, ◌<◌, ◌≤◌, true, false, inl, inr, List, [], ◌∷◌, ◌++◌, length, take, drop, refl, sym, ap, subst, ◌∙◌, arith, ◌⊎◌, nat_lt, ltb-true, ltb-false, length-append, length-take, take-append-drop}
 use Rattle.std.specs.List.{AllByRecursion}
 use Rattle.std.proofs.Math.Seq.{take-append_seam, take-append-add}
-use Rattle.std.proofs.lemmas.Bool.{cases_Bool, ltb-true, ltb-false}
-use Rattle.std.proofs.lemmas.List.{length-append, length-take, take-append-drop}
+use Rattle.std.proofs.lemmas.Bool.{cases_Bool}
 use Rattle.page_model.specs.declared.event.Event.TheVariants.{WordEnd, Gap}
 use Rattle.page_model.specs.Events.{History}
 use Rattle.page_model.specs.Telling.{bytes_told}

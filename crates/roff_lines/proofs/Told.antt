@@ -1,6 +1,5 @@
 -- What a history says, and what it says told without fields.
-use Rattle.std.proofs.Common.{◌≡◌, ℕ, Bool, true, false, [], ◌∷◌, Option, Some, None, refl, sym, ap, ◌∙◌}
-use Rattle.std.specs.Prelude.{if◌then◌else◌, ◌==◌, is_some}
+use Rattle.std.proofs.Common.{◌≡◌, ℕ, Bool, true, false, [], ◌∷◌, Option, Some, None, refl, sym, ap, ◌∙◌, if◌then◌else◌, ◌==◌, is_some}
 use Rattle.std.specs.List.{cons_option}
 use Rattle.std.proofs.lemmas.Bool.{cond_both}
 use Rattle.page_model.specs.declared.event.Event.{Event}
@@ -307,15 +306,8 @@ finished_lines-told (e ∷ h) =
 pub finished_lines-plain : (h : History) → behind.finished_lines h ≡ finished_lines (plain h)
 finished_lines-plain h = finished_lines-told h ∙ sym (finished_lines-so_far (told_plainly h).events (told_plainly h).field)
 
--- so is the last one
-pub last_text-told : (h : History) → behind.last_text h ≡ last_text (told_plainly h).events
-last_text-told h = ap newest_text (finished_lines-told h)
-
 pub last_text-plain : (h : History) → behind.last_text h ≡ last_text (plain h)
 last_text-plain h = ap newest_text (finished_lines-plain h)
-
-pub last_width-told : (h : History) → behind.last_width h ≡ last_width (told_plainly h).events
-last_width-told h = ap newest_width (finished_lines-told h)
 
 pub last_width-plain : (h : History) → behind.last_width h ≡ last_width (plain h)
 last_width-plain h = ap newest_width (finished_lines-plain h)

@@ -1,6 +1,5 @@
 -- Histories behind which no field is open: what happens then is told as it is.
-use Rattle.std.proofs.Common.{◌≡◌, ℕ, Bool, true, false, not, ◌&&◌, List, [], ◌∷◌, ◌++◌, map, reverse, Option, Some, None, refl, sym, ap, ◌∙◌}
-use Rattle.std.specs.Prelude.{if◌then◌else◌, ◌==◌, is_some}
+use Rattle.std.proofs.Common.{◌≡◌, ℕ, Bool, true, false, List, [], ◌∷◌, ◌++◌, map, reverse, Option, Some, None, refl, ap, ◌∙◌, if◌then◌else◌, ◌==◌, is_some}
 use Rattle.page_model.specs.declared.glyph.Glyph.{Glyph}
 use Rattle.page_model.specs.declared.glyph.Glyph.TheVariants.{Printed}
 use Rattle.page_model.specs.declared.event.Event.{Event}
@@ -12,7 +11,7 @@ use Rattle.page_model.specs.Places.{input_place}
 use Rattle.page_model.specs.Fitting.{Word}
 use Rattle.page_model.specs.Lines.{finished_in}
 use Rattle.page_model.specs.Words.{has_open_word}
-use Rattle.page_model.specs.Telling.{glyphs_told, words_told, bytes_told, text_line}
+use Rattle.page_model.specs.Telling.{glyphs_told, words_told, bytes_told}
 use Rattle.page_model.specs.Fields.{Field, Told, is_in_field, plain, so_far, tab_told, told_plainly, told_behind, unfielded}
 use Rattle.page_model.specs.Behind as behind
 use Rattle.roff_lines.proofs.Fields.{has_open_word-field}
@@ -26,9 +25,6 @@ unfielded-so_far h (Some f) none = cc
 
 pub told-unfielded : (h : History) → is_in_field h ≡ false → told_plainly h ≡ unfielded (plain h)
 told-unfielded h none = unfielded-so_far (told_plainly h).events (told_plainly h).field none
-
-pub plain-unfielded : (h : History) → is_in_field h ≡ false → plain h ≡ (told_plainly h).events
-plain-unfielded h none = sym (ap (λ t. t.events) (told-unfielded h none))
 
 -- in a field a word is open, and a glyph stands on the line
 open-in-field : (h : History) (field : Option Field) → has_open_word (so_far (record { events = h; field = field })) ≡ false
@@ -93,20 +89,9 @@ module _ (h p : History) (is : told_plainly h ≡ unfielded p) where
   pub told-field_end_as : told_plainly (FieldEnd ∷ h) ≡ unfielded p
   told-field_end_as = ap (told_behind FieldEnd) is
 
-  -- all that happened is that
-  pub plain_as : plain h ≡ p
-  plain_as = ap so_far is
-
-  -- no field is open
-  pub is_in_field_as : is_in_field h ≡ false
-  is_in_field_as = ap (λ t. is_some t.field) is
-
   -- a line is finished, and a word is open, where the definitions over plain histories say so
   pub finished_as : (e : Event) → behind.finished h e ≡ finished_in p e
   finished_as e = finished_told-is e h ∙ ap (finished_told e) is ∙ finished_told-unfielded e p
-
-  pub has_open_word_as : behind.has_open_word h ≡ has_open_word p
-  has_open_word_as = ap (λ t. not (is_some t.field) && has_open_word (so_far t)) is
 
 -- these glyphs behind it
 pub told-glyphs_as : (gs : List Glyph) (h p : History) → told_plainly h ≡ unfielded p
@@ -140,36 +125,3 @@ pub told-bytes_as : (bytes : List ℕ) (h p : History) → told_plainly h ≡ un
 told-bytes_as [] h p is = is
 told-bytes_as (b ∷ bytes) h p is =
     told-bytes_as bytes (bytes_told (b ∷ []) h) (bytes_told (b ∷ []) p) (told-byte_as (b == 32) b h p is)
-
--- a text line
-pub told-text_line_as : (bytes : List ℕ) (h p : History) → told_plainly h ≡ unfielded p
-    → told_plainly (text_line bytes h) ≡ unfielded (text_line bytes p)
-told-text_line_as bytes h p is =
-    let i = bytes_told bytes h in
-    let q = bytes_told bytes p in
-    told-event_as (LineEnd ∷ WordEnd ∷ i) (LineEnd ∷ WordEnd ∷ q)
-    (told-event_as (WordEnd ∷ i) (WordEnd ∷ q) (told-event_as i q (told-bytes_as bytes h p is) WordEnd tt) LineEnd tt) Count tt
-
--- a history behind which no field is open
-module _ (h : History) (none : is_in_field h ≡ false) where
-  pub told-event : (e : Event) → IsPlain e → told_plainly (e ∷ h) ≡ unfielded (e ∷ plain h)
-  told-event = told-event_as h (plain h) (told-unfielded h none)
-
-  pub plain-event : (e : Event) → IsPlain e → plain (e ∷ h) ≡ e ∷ plain h
-  plain-event e is = ap so_far (told-event e is)
-
-  pub told-tab : ((w : Way) → way_to_next (stops_after (plain h)) (input_place (plain h)) ≡ Some w → w.kind ≡ AtLeft)
-      → told_plainly (Tab ∷ h) ≡ unfielded (Tab ∷ plain h)
-  told-tab = told-tab_as h (plain h) (told-unfielded h none)
-
-  pub told-field_end : told_plainly (FieldEnd ∷ h) ≡ unfielded (plain h)
-  told-field_end = told-field_end_as h (plain h) (told-unfielded h none)
-
-  pub finished-plain : (e : Event) → behind.finished h e ≡ finished_in (plain h) e
-  finished-plain = finished_as h (plain h) (told-unfielded h none)
-
-  pub has_open_word-plain : behind.has_open_word h ≡ has_open_word (plain h)
-  has_open_word-plain = has_open_word_as h (plain h) (told-unfielded h none)
-
-  pub told-bytes : (bytes : List ℕ) → told_plainly (bytes_told bytes h) ≡ unfielded (bytes_told bytes (plain h))
-  told-bytes bytes = told-bytes_as bytes h (plain h) (told-unfielded h none)

@@ -1,9 +1,8 @@
 -- Text lines that are finished as they stand, where words aren't measured.
-use Rattle.std.proofs.Common.{◌≡◌, ℕ, ◌+◌, ◌-◌, ◌<◌, ◌≤◌, Bool, true, false, inl, inr, List, [], ◌∷◌, ◌++◌, length, take, slice_index_or, refl, sym, ap, subst, ◌∙◌, arith, append_assoc, Some, None}
-use Rattle.std.specs.Prelude.{nat_le, if◌then◌else◌}
+use Rattle.std.proofs.Common.{◌≡◌, ℕ, ◌+◌, ◌-◌, ◌<◌, ◌≤◌, Bool, true, false, inl, inr, List, [], ◌∷◌, ◌++◌, length, take, slice_index_or, refl, sym, ap, subst, ◌∙◌, arith, append_assoc, Some, None, nat_le, if◌then◌else◌, length-append, length-take}
 use Rattle.std.proofs.lemmas.Bool.Decides.{nat_tests}
 use Rattle.std.proofs.lemmas.List.Sums.{sum_by-append, sum_by-cons}
-use Rattle.std.proofs.lemmas.List.{length-append, length-take, take_more}
+use Rattle.std.proofs.lemmas.List.{take_more}
 use Rattle.page_model.specs.declared.event.Event.TheVariants.{LineEnd}
 use Rattle.page_model.specs.Glyphs.{text_width}
 use Rattle.roff_num.specs.Widths.{byte_width}

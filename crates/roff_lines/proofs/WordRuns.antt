@@ -1,6 +1,5 @@
 -- Words with one blank between two of them.
-use Rattle.std.proofs.Common.{◌≡◌, ℕ, zero, suc, ◌+◌, ◌-◌, ◌<◌, ◌≤◌, inl, inr, List, [], ◌∷◌, length, take, cond, slice_index_or, false, refl, sym, ap, subst, ◌∙◌, arith}
-use Rattle.std.specs.Prelude.{◌⊎◌, ◌==◌}
+use Rattle.std.proofs.Common.{◌≡◌, ℕ, zero, suc, ◌+◌, ◌-◌, ◌<◌, ◌≤◌, inl, inr, List, [], ◌∷◌, length, take, cond, slice_index_or, false, refl, sym, ap, subst, ◌∙◌, arith, ◌⊎◌, ◌==◌}
 use Rattle.std.proofs.lemmas.Bool.Decides.{nat_tests}
 use Rattle.std.proofs.lemmas.List.{take_more}
 use Rattle.std.proofs.lemmas.List.Sums.{sum_by-append}
@@ -58,12 +57,6 @@ module _ (bytes : List ℕ) where
   -- the first byte is no gap
   pub gaps_in-first : 0 < length bytes → GoesOn 32 (slice_index_or bytes 0 0) → gaps_in (take 1 bytes) ≡ 0
   gaps_in-first some first = gaps_in-no 0 some (λ blank. first.single blank refl)
-
-  -- so many in front stay where the last byte isn't one
-  pub gaps_in-less : (k : ℕ) → 0 < k → k ≤ length bytes → (slice_index_or bytes (k - 1) 0 ≡ 32 → ⊥) → gaps_in (take (k - 1) bytes) ≡ gaps_in (take k bytes)
-  gaps_in-less k some within other =
-      let sum : k - 1 + 1 ≡ k = omega (arith, some) in
-      sym (ap (λ n. gaps_in (take n bytes)) (sym sum) ∙ gaps_in-no (k - 1) (omega (arith, some, within)) other)
 
   -- so many bytes in front are whole words, and a word of which a part was read
   record Reads (k : ℕ) : Type 0 where

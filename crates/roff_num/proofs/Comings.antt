@@ -1,10 +1,8 @@
 -- What an expression that is being read comes to, step by step.
-use Rattle.std.proofs.Common.{◌≡◌, ℕ, suc, ◌+◌, ◌-◌, ◌<◌, ◌≤◌, Bool, true, false, cond, List, [], ◌∷◌, ◌++◌, length, drop, reverse, refl, ap, sym, subst, ◌∙◌, arith, inl, inr, Ok, Err, Some, None, length-append}
-use Rattle.std.specs.Prelude.{ℤ, ◌-ℤ◌, Result, Option, OnOk}
-use Rattle.std.specs.Prelude.{nat_lt}
+use Rattle.std.proofs.Common.{◌≡◌, ℕ, suc, ◌+◌, ◌-◌, ◌<◌, ◌≤◌, Bool, true, false, cond, List, [], ◌∷◌, ◌++◌, length, drop, reverse, refl, ap, sym, subst, ◌∙◌, arith, inl, inr, Ok, Err, Some, None, length-append, ℤ, ◌-ℤ◌, Result, Option, OnOk, nat_lt, drop-drop}
 use Rattle.std.proofs.lemmas.Bool.{cases_lt}
 use Rattle.std.proofs.lemmas.Bool.Decides.{nat_tests}
-use Rattle.std.proofs.lemmas.List.{drop-drop, reverse-append}
+use Rattle.std.proofs.lemmas.List.{reverse-append}
 use Rattle.roff_num.specs.declared.expression.Frame.{Frame}
 use Rattle.roff_num.specs.declared.expression.Next.{Next}
 use Rattle.roff_num.specs.declared.expression.Next.TheVariants.{Opened, Operand}

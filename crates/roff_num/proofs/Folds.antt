@@ -1,7 +1,5 @@
 -- What follows a value, folded onto it: with an operator there, or with none.
-use Rattle.std.proofs.Common.{◌≡◌, ℕ, zero, suc, ◌+◌, List, [], ◌∷◌, drop, refl, ap, sym, ◌∙◌, arith, Ok, Err, Some, None, add_assoc, add-zero}
-use Rattle.std.specs.Prelude.{ℤ, Result, Option}
-use Rattle.std.proofs.lemmas.List.{drop-drop}
+use Rattle.std.proofs.Common.{◌≡◌, ℕ, zero, suc, ◌+◌, List, [], ◌∷◌, drop, refl, ap, sym, ◌∙◌, arith, Ok, Err, Some, None, add_assoc, add-zero, ℤ, Result, Option, drop-drop}
 use Rattle.roff_num.specs.declared.num.NumFault.{NumFault}
 use Rattle.roff_num.specs.declared.operator.Operator.{Operator}
 use Rattle.roff_num.specs.Expressions.{folded_onto, past}

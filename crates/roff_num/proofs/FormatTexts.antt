@@ -1,9 +1,9 @@
 -- Which texts are formats.
-use Rattle.std.proofs.Common.{◌≡◌, ℕ, true, ◌&&◌, eqb, leb, List, [], ◌∷◌, length, Option, Some, MatchOption, refl, ap, ◌∙◌, subst, arith, eqb-true, leb-true}
+use Rattle.std.proofs.Common.{◌≡◌, ℕ, true, ◌&&◌, eqb, leb, List, [], ◌∷◌, length, Option, Some, MatchOption, refl, ap, ◌∙◌, subst, arith, eqb-true, leb-true, le-leb}
 use Rattle.std.specs.Prelude.{⊤}
 use Rattle.std.specs.Char.{is_ascii_digit, IsAsciiDigit}
 use Rattle.std.specs.List.{list_all, AllByRecursion}
-use Rattle.std.proofs.lemmas.Bool.{and_parts, cond_both, cond-true, le-leb, and_from}
+use Rattle.std.proofs.lemmas.Bool.{and_parts, cond_both, cond-true, and_from}
 use Rattle.roff_num.specs.declared.format.Format.{Format}
 use Rattle.roff_num.specs.declared.format.Format.TheVariants.{Decimal, RomanLower, RomanUpper, AlphaLower, AlphaUpper}
 use Rattle.roff_num.specs.Formats.{format_of, is_field, letter_format, IsWritten}

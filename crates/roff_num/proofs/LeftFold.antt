@@ -1,6 +1,5 @@
 -- The value of an expression is the left fold over its operands.
-use Rattle.std.proofs.Common.{◌≡◌, ℕ, ◌+◌, List, [], ◌∷◌, drop, refl, ap, sym, ◌∙◌, Ok, Err}
-use Rattle.std.specs.Prelude.{ℤ, Result}
+use Rattle.std.proofs.Common.{◌≡◌, ℕ, ◌+◌, List, [], ◌∷◌, drop, refl, ap, sym, ◌∙◌, Ok, Err, ℤ, Result}
 use Rattle.roff_num.specs.declared.num.NumFault.{NumFault}
 use Rattle.roff_num.specs.Expressions.{folded_onto, past}
 use Rattle.roff_num.specs.Laws.{IsLeftFold, left_fold, ReadsAs, Term, terms_length}

@@ -14,3 +14,4 @@ pub mod DefaultTexts
 pub mod SmallNumbers
 pub mod Lists
 pub mod Masks
+pub mod OnLiterals

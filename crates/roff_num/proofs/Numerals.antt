@@ -1,6 +1,5 @@
 -- The parts of a numeral, put together.
-use Rattle.std.proofs.Common.{◌≡◌, ℕ, ◌+◌, ◌*◌, ◌/◌, ◌<◌, ◌≤◌, Bool, false, cond, List, [], ◌∷◌, length, drop, min, arith, ap, refl, sym, Ok, Err, ◌∙◌, append-nil}
-use Rattle.std.specs.Prelude.{pos, ℤ, Result, ◌==◌}
+use Rattle.std.proofs.Common.{◌≡◌, ℕ, ◌+◌, ◌*◌, ◌/◌, ◌<◌, ◌≤◌, Bool, false, cond, List, [], ◌∷◌, length, drop, min, arith, ap, refl, sym, Ok, Err, ◌∙◌, append-nil, pos, ℤ, Result, ◌==◌}
 use Rattle.std.proofs.lemmas.Bool.Decides.{nat_tests}
 use Rattle.roff_num.specs.declared.num.NumFault.{NumFault}
 use Rattle.roff_num.specs.declared.num.NumFault.TheVariants.{Missing}

@@ -1,7 +1,5 @@
 -- An operand that holds another one: the reading goes on within it.
-use Rattle.std.proofs.Common.{◌≡◌, ℕ, ◌+◌, Bool, true, false, List, drop, refl, ap, sym, ◌∙◌, Ok, Err, Some, None, add_assoc}
-use Rattle.std.specs.Prelude.{ℤ, Result, Option, ◌-ℤ◌}
-use Rattle.std.proofs.lemmas.List.{drop-drop}
+use Rattle.std.proofs.Common.{◌≡◌, ℕ, ◌+◌, Bool, true, false, List, drop, refl, ap, sym, ◌∙◌, Ok, Err, Some, None, add_assoc, ℤ, Result, Option, ◌-ℤ◌, drop-drop}
 use Rattle.roff_num.specs.declared.num.NumFault.{NumFault}
 use Rattle.roff_num.specs.declared.num.NumFault.TheVariants.{Missing}
 use Rattle.roff_num.specs.declared.num.Scale.{Scale}

@@ -1,6 +1,5 @@
 -- The size of a numeral whose digits are counted up to a cap.
-use Rattle.std.proofs.Common.{◌≡◌, ℕ, zero, suc, ◌*◌, ◌/◌, ◌<◌, ◌≤◌, min, Bool, true, false, arith, ap, inl, inr, Err, ◌∙◌, sym}
-use Rattle.std.specs.Prelude.{pos}
+use Rattle.std.proofs.Common.{◌≡◌, ℕ, zero, suc, ◌*◌, ◌/◌, ◌<◌, ◌≤◌, min, Bool, true, false, arith, ap, inl, inr, Err, ◌∙◌, sym, pos}
 use Rattle.std.proofs.Math.Nat.{le-div_iff_mul-le, mul-le-mul, mul-pos, min-eq_left}
 use Rattle.std.proofs.lemmas.Bool.{cases_lt}
 use Rattle.std.proofs.lemmas.Bool.Decides.{nat_tests}

@@ -1,7 +1,6 @@
 -- Numbers of one digit in decimal.
-use Rattle.std.proofs.Common.{◌≡◌, ℕ, ◌+◌, ◌-◌, ◌<◌, zero, suc, List, [], ◌∷◌, ◌++◌, length, refl, ap, ◌∙◌, arith}
+use Rattle.std.proofs.Common.{◌≡◌, ℕ, ◌+◌, ◌-◌, ◌<◌, zero, suc, List, [], ◌∷◌, ◌++◌, length, refl, ap, ◌∙◌, arith, min, replicate}
 use Rattle.std.specs.Fmt.{decimal, digits}
-use Rattle.std.specs.Prelude.{min, replicate}
 use Rattle.roff_num.specs.RegisterText.{decimal_field}
 
 -- they are that digit

@@ -9,6 +9,7 @@ ghost use Rattle.roff_num.specs.Clauses.{ComesBefore, IsOverLetters, place, word
 ghost use Rattle.roff_num.specs.Clauses.{IsLeftFold, Missing, Range, ZeroDivisor, Units};
 
 /// What the definitions give for some values in letters.
+#[tactic(auto, unfolding(crate::proofs::OnLiterals::numbers_on_literals))]
 pub fn alphabetic_rows()
     ensures zero { register_text AlphaLower (pos 0) ≡ codes "0" }
     ensures first { register_text AlphaLower (pos 1) ≡ codes "a" }
@@ -22,6 +23,7 @@ pub fn alphabetic_rows()
 {}
 
 /// What the definitions give for some values in Roman numbers.
+#[tactic(auto, unfolding(crate::proofs::OnLiterals::numbers_on_literals))]
 pub fn roman_rows()
     ensures zero { register_text RomanLower (pos 0) ≡ codes "0" }
     ensures four { register_text RomanLower (pos 4) ≡ codes "iv" }
@@ -34,6 +36,7 @@ pub fn roman_rows()
 {}
 
 /// What the definitions give for some values in decimal fields.
+#[tactic(auto, unfolding(crate::proofs::OnLiterals::numbers_on_literals))]
 pub fn decimal_rows()
     ensures plain { register_text (Decimal 1) (pos 2147483647) ≡ codes "2147483647" }
     ensures zeros { register_text (Decimal 3) (pos 7) ≡ codes "007" }
@@ -104,6 +107,7 @@ pub fn left_fold()
 {}
 
 /// What the definitions give on worked numbers.
+#[tactic(auto, unfolding(crate::proofs::OnLiterals::numbers_on_literals))]
 pub fn number_rows()
     ensures no_precedence { value_at (codes "3+4*2") 0 Units None ≡ Ok (record { 0 = pos 14 }, 5) }
     ensures quotient_toward_zero { value_at (codes "(0-7)/2") 0 Units None

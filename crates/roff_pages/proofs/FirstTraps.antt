@@ -1,6 +1,5 @@
 -- The first trap that passes a test, and where it stands in turn.
-use Rattle.std.proofs.Common.{◌≡◌, ℕ, suc, ◌<◌, ◌≤◌, Bool, true, false, List, [], ◌∷◌, ◌++◌, length, set, get_or, refl, sym, ap, ◌∙◌, ◌+◌, append_assoc, length-append, take, drop, take-append-drop, arith, inl, inr}
-use Rattle.std.specs.Prelude.{◌||◌, not}
+use Rattle.std.proofs.Common.{◌≡◌, ℕ, suc, ◌<◌, ◌≤◌, Bool, true, false, List, [], ◌∷◌, ◌++◌, length, set, get_or, refl, sym, ap, ◌∙◌, ◌+◌, append_assoc, length-append, take, drop, take-append-drop, arith, inl, inr, ◌||◌, not}
 use Rattle.std.specs.List.{list_any, remove}
 use Rattle.std.proofs.lemmas.Bool.{cases_Bool, false≢true}
 use Rattle.std.proofs.lemmas.List.Folds.{list_any-append}

@@ -1,9 +1,8 @@
 -- The next stop of a page, and the traps that lie before it.
-use Rattle.std.proofs.Common.{◌≡◌, ℕ, ◌+◌, ◌-◌, ◌<◌, ◌≤◌, min, Bool, true, false, not, ◌||◌, ltb, ℤ, pos, negsuc, List, [], ◌∷◌, length, replicate, Option, Some, None, refl, sym, ap, ◌∙◌, subst, arith, inl, inr}
-use Rattle.std.specs.Prelude.{if◌then◌else◌, nat_lt, nat_le, is_some}
+use Rattle.std.proofs.Common.{◌≡◌, ℕ, ◌+◌, ◌-◌, ◌<◌, ◌≤◌, min, Bool, true, false, not, ◌||◌, ltb, ℤ, pos, negsuc, List, [], ◌∷◌, length, replicate, Option, Some, None, refl, sym, ap, ◌∙◌, subst, arith, inl, inr, if◌then◌else◌, nat_lt, nat_le, is_some, ltb-true, ltb-false, lt-ltb, leb-false, length-append}
 use Rattle.std.specs.List.{AllByRecursion}
-use Rattle.std.proofs.lemmas.Bool.{cases_Bool, ltb-true, ltb-false, lt-ltb, leb-false, lt-leb, and_from, and_left, and_right, false≢true, cases_lt}
-use Rattle.std.proofs.lemmas.List.{length-replicate, length-append}
+use Rattle.std.proofs.lemmas.Bool.{cases_Bool, lt-leb, and_from, and_left, and_right, false≢true, cases_lt}
+use Rattle.std.proofs.lemmas.List.{length-replicate}
 use Rattle.roff_num.specs.declared.short_name.ShortName.{ShortName}
 use Rattle.page_model.specs.Words.{is_empty}
 use Rattle.page_model.specs.declared.trap.Trap.{Trap}

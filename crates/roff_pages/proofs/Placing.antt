@@ -1,7 +1,6 @@
 -- Lines and titles that are placed on a page.
-use Rattle.std.proofs.Common.{◌≡◌, ℕ, zero, suc, ◌+◌, ◌-◌, ◌<◌, min, Bool, true, false, List, [], ◌∷◌, ◌++◌, length, replicate, Option, Some, None, Ok, Err, ◌≤◌, refl, sym, ap, ◌∙◌, arith}
-use Rattle.std.specs.Prelude.{◌^◌}
-use Rattle.std.proofs.lemmas.List.{length-replicate, length-append}
+use Rattle.std.proofs.Common.{◌≡◌, ℕ, zero, suc, ◌+◌, ◌-◌, ◌<◌, min, Bool, true, false, List, [], ◌∷◌, ◌++◌, length, replicate, Option, Some, None, Ok, Err, ◌≤◌, refl, sym, ap, ◌∙◌, arith, ◌^◌, length-append}
+use Rattle.std.proofs.lemmas.List.{length-replicate}
 use Rattle.roff_num.specs.declared.num.Num.{Num}
 use Rattle.page_model.specs.Lines.{Finished}
 use Rattle.page_model.specs.Columns.{device_line, printed}

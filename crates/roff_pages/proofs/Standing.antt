@@ -1,8 +1,6 @@
 -- Pages that stand for a layout, behind a change.
-use Rattle.std.proofs.Common.{◌≡◌, ℕ, ◌+◌, ◌<◌, ◌≤◌, min, Bool, true, false, List, ◌++◌, length, Option, None, refl, sym, ap, ◌∙◌, subst, arith}
-use Rattle.std.specs.Prelude.{nat_le, ◌^◌, if◌then◌else◌}
-use Rattle.std.proofs.lemmas.Bool.{lt-leb, le-leb, eq-eqb, ne_eqb}
-use Rattle.std.proofs.lemmas.List.{length-append}
+use Rattle.std.proofs.Common.{◌≡◌, ℕ, ◌+◌, ◌<◌, ◌≤◌, min, Bool, true, false, List, ◌++◌, length, Option, None, refl, sym, ap, ◌∙◌, subst, arith, nat_le, ◌^◌, if◌then◌else◌, le-leb, eq-eqb, ne_eqb, length-append}
+use Rattle.std.proofs.lemmas.Bool.{lt-leb}
 use Rattle.roff_num.specs.declared.short_name.ShortName.{ShortName}
 use Rattle.page_model.specs.Layout.{Box, Layout, page_place}
 use Rattle.page_model.specs.Turning.{page_begun, turned, turned_if_full}

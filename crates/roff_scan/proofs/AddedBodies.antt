@@ -1,8 +1,6 @@
 -- Bytes of a body that are put behind the newest text in the making at once.
-use Rattle.std.proofs.Common.{◌≡◌, ℕ, ◌+◌, ◌≤◌, true, List, length, take, Ok, refl, sym, ap, subst, ◌∙◌, arith}
-use Rattle.std.specs.Prelude.{Result}
+use Rattle.std.proofs.Common.{◌≡◌, ℕ, ◌+◌, ◌≤◌, true, List, length, take, Ok, refl, sym, ap, subst, ◌∙◌, arith, Result, length-take-le, take-take}
 use Rattle.std.specs.List.{AllByRecursion}
-use Rattle.std.proofs.lemmas.List.{length-take-le, take-take}
 use Rattle.roff_num.specs.declared.limit.Limit.{Limit}
 use Rattle.input_source.specs.Bytes.{is_text_byte}
 use Rattle.input_source.specs.Tape.{Tape}

@@ -1,6 +1,5 @@
 -- Calls that are lent the source, by what they find.
-use Rattle.std.proofs.Common.{Bool, true, false, ◌&&◌, ◌≡◌, ℕ, ◌≤◌, List, [], ◌∷◌, length, map, take, Option, Some, None, refl, sym, ap, ◌∙◌, arith}
-use Rattle.std.specs.Prelude.{IfSome, get_or, is_none}
+use Rattle.std.proofs.Common.{Bool, true, false, ◌&&◌, ◌≡◌, ℕ, ◌≤◌, List, [], ◌∷◌, length, map, take, Option, Some, None, refl, sym, ap, ◌∙◌, arith, IfSome, get_or, is_none}
 use Rattle.input_model.specs.Input.{Ahead, ByteAhead, FreeAhead, EndAhead, ReturnAhead, DoAhead, is_none_ahead}
 use Rattle.input_source.specs.Tape.{Tape, Answer, Answers, Took, Gives, Ends, OneByte, Ending, Ended}
 use Rattle.input_model.specs.Unread.{Unread, Asked, Stays, taking, taking_first, taking_answer, asks_to_take, looking, looking_past, looking_at, asks_to_look}

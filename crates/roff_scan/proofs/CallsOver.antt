@@ -1,6 +1,5 @@
 -- The end of a called body is taken: its call is over, and what was kept in it is kept no more.
-use Rattle.std.proofs.Common.{◌≡◌, ◌≤◌, ◌+◌, ℕ, Bool, true, false, List, [], ◌∷◌, length, length-drop, drop, sym, ap, arith}
-use Rattle.std.specs.Prelude.{if◌then◌else◌, nat_le}
+use Rattle.std.proofs.Common.{◌≡◌, ◌≤◌, ◌+◌, ℕ, Bool, true, false, List, [], ◌∷◌, length, length-drop, drop, sym, ap, arith, if◌then◌else◌, nat_le}
 use Rattle.input_model.specs.Input.{Ahead, ByteAhead, FreeAhead, EndAhead, ReturnAhead, DoAhead, bytes_ahead, ends_ahead, item_taken, results_below, returns_ahead}
 use Rattle.input_model.specs.Arguments.{live_bytes}
 use Rattle.input_model.specs.Unread.{Unread, IsWithin}

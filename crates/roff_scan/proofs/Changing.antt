@@ -1,6 +1,5 @@
 -- Which changes of the input a limit refuses.
-use Rattle.std.proofs.Common.{true, false, None, ◌≡◌, ◌<◌, ◌≤◌, ◌+◌, ◌-◌, ℕ, List, ◌∷◌, Ok, Err, length, refl, arith}
-use Rattle.std.specs.Prelude.{nat_lt, Bool, Option, Some, if◌then◌else◌}
+use Rattle.std.proofs.Common.{true, false, None, ◌≡◌, ◌<◌, ◌≤◌, ◌+◌, ◌-◌, ℕ, List, ◌∷◌, Ok, Err, length, refl, arith, nat_lt, Bool, Option, Some, if◌then◌else◌}
 use Rattle.std.proofs.lemmas.Bool.Decides.{nat_tests}
 use Rattle.roff_num.specs.declared.limit.Limit.{Limit}
 use Rattle.roff_num.specs.declared.limit.Limit.TheVariants.{Stack, Depth, Store, Names}

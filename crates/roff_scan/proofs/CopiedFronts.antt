@@ -1,6 +1,5 @@
 -- Bytes that are put behind the newest text in the making, and are taken with others.
-use Rattle.std.proofs.Common.{◌≡◌, ℕ, List, Ok, sym, ap, subst, ◌∙◌}
-use Rattle.std.specs.Prelude.{Result}
+use Rattle.std.proofs.Common.{◌≡◌, ℕ, List, Ok, sym, ap, subst, ◌∙◌, Result}
 use Rattle.roff_num.specs.declared.limit.Limit.{Limit}
 use Rattle.input_source.specs.Tape.{Tape}
 use Rattle.input_model.specs.Input.{Input}

@@ -1,6 +1,5 @@
 -- Bytes that stand in front: those of a slice, and what is left of the input behind so many of them.
-use Rattle.std.proofs.Common.{◌≡◌, count_by, ℕ, ◌+◌, ◌-◌, ◌==◌, ◌≤◌, Bool, true, false, if◌then◌else◌, List, [], ◌∷◌, ◌++◌, length, map, take, drop, refl, sym, ap, subst, ◌∙◌, arith}
-use Rattle.std.proofs.lemmas.List.{length-take-le, take-take}
+use Rattle.std.proofs.Common.{◌≡◌, count_by, ℕ, ◌+◌, ◌-◌, ◌==◌, ◌≤◌, Bool, true, false, if◌then◌else◌, List, [], ◌∷◌, ◌++◌, length, map, take, drop, refl, sym, ap, subst, ◌∙◌, arith, length-take-le, take-take}
 use Rattle.input_source.specs.Bytes.{newline}
 use Rattle.input_model.specs.Input.{Ahead, ByteAhead, Input, counting, is_none_ahead, leading, lines_taken, returns_ahead}
 use Rattle.input_source.specs.Tape.{Tape, OneByte, Took}

@@ -1,6 +1,5 @@
 -- A line calls a body: what is counted of its arguments, and which limit refuses it.
-use Rattle.std.proofs.Common.{◌≡◌, ◌<◌, ◌≤◌, ◌+◌, ◌-◌, ℕ, Bool, true, false, List, [], ◌∷◌, get_or, length, Ok, Err, refl, ap, ◌∙◌, arith}
-use Rattle.std.specs.Prelude.{if◌then◌else◌, reverse, ◌==◌}
+use Rattle.std.proofs.Common.{◌≡◌, ◌<◌, ◌≤◌, ◌+◌, ◌-◌, ℕ, Bool, true, false, List, [], ◌∷◌, get_or, length, Ok, Err, refl, ap, ◌∙◌, arith, if◌then◌else◌, reverse, ◌==◌}
 use Rattle.roff_num.specs.declared.limit.Limit.TheVariants.{Stack, Depth}
 use Rattle.input_model.specs.Arguments.{Arguments, with_byte, with_byte_at, with_plain, with_unit, with_whole, between, settled, settled_at, finished, finished_at, held, in_argument, only_kept, total_length}
 use Rattle.input_arguments.specs.ArgumentList.{listed}

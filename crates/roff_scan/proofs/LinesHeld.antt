@@ -1,17 +1,16 @@
 -- A line that is taken up to its newline, and the newline behind it.
-use Rattle.std.proofs.Common.{◌≡◌, ◌==◌, ℕ, suc, zero, ◌+◌, ◌-◌, ◌≤◌, true, List, [], ◌∷◌, ◌++◌, append_assoc, count_by, drop, length, map, Option, take, refl, sym, ap, subst, ◌∙◌, arith}
+use Rattle.std.proofs.Common.{◌≡◌, ◌==◌, ℕ, suc, zero, ◌+◌, ◌-◌, ◌≤◌, true, List, [], ◌∷◌, ◌++◌, count_by, drop, length, map, Option, take, refl, sym, ap, subst, ◌∙◌, arith, cond, eqb-true, length-drop, length-take-le, take-take}
 use Rattle.std.specs.List.{AllByRecursion}
-use Rattle.std.specs.Prelude.{cond}
 use Rattle.std.proofs.lemmas.List.Sums.{sum_by-cons}
 use Rattle.std.proofs.Math.Seq.{take-add}
-use Rattle.std.proofs.lemmas.Bool.{and_parts, eqb-true}
-use Rattle.std.proofs.lemmas.List.{drop-take, length-drop, length-take-le, take-take}
+use Rattle.std.proofs.lemmas.Bool.{and_parts}
+use Rattle.std.proofs.lemmas.List.{drop-take}
 use Rattle.input_model.specs.Input.{counting, is_none_ahead, pushed}
 use Rattle.input_model.specs.declared.looked.Looked.TheVariants.{Nothing}
 use Rattle.input_model.specs.Unread.{IsWithin, Unread, asks_to_take}
 use Rattle.input_source.specs.Bytes.{is_argument_byte, newline}
 use Rattle.input_source.specs.Tape.{OneByte, Tape, Took}
-use Rattle.roff_scan.specs.Unread.Calls.{IsFront, NoNewline, PassesFront, PassesSource, front_bytes, next_bytes}
+use Rattle.roff_scan.specs.Unread.Calls.{NoNewline, PassesFront, PassesSource, front_bytes, next_bytes}
 use Rattle.roff_scan.specs.Unread.Lines.{HoldsLine, StandsNewline, begins_with_newline, ended_by, is_ended, line_behind, line_room, with_held}
 use Rattle.roff_scan.specs.declared.unread.lines.BehindHeld.{BehindHeld}
 use Rattle.roff_scan.specs.declared.run_kind.RunKind.TheVariants.{Arguments as ArgumentsRun}
@@ -106,14 +105,6 @@ module _ {E : Type 0} (most : Option ℕ) (ready : List ℕ) (u : Unread E) (fro
       taken_behind (next_bytes u.input.ahead u.looked ready) front skipped n cut (omega (arith, enough, ap length behind_is))
       ∙ ap (λ (bytes : List ℕ). front_bytes skipped ready u ++ take n bytes) (sym behind_is)
 
-  -- so many stand in front
-  pub all_in_front : IsFront skipped ready u → u.input.charge + room ≤ u.limits.bytes → (n : ℕ) → n ≤ length rest → IsFront (skipped + n) ready u
-  all_in_front stands allowed zero enough = record { among = omega (arith, stands.among); within = omega (arith, stands.within) }
-  all_in_front stands allowed (suc n) enough = record {
-    among = omega (arith, among, enough, length_rest);
-    within = omega (arith, allowed, few, enough, length_rest);
-  }
-
   -- none of them is a newline
   pub all_plain : NoNewline (front_bytes skipped ready u) → AllByRecursion (λ b. is_argument_byte b ≡ true) held_bytes → NoNewline (front_bytes (skipped + count) ready u)
   all_plain plain are =
@@ -126,24 +117,6 @@ module _ {E : Type 0} (most : Option ℕ) (ready : List ℕ) (u : Unread E) (fro
       IsWithin-staged u u.input.escapes arguments_held (length held_bytes) within
       (run-held ArgumentsRun held_bytes u.input.arguments u.input.escapes u.input.escapes refl)
       (omega (arith, stack, few, taken, length_held, length_rest))
-
-  -- a newline behind them stands in front
-  pub newline_stands : IsFront skipped ready u → u.input.charge + room ≤ u.limits.bytes → begins_with_newline (drop count rest) ≡ true → StandsNewline (skipped + count) ready u
-  newline_stands stands allowed is =
-      let more : count + 1 ≤ length rest = longer (drop count rest) (length-drop count rest) is in
-      let far : skipped + count + 1 ≡ skipped + (count + 1) = omega arith in
-      record {
-        front = subst (λ (n : ℕ). IsFront n ready u) (sym far) (all_in_front stands allowed (count + 1) more);
-        last =
-            ap (λ (n : ℕ). front_bytes n ready u) far ∙ all_taken (count + 1) more
-            ∙ ap (λ (bytes : List ℕ). front_bytes skipped ready u ++ bytes) (newline_behind rest count is)
-            ∙ sym (append_assoc (front_bytes skipped ready u) held_bytes (newline ∷ []))
-            ∙ ap (λ (bytes : List ℕ). bytes ++ newline ∷ []) (sym (all_taken count taken));
-      }
-    where
-      longer : (behind : List ℕ) → length behind ≡ length rest - count → begins_with_newline behind ≡ true → count + 1 ≤ length rest
-      longer [] left is = cc
-      longer (b ∷ behind) left is = omega (arith, left)
 
   -- so the line was held so far
   pub holds_line : (old new : Tape → Type 0) (behind : BehindHeld) (after : Unread E) → AllByRecursion (λ b. is_argument_byte b ≡ true) held_bytes

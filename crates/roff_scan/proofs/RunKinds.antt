@@ -1,7 +1,6 @@
 -- What bytes of a run are and change, by its kind.
-use Rattle.std.proofs.Common.{◌≡◌, ℕ, ◌+◌, ◌==◌, ◌≤◌, Bool, true, false, if◌then◌else◌, List, [], ◌∷◌, length, None, refl, ap, subst, arith}
+use Rattle.std.proofs.Common.{◌≡◌, ℕ, ◌+◌, ◌==◌, ◌≤◌, Bool, true, false, if◌then◌else◌, List, [], ◌∷◌, length, None, refl, ap, subst, arith, eqb-true}
 use Rattle.std.specs.List.{AllByRecursion}
-use Rattle.std.proofs.lemmas.Bool.{eqb-true}
 use Rattle.input_source.specs.Bytes.{blank, is_argument_byte, is_passed, is_text_byte, newline}
 use Rattle.input_escapes.specs.ConditionFronts.{ByteTaken, HalvesTaken, NothingTaken}
 use Rattle.input_escapes.specs.EscapeFronts.{ByteRead, HalvesRead, NothingRead}

@@ -1,8 +1,7 @@
 -- Bytes that stand in front and are taken together as a run.
-use Rattle.std.proofs.Common.{◌≡◌, ℕ, ◌+◌, ◌≤◌, Bool, true, false, if◌then◌else◌, List, [], length, take, take_while, refl, sym, ap, subst, ◌∙◌, arith}
+use Rattle.std.proofs.Common.{◌≡◌, ℕ, ◌+◌, ◌≤◌, Bool, true, false, if◌then◌else◌, List, [], length, take, take_while, refl, sym, ap, subst, ◌∙◌, arith, length-take-le, take-take}
 use Rattle.std.specs.List.{AllByRecursion}
 use Rattle.std.proofs.lemmas.Bool.{and_parts}
-use Rattle.std.proofs.lemmas.List.{length-take-le, take-take}
 use Rattle.input_model.specs.Arguments.{HeldFewer, held}
 use Rattle.input_model.specs.Arguments.{Arguments as LineArguments}
 use Rattle.input_escapes.specs.OpenEscape.{OpenEscape, texts_held}

@@ -1,6 +1,5 @@
 -- Changes that leave the unread input sound: there is room by the limits, and no count is above its limit.
-use Rattle.std.proofs.Common.{◌≡◌, ◌≤◌, ◌+◌, ℕ, true, List, length, take, ap, subst, sym, refl, ◌∙◌, arith}
-use Rattle.std.proofs.lemmas.List.{length-take-le}
+use Rattle.std.proofs.Common.{◌≡◌, ◌≤◌, ◌+◌, ℕ, true, List, length, take, ap, subst, sym, refl, ◌∙◌, arith, length-take-le}
 use Rattle.input_model.specs.Arguments.{Arguments}
 use Rattle.input_arguments.specs.ArgumentTexts.Kept.{KeptArguments}
 use Rattle.input_escapes.specs.EscapeTexts.{KeptEscapes, leaving}

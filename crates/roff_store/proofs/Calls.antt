@@ -1,7 +1,6 @@
 -- What a call makes of a table, and calls in turn.
-use Rattle.std.proofs.Common.{◌≡◌, ℕ, ◌+◌, ◌<◌, ◌≤◌, true, false, List, [], ◌∷◌, length, is_some, refl, ap, ◌∙◌, arith}
+use Rattle.std.proofs.Common.{◌≡◌, ℕ, ◌+◌, ◌<◌, ◌≤◌, true, false, List, [], ◌∷◌, length, is_some, refl, ap, ◌∙◌, arith, if◌then◌else◌, ◌&&◌}
 use Rattle.std.proofs.lemmas.Bool.Decides.{nat_tests}
-use Rattle.std.specs.Prelude.{if◌then◌else◌, ◌&&◌}
 use Rattle.roff_num.specs.Ranges.{is_in_range, number}
 use Rattle.roff_store.specs.declared.register.Register.{Register}
 use Rattle.roff_num.specs.declared.direction.Direction.{Direction}

@@ -1,8 +1,5 @@
 -- What a chain is once its last chunk has more bytes, or a chunk is linked behind it.
-use Rattle.std.proofs.Common.{◌≡◌, ◌≢◌, ℕ, zero, suc, ◌+◌, ◌-◌, ◌*◌, ◌<◌, ◌≤◌, List, ◌++◌, length, refl, sym, ap, subst, arith, length-append}
-use Rattle.std.specs.Prelude.{◌==◌, if◌then◌else◌}
-use Rattle.std.proofs.lemmas.Bool.{eq-eqb}
-use Rattle.std.proofs.lemmas.List.{append_assoc, append-nil}
+use Rattle.std.proofs.Common.{◌≡◌, ◌≢◌, ℕ, zero, suc, ◌+◌, ◌-◌, ◌*◌, ◌<◌, ◌≤◌, List, ◌++◌, length, refl, sym, ap, subst, arith, length-append, ◌==◌, if◌then◌else◌, eq-eqb, append_assoc, append-nil}
 use Rattle.roff_store.specs.Chains.{Chunks, chain_bytes, content, last_of, link, times_in, IsChain, IsPart}
 
 -- a chain comes to a chunk behind so many others, each of which is another one

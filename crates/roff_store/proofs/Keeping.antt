@@ -1,6 +1,5 @@
 -- What a sound store of texts tells of its parts.
-use Rattle.std.proofs.Common.{◌≡◌, ℕ, ◌+◌, ◌-◌, ◌*◌, ◌<◌, ◌≤◌, false, Bool, List, [], ◌∷◌, ◌++◌, length, map, get_or, All, Option, Some, None, is_some, nat_lt, Ok, Err, Result, refl, sym, ap, subst, ◌∙◌, arith, Vec, Global, length-append}
-use Rattle.std.specs.Prelude.{count_by, option_map, remove, cond, vec_len, vec_capacity, IsPermutation, if◌then◌else◌}
+use Rattle.std.proofs.Common.{◌≡◌, ℕ, ◌+◌, ◌-◌, ◌*◌, ◌<◌, ◌≤◌, false, Bool, List, [], ◌∷◌, ◌++◌, length, map, get_or, All, Option, Some, None, is_some, nat_lt, Ok, Err, Result, refl, sym, ap, subst, ◌∙◌, arith, Vec, Global, length-append, count_by, option_map, remove, cond, vec_len, vec_capacity, IsPermutation, if◌then◌else◌}
 use Rattle.std.proofs.lemmas.Bool.Decides.{nat_tests}
 use Rattle.std.proofs.lemmas.List.{length-map}
 use Rattle.std.proofs.lemmas.List.Elements.{All-head, All-weaker}

@@ -1,8 +1,7 @@
 -- A table of leases once one begins, gives something else, or ends.
-use Rattle.std.proofs.Common.{◌≡◌, ◌≢◌, ℕ, zero, suc, ◌+◌, ◌<◌, List, [], ◌∷◌, ◌++◌, length, get_or, All, Some, None, IsSome, Option, refl, sym, ap, subst, ◌∙◌, arith, Vec, Global, length-append}
-use Rattle.std.specs.Prelude.{set, AllPairs, vec_len, vec_capacity}
+use Rattle.std.proofs.Common.{◌≡◌, ◌≢◌, ℕ, zero, suc, ◌+◌, ◌<◌, List, [], ◌∷◌, ◌++◌, length, get_or, All, Some, None, IsSome, Option, refl, sym, ap, subst, ◌∙◌, arith, Vec, Global, length-append, set, AllPairs, vec_len, vec_capacity, get_or-set_other, get_or-set_same}
 use Rattle.std.specs.Vec.{with_item}
-use Rattle.std.proofs.lemmas.List.{get_or-set_other, get_or-set_same, get_or_append_left, get_or_push}
+use Rattle.std.proofs.lemmas.List.{get_or_append_left, get_or_push}
 use Rattle.std.proofs.lemmas.List.Elements.{All-push}
 use Rattle.std.proofs.lemmas.List.Quantifiers.{all_pairs_push}
 use Rattle.roff_store.specs.declared.strand.Strand.{Strand}

@@ -1,6 +1,6 @@
 -- How the slots are linked into their buckets, and one is taken out.
-use Rattle.std.proofs.Common.{◌≡◌, ◌≢◌, ℕ, zero, suc, ◌+◌, ◌<◌, true, false, List, [], ◌∷◌, ◌++◌, length, take, set, get_or, replicate, Some, refl, sym, ap, ◌∙◌, arith, length-take-le}
-use Rattle.std.proofs.lemmas.List.{length-set, take_more, take_more_set, map-set, length-map, map_push, get_or-replicate, length-replicate}
+use Rattle.std.proofs.Common.{◌≡◌, ◌≢◌, ℕ, zero, suc, ◌+◌, ◌<◌, true, false, List, [], ◌∷◌, ◌++◌, length, take, set, get_or, replicate, Some, refl, sym, ap, ◌∙◌, arith, length-take-le, length-set}
+use Rattle.std.proofs.lemmas.List.{take_more, take_more_set, map-set, length-map, map_push, get_or-replicate, length-replicate}
 use Rattle.std.proofs.lemmas.Option.{slice_get_within}
 use Rattle.std.specs.List.{slice_get}
 use Rattle.roff_store.specs.declared.name_table.Slot.{Slot}

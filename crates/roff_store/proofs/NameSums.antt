@@ -1,6 +1,5 @@
 -- Sums over names, and what their entries become, behind what is set and taken away.
-use Rattle.std.proofs.Common.{◌≡◌, ℕ, ◌+◌, inl, inr, List, [], ◌∷◌, get_or, drop, map, Some, None, refl, ap, ◌∙◌, arith}
-use Rattle.std.specs.Prelude.{Option, option_map, sum_by}
+use Rattle.std.proofs.Common.{◌≡◌, ℕ, ◌+◌, inl, inr, List, [], ◌∷◌, get_or, drop, map, Some, None, refl, ap, ◌∙◌, arith, Option, option_map, sum_by}
 use Rattle.std.proofs.lemmas.List.Sums.{sum_by-cons}
 use Rattle.roff_store.specs.Named.{Named, EachOnce, entry_of, with_entry, without_entry}
 use Rattle.roff_store.proofs.Entries.{bytes_eq_tells, without_entry-absent}

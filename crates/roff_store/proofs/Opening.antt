@@ -1,6 +1,5 @@
 -- A store of texts once texts in the making change.
-use Rattle.std.proofs.Common.{◌≡◌, ℕ, zero, suc, ◌+◌, ◌-◌, ◌*◌, ◌<◌, ◌≤◌, true, List, [], ◌∷◌, ◌++◌, length, map, get_or, nat_lt, Ok, Err, refl, sym, ap, subst, ◌∙◌, arith, Vec, Global, take, drop, length-append}
-use Rattle.std.specs.Prelude.{set, remove, vec_len, vec_capacity, if◌then◌else◌}
+use Rattle.std.proofs.Common.{◌≡◌, ℕ, zero, suc, ◌+◌, ◌-◌, ◌*◌, ◌<◌, ◌≤◌, true, List, [], ◌∷◌, ◌++◌, length, map, get_or, nat_lt, Ok, Err, refl, sym, ap, subst, ◌∙◌, arith, Vec, Global, take, drop, length-append, set, remove, vec_len, vec_capacity, if◌then◌else◌}
 use Rattle.std.specs.Vec.{with_item}
 use Rattle.std.proofs.lemmas.Bool.Decides.{nat_tests}
 use Rattle.std.proofs.lemmas.List.{get_or-map, length-map, map-append}

@@ -1,6 +1,5 @@
 -- A store of texts once a name stands for something else.
-use Rattle.std.proofs.Common.{◌≡◌, ℕ, ◌+◌, ◌-◌, ◌*◌, ◌<◌, ◌≤◌, true, false, Bool, List, [], ◌++◌, length, map, All, Option, Some, is_some, nat_lt, Ok, Err, Result, refl, sym, ap, subst, ◌∙◌, arith, Vec, Global, take, drop, length-append}
-use Rattle.std.specs.Prelude.{vec_len, vec_capacity, IsPermutation, ◌||◌, if◌then◌else◌}
+use Rattle.std.proofs.Common.{◌≡◌, ℕ, ◌+◌, ◌-◌, ◌*◌, ◌<◌, ◌≤◌, true, false, Bool, List, [], ◌++◌, length, map, All, Option, Some, is_some, nat_lt, Ok, Err, Result, refl, sym, ap, subst, ◌∙◌, arith, Vec, Global, take, drop, length-append, vec_len, vec_capacity, IsPermutation, ◌||◌, if◌then◌else◌}
 use Rattle.std.proofs.lemmas.Bool.Decides.{nat_tests}
 use Rattle.std.proofs.lemmas.List.{nil_from_length}
 use Rattle.std.proofs.lemmas.List.Elements.{All-nil}

@@ -1,9 +1,8 @@
 -- How far the search for a name has come, and that for the slot which leads to another one.
-use Rattle.std.proofs.Common.{◌≡◌, ◌≢◌, ℕ, ◌+◌, ◌<◌, ◌≤◌, List, length, drop, get_or, Option, Some, None, refl, sym, ◌∙◌, arith}
+use Rattle.std.proofs.Common.{◌≡◌, ◌≢◌, ℕ, ◌+◌, ◌<◌, ◌≤◌, List, length, drop, get_or, Option, Some, None, refl, sym, ◌∙◌, arith, MatchOption}
 use Rattle.std.proofs.lemmas.List.{drop_all, drop_more, length-map}
 use Rattle.std.proofs.lemmas.Option.{slice_get_within, get_or_from_slice_get}
 use Rattle.std.specs.List.{slice_get}
-use Rattle.std.specs.Prelude.{MatchOption}
 use Rattle.roff_store.specs.declared.name_table.Slot.{Slot}
 use Rattle.roff_store.specs.Buckets.{bucket_of, bucket_count}
 use Rattle.roff_store.specs.Named.{entry_of}

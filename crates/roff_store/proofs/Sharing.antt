@@ -1,10 +1,9 @@
 -- Strands that share the chunks of others, and let them go.
-use Rattle.std.proofs.Common.{◌≡◌, ℕ, zero, suc, ◌+◌, ◌-◌, ◌<◌, ◌≤◌, List, [], ◌++◌, length, take, drop, min, get_or, vec_len, refl, sym, ap, ◌∙◌, subst, arith, length-drop, length-take, length-take-le}
-use Rattle.std.proofs.lemmas.List.{get_or_read, take_rest, take-take, take-append-le, drop-append-le, drop_all, drop_at, drop-drop, drop-take}
+use Rattle.std.proofs.Common.{◌≡◌, ℕ, zero, suc, ◌+◌, ◌-◌, ◌<◌, ◌≤◌, List, [], ◌++◌, length, take, drop, min, get_or, vec_len, refl, sym, ap, ◌∙◌, subst, arith, length-drop, length-take, length-take-le, take-take, drop_at, drop-drop, ◌==◌, if◌then◌else◌}
+use Rattle.std.proofs.lemmas.List.{get_or_read, take_rest, take-append-le, drop-append-le, drop_all, drop-take}
 use Rattle.std.proofs.lemmas.Bool.Decides.{nat_tests}
 use Rattle.roff_store.specs.declared.strand.Strand.{Strand}
 use Rattle.arrayvec.specs.ArrayVec.{ArrayVec as Bytes}
-use Rattle.std.specs.Prelude.{◌==◌, if◌then◌else◌}
 use Rattle.roff_store.specs.declared.chunks.Chunks.TheInside.{Inside}
 use Rattle.roff_store.specs.Chunks.Kept.{kept_by, IsSound}
 use Rattle.roff_store.specs.Chains.{Chunks, bytes_of, chain_bytes, content, has, link, others, share, shares_in, times_in, AreSameChunks, IsChain, IsPart, IsShared, IsStrand}

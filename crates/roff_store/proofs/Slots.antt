@@ -1,7 +1,6 @@
 -- What the slots of a table keep, once one of them is written, added or swept.
-use Rattle.std.proofs.Common.{◌≡◌, ◌≢◌, ℕ, zero, suc, ◌<◌, ◌≤◌, true, false, cond, List, [], ◌∷◌, ◌++◌, length, map, set, drop, get_or, Some, None, refl, ap, ◌∙◌, arith}
+use Rattle.std.proofs.Common.{◌≡◌, ◌≢◌, ℕ, zero, suc, ◌<◌, ◌≤◌, true, false, cond, List, [], ◌∷◌, ◌++◌, length, map, set, drop, get_or, Some, None, refl, ap, ◌∙◌, arith, if◌then◌else◌}
 use Rattle.std.specs.List.{filter, slice_get}
-use Rattle.std.specs.Prelude.{if◌then◌else◌}
 use Rattle.roff_store.specs.declared.name_table.Slot.{Slot}
 use Rattle.roff_store.specs.Buckets.{bucket_of, bucket_count}
 use Rattle.roff_store.specs.Named.{EachOnce, entry_of, with_entry, without_entry}

@@ -1,6 +1,5 @@
 -- What a call on a store of texts leaves alone.
-use Rattle.std.proofs.Common.{◌≡◌, true, false, refl}
-use Rattle.std.specs.Prelude.{Result, Ok, Err}
+use Rattle.std.proofs.Common.{◌≡◌, true, false, refl, Result, Ok, Err}
 use Rattle.roff_num.specs.declared.limit.Limit.{Limit}
 use Rattle.roff_store.specs.Texts.{Texts}
 use Rattle.roff_store.specs.TextCalls.{Call, Set, Append, Remove, Rename, Open, PushOpen, Enter, DropOpen, Lease, Take, Release, made, answered, after, unless_refused}

@@ -1,6 +1,5 @@
 -- The history behind what comes before an event: the ends of a field and of a word, and the first page's beginning.
-use Rattle.std.proofs.Common.{◌∙◌, ◌≡◌, ℕ, zero, suc, Bool, true, false, not, ◌&&◌, ◌∷◌, Option, Some, None, ap, arith, refl, sym}
-use Rattle.std.specs.Prelude.{is_some}
+use Rattle.std.proofs.Common.{◌∙◌, ◌≡◌, ℕ, zero, suc, Bool, true, false, not, ◌&&◌, ◌∷◌, Option, Some, None, ap, arith, refl, sym, is_some}
 use Rattle.page_model.specs.Behind.{has_open_word}
 use Rattle.page_model.specs.Events.{History}
 use Rattle.page_model.specs.Fields.{Field, Told, is_in_field, so_far, told_plainly, told_behind}

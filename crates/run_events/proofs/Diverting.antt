@@ -1,6 +1,5 @@
 -- What is put in the innermost open diversion, and what isn't: what the formatter's functions say of both.
-use Rattle.std.proofs.Common.{◌∙◌, ◌≡◌, inl, inr, ◌<◌, ℕ, ◌-◌, Bool, true, false, List, [], ◌∷◌, length, Option, Some, None, Result, Ok, ap, arith, refl, subst, sym}
-use Rattle.std.specs.Prelude.{if◌then◌else◌, min, nat_lt, not}
+use Rattle.std.proofs.Common.{◌∙◌, ◌≡◌, inl, inr, ◌<◌, ℕ, ◌-◌, Bool, true, false, List, [], ◌∷◌, length, Option, Some, None, Result, Ok, ap, arith, refl, subst, sym, if◌then◌else◌, min, nat_lt, not}
 use Rattle.std.proofs.lemmas.List.{length-replicate}
 use Rattle.roff_num.specs.declared.short_name.ShortName.{ShortName}
 use Rattle.page_model.specs.DeviceText.{device_text}

@@ -1,6 +1,5 @@
 -- Events that are performed where they stand in front of others, each behind the first page's beginning if it begins there.
-use Rattle.std.proofs.Common.{◌∙◌, ◌≡◌, ◌≤◌, ℕ, Bool, true, false, ◌||◌, List, [], ◌∷◌, length, Option, Some, None, Result, Ok, Err, ap, arith, refl, subst, sym}
-use Rattle.std.specs.Prelude.{is_some}
+use Rattle.std.proofs.Common.{◌∙◌, ◌≡◌, ◌≤◌, ℕ, Bool, true, false, ◌||◌, List, [], ◌∷◌, length, Option, Some, None, Result, Ok, Err, ap, arith, refl, subst, sym, is_some}
 use Rattle.page_model.specs.Events.{History}
 use Rattle.page_model.specs.Fields.{is_in_field}
 use Rattle.roff_num.specs.declared.limit.Limit.{Limit}

@@ -1,7 +1,6 @@
 -- What a composer tells of the text that is due is what the definition puts behind the text of the innermost diversion.
-use Rattle.std.proofs.Common.{◌∙◌, ◌≡◌, ◌<◌, ◌-◌, ℕ, zero, suc, ◌+◌, Bool, true, false, List, [], ◌∷◌, ◌++◌, length, replicate, Option, Some, None, ap, append-nil, arith, refl, sym}
-use Rattle.std.specs.Prelude.{if◌then◌else◌}
-use Rattle.std.proofs.lemmas.List.{append_assoc, length-map, length-replicate}
+use Rattle.std.proofs.Common.{◌∙◌, ◌≡◌, ◌<◌, ◌-◌, ℕ, zero, suc, ◌+◌, Bool, true, false, List, [], ◌∷◌, ◌++◌, length, replicate, Option, Some, None, ap, append-nil, arith, refl, sym, if◌then◌else◌, append_assoc}
+use Rattle.std.proofs.lemmas.List.{length-map, length-replicate}
 use Rattle.roff_num.specs.RegisterText.{register_text}
 use Rattle.roff_num.specs.declared.format.Format.{Format}
 use Rattle.page_model.specs.Columns.{printed}

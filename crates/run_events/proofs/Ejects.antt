@@ -1,8 +1,6 @@
 -- Ejects that go on behind a macro that they spring: those whose page hasn't ended.
-use Rattle.std.proofs.Common.{◌≡◌, ℕ, ◌+◌, ◌<◌, Bool, true, false, not, ◌&&◌, List, [], ◌∷◌, ◌++◌, length, Option, Some, None, Result, Ok, Err, refl, sym, ◌∙◌, ap, arith, if◌then◌else◌, ◌==◌}
-use Rattle.std.specs.Prelude.{is_some, nat_le, nat_lt}
-use Rattle.std.proofs.lemmas.Bool.{and_parts, eq-eqb, leb-true, ltb-true, ne_eqb}
-use Rattle.std.proofs.lemmas.List.{length-append}
+use Rattle.std.proofs.Common.{◌≡◌, ℕ, ◌+◌, ◌<◌, Bool, true, false, not, ◌&&◌, List, [], ◌∷◌, ◌++◌, length, Option, Some, None, Result, Ok, Err, refl, sym, ◌∙◌, ap, arith, if◌then◌else◌, ◌==◌, is_some, nat_le, nat_lt, eq-eqb, leb-true, ltb-true, ne_eqb, length-append}
+use Rattle.std.proofs.lemmas.Bool.{and_parts}
 use Rattle.roff_num.specs.declared.short_name.ShortName.{ShortName}
 use Rattle.page_model.specs.Happenings.{Happening, Does, is_eject_event}
 use Rattle.page_model.specs.Layout.{Box, Layout, page_place}

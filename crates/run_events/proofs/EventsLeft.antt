@@ -1,6 +1,5 @@
 -- What is left of a list from an index on.
-use Rattle.std.proofs.Common.{◌≡◌, ◌⊎◌, inl, inr, ◌≤◌, ℕ, zero, suc, ◌+◌, Bool, true, false, List, [], ◌∷◌, ◌++◌, length, Some, None, refl, ap, append-nil, subst, sym, arith, ◌∙◌}
-use Rattle.std.specs.Prelude.{drop, slice_get, if◌then◌else◌, not, ◌&&◌}
+use Rattle.std.proofs.Common.{◌≡◌, ◌⊎◌, inl, inr, ◌≤◌, ℕ, zero, suc, ◌+◌, Bool, true, false, List, [], ◌∷◌, ◌++◌, length, Some, None, refl, ap, append-nil, subst, sym, arith, ◌∙◌, drop, slice_get, if◌then◌else◌, not, ◌&&◌}
 use Rattle.run_model.specs.PageEvents.{PageEvent}
 use Rattle.roff_num.specs.declared.num.Num.{Num}
 use Rattle.roff_num.specs.declared.short_name.ShortName.{ShortName}

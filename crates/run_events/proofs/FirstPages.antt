@@ -1,7 +1,5 @@
 -- The first page, which begins in front of the first event that needs one.
-use Rattle.std.proofs.Common.{◌∙◌, ◌≡◌, ◌<◌, ℕ, Bool, true, false, not, ◌||◌, ◌&&◌, List, [], ◌∷◌, ◌++◌, Option, Some, None, Ok, ap, arith, refl, subst, sym, if◌then◌else◌}
-use Rattle.std.specs.Prelude.{is_some, nat_le, option_map}
-use Rattle.std.proofs.lemmas.Bool.{ne_eqb}
+use Rattle.std.proofs.Common.{◌∙◌, ◌≡◌, ◌<◌, ℕ, Bool, true, false, not, ◌||◌, ◌&&◌, List, [], ◌∷◌, ◌++◌, Option, Some, None, Ok, ap, arith, refl, subst, sym, if◌then◌else◌, is_some, nat_le, option_map, ne_eqb}
 use Rattle.roff_num.specs.declared.limits.Limits.{Limits}
 use Rattle.page_model.specs.Lines.{Finished}
 use Rattle.page_model.specs.Behind.{finished, has_open_word}

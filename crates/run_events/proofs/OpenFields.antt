@@ -1,6 +1,5 @@
 -- Whether a field or a word is open in an environment, by what it keeps.
-use Rattle.std.proofs.Common.{◌≡◌, ℕ, not, ◌&&◌, Option, Some, None, ap}
-use Rattle.std.specs.Prelude.{is_some}
+use Rattle.std.proofs.Common.{◌≡◌, ℕ, not, ◌&&◌, Option, Some, None, ap, is_some}
 use Rattle.page_model.specs.Events.{History}
 use Rattle.page_model.specs.Words.{has_open_word as has_word_in}
 use Rattle.page_model.specs.Fields.{Field, is_in_field, so_far, told_plainly}

@@ -1,6 +1,5 @@
 -- Events that are performed, one by one, over the states of the definition.
-use Rattle.std.proofs.Common.{◌∙◌, ◌≡◌, ◌≤◌, ◌+◌, ℕ, Bool, true, false, ◌||◌, List, [], ◌∷◌, ◌++◌, length, arith, Option, Some, None, Result, Ok, Err, ap, refl, subst, sym}
-use Rattle.std.specs.Prelude.{is_some}
+use Rattle.std.proofs.Common.{◌∙◌, ◌≡◌, ◌≤◌, ◌+◌, ℕ, Bool, true, false, ◌||◌, List, [], ◌∷◌, ◌++◌, length, arith, Option, Some, None, Result, Ok, Err, ap, refl, subst, sym, is_some, append_assoc}
 use Rattle.std.specs.Io.KnownBytes.{Appends}
 use Rattle.roff_lines.specs.declared.env.Env.{Env}
 use Rattle.roff_num.specs.declared.limit.Limit.{Limit}
@@ -25,7 +24,6 @@ use Rattle.page_bytes.proofs.Appending.{Appends-append}
 use Rattle.run_model.proofs.Leads.{Leads-to}
 use Rattle.run_events.proofs.EventsLeft.{left-front, left-further, most-behind, reach-further, reach-least}
 use Rattle.run_events.proofs.LinesLeft.{more_left}
-use Rattle.std.proofs.lemmas.List.{append_assoc}
 
 -- a beginning of a piece was written behind a text
 pub between : (old mid new : Option (List ℕ)) (least piece : List ℕ)

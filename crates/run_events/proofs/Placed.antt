@@ -1,9 +1,7 @@
 -- What environments and pages stand for behind an event, and whether a limit refuses it.
-use Rattle.std.proofs.Common.{◌∙◌, ◌≡◌, ◌<◌, ◌≤◌, ◌+◌, ℕ, Bool, true, false, not, ◌||◌, List, [], ◌∷◌, length, Option, Some, None, ap, arith, refl, subst, sym, if◌then◌else◌}
-use Rattle.std.specs.Prelude.{nat_lt}
+use Rattle.std.proofs.Common.{◌∙◌, ◌≡◌, ◌<◌, ◌≤◌, ◌+◌, ℕ, Bool, true, false, not, ◌||◌, List, [], ◌∷◌, length, Option, Some, None, ap, arith, refl, subst, sym, if◌then◌else◌, nat_lt, le-ltb, lt-ltb, length-append}
 use Rattle.std.proofs.Math.Nat.{lt_of_not-le}
-use Rattle.std.proofs.lemmas.Bool.{le-ltb, lt-ltb}
-use Rattle.std.proofs.lemmas.List.{length-append, length-map}
+use Rattle.std.proofs.lemmas.List.{length-map}
 use Rattle.roff_num.specs.declared.limit.Limit.{Limit}
 use Rattle.roff_num.specs.declared.limit.Limit.TheVariants.{Line, Output as OutputLimit, Traps, Diversions, Environments as EnvironmentsLimit}
 use Rattle.roff_num.specs.declared.limits.Limits.{Limits}

@@ -1,9 +1,6 @@
 -- Bytes of a text line that stand in front are told to the environment in force.
-use Rattle.std.proofs.Common.{◌≡◌, ◌↔◌, Bool, Result, Ok, Err, IsErr, refl, ℕ, zero, suc, ◌+◌, ◌<◌, ◌≤◌, true, false, List, [], ◌∷◌, length, length-take, take, take-take, sym, ap, subst, ◌∙◌, arith}
-use Rattle.std.specs.Prelude.{cond, min, nat_lt, slice_index_or, take_while}
-use Rattle.std.proofs.lemmas.Bool.{ltb-false, ltb-true}
+use Rattle.std.proofs.Common.{◌≡◌, ◌↔◌, Bool, Result, Ok, Err, IsErr, refl, ℕ, zero, suc, ◌+◌, ◌<◌, ◌≤◌, true, false, List, [], ◌∷◌, length, length-take, take, take-take, sym, ap, subst, ◌∙◌, arith, cond, min, nat_lt, slice_index_or, take_while, ltb-false, ltb-true, append-nil, get_or-take}
 use Rattle.std.proofs.lemmas.Bool.Decides.{nat_tests}
-use Rattle.std.proofs.lemmas.List.{append-nil, get_or-take}
 use Rattle.std.proofs.lemmas.List.Folds.{length-prefix_len}
 use Rattle.std.proofs.lemmas.List.Sums.{prefix_len-le-length, take_while-cons}
 use Rattle.std.specs.List.{AllByRecursion, prefix_len}

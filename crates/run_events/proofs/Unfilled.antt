@@ -1,6 +1,5 @@
 -- Text lines that stand in front up to their newlines, and are told and ended at once.
-use Rattle.std.proofs.Common.{◌≡◌, ◌∙◌, ap, false, ℕ, List, [], ◌∷◌, take, Option, Some, None, Result, Ok, refl, sym, subst, arith}
-use Rattle.std.specs.Prelude.{is_some}
+use Rattle.std.proofs.Common.{◌≡◌, ◌∙◌, ap, false, ℕ, List, [], ◌∷◌, take, Option, Some, None, Result, Ok, refl, sym, subst, arith, is_some}
 use Rattle.page_model.specs.Happenings.{Places}
 use Rattle.page_model.specs.Lines.{Finished}
 use Rattle.page_model.specs.declared.event.Event.TheVariants.{LineEnd, WordEnd}

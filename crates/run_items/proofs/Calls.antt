@@ -1,6 +1,5 @@
 -- What the calls of the unread input leave of a run: of its source, its limits and its turns to come.
-use Rattle.std.proofs.Common.{◌≡◌, ◌⊎◌, inl, inr, ℕ, ◌+◌, ◌≤◌, Bool, true, false, List, [], ◌∷◌, Option, Some, None, refl, sym, ap, subst, arith}
-use Rattle.std.specs.Prelude.{nat_lt, is_none, ◌&&◌}
+use Rattle.std.proofs.Common.{◌≡◌, ◌⊎◌, inl, inr, ℕ, ◌+◌, ◌≤◌, Bool, true, false, List, [], ◌∷◌, Option, Some, None, refl, sym, ap, subst, arith, nat_lt, is_none, ◌&&◌}
 use Rattle.input_escapes.specs.Waiting.{is_ended_by}
 use Rattle.input_model.specs.Input.{Ahead, ByteAhead, FreeAhead, EndAhead, ReturnAhead, DoAhead, cost, item_taken}
 use Rattle.input_source.specs.Tape.{Tape, Item, Answer, Ending, Ended, Failed, Stopped, OneByte, OneNote, Gives, Ends, items_then}

@@ -1,6 +1,5 @@
 -- What a change of the unread input says, by whether a limit refused it.
-use Rattle.std.proofs.Common.{◌≡◌, ◌≤◌, ℕ, Option, Some, None, Result, Ok, Err, ap, arith, refl}
-use Rattle.std.specs.Prelude.{false, nat_lt}
+use Rattle.std.proofs.Common.{◌≡◌, ◌≤◌, ℕ, Option, Some, None, Result, Ok, Err, ap, arith, refl, false, nat_lt}
 use Rattle.std.proofs.lemmas.Bool.Decides.{nat_tests}
 use Rattle.roff_num.specs.declared.limit.Limit.{Limit}
 use Rattle.input_model.specs.Unread.{unless_passed}

@@ -1,6 +1,5 @@
 -- What is half read and ends before something that can't be seen leads to no condition where none was read, and no event is left.
-use Rattle.std.proofs.Common.{◌≡◌, ◌⊎◌, inl, inr, ℕ, ◌-◌, Bool, true, false, List, [], ◌∷◌, Option, Some, None, refl, sym, subst, arith}
-use Rattle.std.specs.Prelude.{◌&&◌, ◌==◌, if◌then◌else◌, nat_le}
+use Rattle.std.proofs.Common.{◌≡◌, ◌⊎◌, inl, inr, ℕ, ◌-◌, Bool, true, false, List, [], ◌∷◌, Option, Some, None, refl, sym, subst, arith, ◌&&◌, ◌==◌, if◌then◌else◌, nat_le}
 use Rattle.input_model.specs.Input.{Ahead}
 use Rattle.input_model.specs.Input.Few.{AreFewFrom}
 use Rattle.input_model.proofs.FewEvents.{few-more}

@@ -1,6 +1,5 @@
 -- Few events stand in front of a run, and none where a condition that decided is next.
-use Rattle.std.proofs.Common.{◌≡◌, inl, inr, Option, Some, None, ◌-◌, ◌≤◌, Bool, true, false, List, [], ◌∷◌, ◌++◌, length, refl, sym, ap, subst, append-nil, ◌∙◌, arith}
-use Rattle.std.specs.Prelude.{map}
+use Rattle.std.proofs.Common.{◌≡◌, inl, inr, Option, Some, None, ◌-◌, ◌≤◌, Bool, true, false, List, [], ◌∷◌, ◌++◌, length, refl, sym, ap, subst, append-nil, ◌∙◌, arith, map}
 use Rattle.input_model.specs.Input.{Ahead, putting_all_back}
 use Rattle.input_model.specs.Input.Few.{AreFewFrom}
 use Rattle.input_model.proofs.FewEvents.{few-behind, few-more}

@@ -1,6 +1,5 @@
 -- A run is halted where the code couldn't do what an item means, or what is to be performed.
-use Rattle.std.proofs.Common.{◌≡◌, ℕ, List, [], ◌∷◌, length, Option, Some, None, Err, inl, inr, refl, subst, sym}
-use Rattle.std.specs.Prelude.{Bool, true, false, if◌then◌else◌, nat_lt}
+use Rattle.std.proofs.Common.{◌≡◌, ℕ, List, [], ◌∷◌, length, Option, Some, None, Err, inl, inr, refl, subst, sym, Bool, true, false, if◌then◌else◌, nat_lt}
 use Rattle.roff_num.specs.declared.limit.Limit.{Limit}
 use Rattle.roff_num.specs.declared.limits.Limits.{Limits}
 use Rattle.input_source.specs.Tape.{Tape}

@@ -1,5 +1,5 @@
 -- How a run ends that is halted, and how that is told.
-use Rattle.std.proofs.Common.{◌≡◌, ◌∙◌, ◌⊎◌, ℕ, true, List, [], ◌∷◌, Some, Result, Ok, Err, inl, inr, refl, subst, sym, ap, append-nil}
+use Rattle.std.proofs.Common.{◌≡◌, ◌∙◌, ◌⊎◌, ℕ, true, List, [], ◌∷◌, Some, Result, Ok, Err, inl, inr, refl, subst, sym, ap, append-nil, IsSome}
 use Rattle.roff_num.specs.declared.limit.Limit.{Limit}
 use Rattle.roff_num.specs.declared.limits.Limits.{Limits}
 use Rattle.roff_num.specs.LimitValues.{value_of}
@@ -19,7 +19,6 @@ use Rattle.law_runs.proofs.StatusesTell.{each_status_tells}
 use Rattle.run_items.specs.Halting.{LimitStops, OutputStopsAt, StartStops, Halts}
 use Rattle.page_bytes.specs.Sinks.{CountsFault, Sunk, Writes, Fails, Puts}
 use Rattle.std.specs.Io.KnownBytes.{Appends}
-use Rattle.std.specs.Prelude.{IsSome}
 use Rattle.page_bytes.proofs.Appending.{Appends-append, Appends-nothing}
 use Rattle.run_model.proofs.Leads.{ToldLeads-refl, ToldLeads-to}
 use Rattle.run_events.proofs.Performed.{between, faults_of_err}

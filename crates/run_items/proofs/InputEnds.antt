@@ -1,7 +1,6 @@
 -- The end of the input: what is half read ends first, and then an unfinished line.
-use Rattle.std.proofs.Common.{◌≡◌, ◌⊎◌, Bool, true, false, List, [], ◌∷◌, length, inl, inr, refl, subst, sym, ap, ◌∙◌}
+use Rattle.std.proofs.Common.{◌≡◌, ◌⊎◌, Bool, true, false, List, [], ◌∷◌, length, inl, inr, refl, subst, sym, ap, ◌∙◌, not, pos, ◌==◌}
 use Rattle.std.proofs.Math.Dec.{eqb-suc-zero}
-use Rattle.std.specs.Prelude.{not, pos, ◌==◌}
 use Rattle.input_escapes.specs.OpenEscapes.{reading_ended}
 use Rattle.input_source.specs.Tape.{Tape, behind_front}
 use Rattle.input_model.specs.Looking.{is_closed, looked_then}

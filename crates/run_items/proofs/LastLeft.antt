@@ -1,6 +1,5 @@
 -- The last of some events: how many interrupted lines they leave, and on which line a halt in them is told.
-use Rattle.std.proofs.Common.{◌≡◌, ◌≤◌, ℕ, zero, suc, Bool, true, false, List, [], ◌∷◌, ap, arith, refl}
-use Rattle.std.specs.Prelude.{drop}
+use Rattle.std.proofs.Common.{◌≡◌, ◌≤◌, ℕ, zero, suc, Bool, true, false, List, [], ◌∷◌, ap, arith, refl, drop}
 use Rattle.run_events.specs.declared.halt.Halt.{Halt}
 use Rattle.run_events.specs.declared.halt.Halt.TheVariants.{Limit as Limited, Refused, Over, Output, Messages}
 use Rattle.run_items.specs.Halting.{line_told}

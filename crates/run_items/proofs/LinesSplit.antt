@@ -1,8 +1,5 @@
 -- A line that was taken up to its newline, and that newline: the bytes before it, and then the newline alone.
-use Rattle.std.proofs.Common.{◌≡◌, ◌==◌, ℕ, ◌+◌, ◌≤◌, Bool, false, List, [], ◌∷◌, ◌++◌, length, map, refl, sym, ap, subst, ◌∙◌, arith}
-use Rattle.std.specs.Prelude.{if◌then◌else◌}
-use Rattle.std.proofs.lemmas.Bool.{le-ltb}
-use Rattle.std.proofs.lemmas.List.{length-append}
+use Rattle.std.proofs.Common.{◌≡◌, ◌==◌, ℕ, ◌+◌, ◌≤◌, Bool, false, List, [], ◌∷◌, ◌++◌, length, map, refl, sym, ap, subst, ◌∙◌, arith, if◌then◌else◌, le-ltb, length-append}
 use Rattle.input_model.specs.Input.{Ahead, ByteAhead, bytes_taken, counting, item_taken, lines_taken}
 use Rattle.input_model.specs.Shown.{ShowsByte, ShowsRefusal}
 use Rattle.input_model.specs.Unread.{IsWithin}

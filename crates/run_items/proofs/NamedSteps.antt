@@ -1,6 +1,5 @@
 -- Steps that have names of their own: what they mean doesn't depend on what is kept.
-use Rattle.std.proofs.Common.{◌≡◌, ℕ, Bool, true, false, List, [], ◌∷◌, ◌++◌, Option, None, ap, refl}
-use Rattle.std.specs.Prelude.{◌==◌, if◌then◌else◌}
+use Rattle.std.proofs.Common.{◌≡◌, ℕ, Bool, true, false, List, [], ◌∷◌, ◌++◌, Option, None, ap, refl, ◌==◌, if◌then◌else◌}
 use Rattle.run_state.proofs.BlanksTold.{closed-word_end}
 use Rattle.page_model.specs.declared.event.Event.TheVariants.{Break as Breaks, Print, Tab as PageTab, WordEnd}
 use Rattle.page_model.specs.Behind.{has_open_word}

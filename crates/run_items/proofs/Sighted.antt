@@ -2,8 +2,7 @@
 use Rattle.input_escapes.specs.Conditions.{is_decided}
 use Rattle.input_escapes.specs.OpenEscape.{OpenEscape, Backslash, Comment, Name, Size, Delimited, Width, Condition}
 use Rattle.input_escapes.specs.declared.open_escape.ConditionPart.TheVariants.{Choice, Expression, Compared, Decided}
-use Rattle.std.proofs.Common.{◌≡◌, ℕ, Bool, true, false, List, ◌++◌, Option, Some, None, refl, sym, ap, subst, append_assoc, ◌∷◌, []}
-use Rattle.std.specs.Prelude.{if◌then◌else◌}
+use Rattle.std.proofs.Common.{◌≡◌, ℕ, Bool, true, false, List, ◌++◌, Option, Some, None, refl, sym, ap, subst, append_assoc, ◌∷◌, [], if◌then◌else◌}
 use Rattle.roff_num.specs.declared.limits.Limits.{Limits}
 use Rattle.input_model.specs.declared.place.Place.{Place}
 use Rattle.input_escapes.specs.Waiting.{is_ended_by}

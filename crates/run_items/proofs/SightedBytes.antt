@@ -1,6 +1,5 @@
 -- A byte that is waited for and stands ready.
-use Rattle.std.proofs.Common.{◌≡◌, ℕ, Bool, true, false, List, Some, refl, ap, subst, ◌∙◌, ◌∷◌, []}
-use Rattle.std.specs.Prelude.{if◌then◌else◌}
+use Rattle.std.proofs.Common.{◌≡◌, ℕ, Bool, true, false, List, Some, refl, ap, subst, ◌∙◌, ◌∷◌, [], if◌then◌else◌}
 use Rattle.roff_num.specs.declared.limit.Limit.{Limit}
 use Rattle.roff_num.specs.declared.limits.Limits.{Limits}
 use Rattle.input_escapes.specs.Waiting.{decides as decides_by, is_ended_by}

@@ -1,7 +1,5 @@
 -- Events that are performed one after another, up to one that sprang something.
-use Rattle.std.proofs.Common.{◌∙◌, ◌≡◌, ◌<◌, ◌≤◌, ◌+◌, ℕ, Bool, true, false, List, [], ◌∷◌, ◌++◌, length, Some, Ok, ap, append-nil, arith, refl, subst, sym}
-use Rattle.std.specs.Prelude.{◌||◌, drop, is_some, nat_lt}
-use Rattle.std.proofs.lemmas.Bool.{ltb-false, ltb-true}
+use Rattle.std.proofs.Common.{◌∙◌, ◌≡◌, ◌<◌, ◌≤◌, ◌+◌, ℕ, Bool, true, false, List, [], ◌∷◌, ◌++◌, length, Some, Ok, ap, append-nil, arith, refl, subst, sym, ◌||◌, drop, is_some, nat_lt, ltb-false, ltb-true, append_assoc}
 use Rattle.roff_num.specs.declared.limits.Limits.{Limits}
 use Rattle.run_state.specs.declared.composer.Composer.{Composer as ComposerOf}
 use Rattle.run_events.specs.declared.sprung.Sprung.{Sprung}
@@ -17,7 +15,6 @@ use Rattle.run_model.specs.Run.{State, followed_by}
 use Rattle.run_model.specs.TurnsToCome.{lines_left, most_left}
 use Rattle.run_events.proofs.EventsLeft.{drop-drop, left-front, most-drop, reach-least}
 use Rattle.run_events.proofs.Performed.{sprang_first, sprung-least, word-least}
-use Rattle.std.proofs.lemmas.List.{append_assoc}
 use Rattle.page_model.specs.declared.event.Event.TheVariants.{Break, WordEnd}
 use Rattle.run_model.specs.declared.event.PageEvent.TheVariants.{Text}
 

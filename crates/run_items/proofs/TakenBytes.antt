@@ -1,6 +1,5 @@
 -- What is taken leaves what is half read.
-use Rattle.std.proofs.Common.{◌≡◌, ℕ, ◌+◌, Bool, true, false, List, [], ◌∷◌, refl, ap, ◌∙◌}
-use Rattle.std.specs.Prelude.{if◌then◌else◌, nat_lt}
+use Rattle.std.proofs.Common.{◌≡◌, ℕ, ◌+◌, Bool, true, false, List, [], ◌∷◌, refl, ap, ◌∙◌, if◌then◌else◌, nat_lt}
 use Rattle.roff_num.specs.declared.limit.Limit.TheVariants.{Bytes}
 use Rattle.input_source.specs.Tape.{Tape, Answer, Gives, Ends, OneByte, OneNote}
 use Rattle.input_model.specs.Input.{Ahead, cost, counting, item_taken}

@@ -1,6 +1,5 @@
 -- The text of a diversion changes in a step of its own, before what was left is done or put back behind a macro.
-use Rattle.std.proofs.Common.{◌∙◌, ◌≡◌, ◌-◌, ℕ, false, List, length, Option, Some, None, ap, arith, refl}
-use Rattle.std.specs.Prelude.{if◌then◌else◌, map, nat_lt}
+use Rattle.std.proofs.Common.{◌∙◌, ◌≡◌, ◌-◌, ℕ, false, List, length, Option, Some, None, ap, arith, refl, if◌then◌else◌, map, nat_lt}
 use Rattle.roff_num.specs.ShortNames.{name_bytes}
 use Rattle.roff_num.specs.declared.limit.Limit.{Limit}
 use Rattle.roff_num.specs.declared.limit.Limit.TheVariants.{Conditions, Depth, Diversions, Names, Stack, Store}

@@ -1,18 +1,14 @@
 -- Bytes that are put behind the text of a diversion, piece by piece: all together, or none of them.
-use Rattle.std.proofs.Common.{◌≡◌, ℕ, ◌+◌, ◌<◌, ◌≤◌, Bool, true, false, List, [], ◌∷◌, ◌++◌, length, get_or, set, ◌^◌, Option, Some, None, Result, Ok, Err, refl, sym, ap, subst, ◌∙◌, append_assoc, append-nil, arith}
-use Rattle.std.specs.Prelude.{min, nat_lt, sum_by, if◌then◌else◌}
-use Rattle.std.proofs.lemmas.Bool.{lt-ltb, ltb-false, ltb-true}
-use Rattle.std.proofs.lemmas.List.{get_or-set_same, length-append, set-set}
+use Rattle.std.proofs.Common.{◌≡◌, ℕ, ◌+◌, ◌<◌, ◌≤◌, Bool, true, false, List, [], ◌∷◌, ◌++◌, length, get_or, set, ◌^◌, Option, Some, None, Result, Ok, Err, refl, sym, ap, subst, ◌∙◌, append_assoc, append-nil, arith, min, nat_lt, sum_by, if◌then◌else◌, lt-ltb, ltb-false, ltb-true, get_or-set_same, length-append, set-set}
 use Rattle.std.proofs.lemmas.List.Sums.{sum_by-set}
 use Rattle.roff_num.specs.declared.limit.Limit.{Limit}
 use Rattle.roff_num.specs.declared.limit.Limit.TheVariants.{Store}
-use Rattle.input_model.specs.Input.Names.{adding_to, calling_on, dropping_all, open_numbered, stored}
+use Rattle.input_model.specs.Input.Names.{adding_to, calling_on, open_numbered, stored}
 use Rattle.input_model.specs.Unread.{IsWithin, changing, input_refusal, unless_passed}
 use Rattle.roff_scan.proofs.AddedFronts.{length-texts_added, texts_added, texts_added-none}
 use Rattle.roff_scan.proofs.Changing.{OthersWithin, changing_within}
-use Rattle.page_model.specs.DueTexts.{TextDue, AllDropped, Gets}
-use Rattle.run_model.proofs.InputCounts.{IsWithin-allowed, NoMore, input_refusal-no_more}
-use Rattle.run_model.specs.Following.{text_changed}
+use Rattle.page_model.specs.DueTexts.{Gets}
+use Rattle.run_model.proofs.InputCounts.{IsWithin-allowed}
 use Rattle.run_model.specs.Reading.Items.{PageInput, PageUnread}
 use Rattle.run_items.proofs.Changes.{changed-Err, changed-Ok}
 use Rattle.run_items.specs.Diverting.{ChangesText}
@@ -274,17 +270,3 @@ module _ (index : ℕ) where
       let id : Option ℕ = open_numbered index u.input in
       let fits : stored u.input + more_of id bytes ≤ u.limits.store = omega (arith, few, small, room, more_of-le id bytes) in
       never_refused_is (adding_to index bytes u.input) u (added-within bytes u within fits)
-
-  -- nor are any behind a text that isn't there
-  pub allowed_nowhere : (bytes : List ℕ) (u : PageUnread) → IsWithin u → nat_lt index (length u.input.open_texts) ≡ false
-      → input_refusal u.limits (adding_to index bytes u.input) ≡ None
-  allowed_nowhere bytes u within none =
-      let same : adding_to index bytes u.input ≡ u.input = rw none refl in
-      ap (λ (i : PageInput). input_refusal u.limits i) same ∙ IsWithin-allowed u within
-
--- that all texts are dropped is never refused
-pub dropped_all : (old new : PageUnread) → IsWithin old → new ≡ record old { input = dropping_all old.input } → ChangesText (Some AllDropped) old new (Ok tt)
-dropped_all old new within is =
-    let i : PageInput = dropping_all old.input in
-    let less : NoMore i old.input = record { bytes = omega arith; texts = omega arith; results = omega arith; stored = omega arith; names = omega arith; open_texts = omega arith } in
-    was_changed old new i (input_refusal-no_more old.limits i old.input less (IsWithin-allowed old within)) is

@@ -1,6 +1,5 @@
 -- Text lines that stand in front up to their newlines, and are told and ended at once.
-use Rattle.std.proofs.Common.{◌≡◌, ℕ, true, List, [], ◌∷◌, Option, Result, Ok, refl, sym, ap, ◌∙◌}
-use Rattle.std.specs.Prelude.{◌||◌, if◌then◌else◌}
+use Rattle.std.proofs.Common.{◌≡◌, ℕ, true, List, [], ◌∷◌, Option, Result, Ok, refl, sym, ap, ◌∙◌, ◌||◌, if◌then◌else◌}
 use Rattle.input_source.specs.Bytes.{newline}
 use Rattle.run_state.specs.declared.composer.Composer.{Composer as ComposerOf}
 use Rattle.page_model.specs.declared.event.Event.TheVariants.{Count, LineEnd, WordEnd}

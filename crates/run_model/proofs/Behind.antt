@@ -1,8 +1,7 @@
 -- What a state keeps behind what was read of an item, and behind the end of a phase.
 --
 -- Each function f of the run has its lemma Behind-f or Passed-f here.
-use Rattle.std.proofs.Common.{◌≡◌, ℕ, ◌+◌, ◌*◌, Bool, true, false, List, ◌∷◌, ◌-◌, refl, arith}
-use Rattle.std.specs.Prelude.{if◌then◌else◌, ◌==◌}
+use Rattle.std.proofs.Common.{◌≡◌, ℕ, ◌+◌, ◌*◌, Bool, true, false, List, ◌∷◌, ◌-◌, refl, arith, if◌then◌else◌, ◌==◌}
 use Rattle.input_model.specs.Input.{Ahead, ByteAhead, FreeAhead, EndAhead, ReturnAhead, DoAhead}
 use Rattle.input_escapes.specs.OpenEscape.{OpenEscape}
 use Rattle.run_model.specs.Requests.{PageEvent}

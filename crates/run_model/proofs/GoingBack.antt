@@ -1,6 +1,5 @@
 -- What going back to something means.
-use Rattle.std.proofs.Common.{◌≡◌, Bool, true, false, List, [], ◌∷◌, refl, ap}
-use Rattle.std.specs.Prelude.{if◌then◌else◌}
+use Rattle.std.proofs.Common.{◌≡◌, Bool, true, false, List, [], ◌∷◌, refl, ap, if◌then◌else◌}
 use Rattle.page_model.specs.declared.event.Event.TheVariants.{Resume}
 use Rattle.run_model.specs.PageEvents.{PageEvent, Text}
 use Rattle.run_model.specs.Reading.Returns.{behind_return, going_back, is_text}

@@ -1,6 +1,5 @@
 -- How many bytes are held of the text or the argument that is being read, behind what reading does with the input: two more at the most.
-use Rattle.std.proofs.Common.{◌≡◌, ◌≤◌, ◌+◌, ℕ, Bool, true, false, List, [], ◌∷◌, length, Option, Some, None, refl, arith}
-use Rattle.std.specs.Prelude.{nat_le, ◌&&◌, if◌then◌else◌, ◌==◌}
+use Rattle.std.proofs.Common.{◌≡◌, ◌≤◌, ◌+◌, ℕ, Bool, true, false, List, [], ◌∷◌, length, Option, Some, None, refl, arith, nat_le, ◌&&◌, if◌then◌else◌, ◌==◌}
 use Rattle.input_escapes.specs.declared.open_escape.CopyUnit.{CopyUnit}
 use Rattle.input_escapes.specs.declared.open_escape.CopyUnit.TheVariants.{Byte, Kept}
 use Rattle.input_model.specs.Arguments.{Arguments, between, only_kept, settled, settled_at, with_byte, with_byte_at, with_whole}

@@ -1,7 +1,6 @@
 -- The step that takes the item in front, or looks at it, by what the call of the unread input shows of it, and what
 -- the calls take of their source.
-use Rattle.std.proofs.Common.{◌≡◌, ℕ, ◌+◌, Bool, true, false, List, [], ◌∷◌, ◌++◌, Option, Some, None, refl, sym, subst, ap}
-use Rattle.std.specs.Prelude.{nat_lt, ◌&&◌, is_none, if◌then◌else◌}
+use Rattle.std.proofs.Common.{◌≡◌, ℕ, ◌+◌, Bool, true, false, List, [], ◌∷◌, ◌++◌, Option, Some, None, refl, sym, subst, ap, nat_lt, ◌&&◌, is_none, if◌then◌else◌}
 use Rattle.roff_num.specs.declared.limits.Limits.{Limits}
 use Rattle.input_escapes.specs.Waiting.{is_ended_by}
 use Rattle.input_model.specs.Input.{Ahead, ByteAhead, FreeAhead, EndAhead, ReturnAhead, DoAhead, cost, item_taken}

@@ -2,8 +2,7 @@
 --
 -- Each function f of reading has its lemma Keeps-f here, with a line for each of its cases: what is taken by what is read, what ends what is
 -- half read, the end of the input, and the call of the last macro.
-use Rattle.std.proofs.Common.{◌≡◌, ℕ, ◌+◌, ◌*◌, ◌-◌, ◌≤◌, Bool, List, ◌∷◌, Option, Some, None, refl, sym, subst, arith, pos}
-use Rattle.std.specs.Prelude.{◌&&◌, ◌||◌, ◌==◌}
+use Rattle.std.proofs.Common.{◌≡◌, ℕ, ◌+◌, ◌*◌, ◌-◌, ◌≤◌, Bool, List, ◌∷◌, Option, Some, None, refl, sym, subst, arith, pos, ◌&&◌, ◌||◌, ◌==◌}
 use Rattle.page_model.specs.Words.{is_empty}
 use Rattle.input_source.specs.Bytes.{tab, newline, blank, is_dropped}
 use Rattle.input_escapes.specs.OpenEscapes.{byte_read, reading_ended}

@@ -3,8 +3,7 @@
 --
 -- Each function f of reading has its lemma here, with a line for each of its cases: Alike-f where it changes arguments and
 -- texts alone, and else Keeps-f.
-use Rattle.std.proofs.Common.{◌≡◌, ℕ, ◌≤◌, Bool, true, false, List, [], ◌∷◌, Option, Some, None, refl, sym, subst, ap, ◌∙◌, arith}
-use Rattle.std.specs.Prelude.{◌&&◌, length, nat_le, if◌then◌else◌, ◌==◌}
+use Rattle.std.proofs.Common.{◌≡◌, ℕ, ◌≤◌, Bool, true, false, List, [], ◌∷◌, Option, Some, None, refl, sym, subst, ap, ◌∙◌, arith, ◌&&◌, length, nat_le, if◌then◌else◌, ◌==◌}
 use Rattle.input_source.specs.Bytes.{newline, blank, quote}
 use Rattle.input_model.specs.Input.Calls.{arguments_given, called_text, calling_body}
 use Rattle.input_model.specs.Input.Names.{body_named, calling, calling_on}

@@ -2,8 +2,7 @@
 --
 -- A condition, a branch, a line of arguments and the text of a definition are read there. Each function f of reading has its lemma Keeps-f
 -- here, with a line for each of its cases.
-use Rattle.std.proofs.Common.{◌≡◌, ℕ, ◌+◌, ◌*◌, ◌≤◌, Bool, true, false, List, ◌++◌, Option, Some, None, refl, arith, pos}
-use Rattle.std.specs.Prelude.{◌==◌}
+use Rattle.std.proofs.Common.{◌≡◌, ℕ, ◌+◌, ◌*◌, ◌≤◌, Bool, true, false, List, ◌++◌, Option, Some, None, refl, arith, pos, ◌==◌}
 use Rattle.input_source.specs.Bytes.{newline}
 use Rattle.input_escapes.specs.OpenEscapes.{byte_read}
 use Rattle.input_model.specs.Input.{beginning_line, choosing}

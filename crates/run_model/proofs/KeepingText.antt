@@ -2,8 +2,7 @@
 --
 -- Each function f of reading has its lemma here, with a line for each of its cases: Stays-f where it leaves the input,
 -- and else Keeps-f.
-use Rattle.std.proofs.Common.{◌≡◌, ℕ, ◌+◌, ◌*◌, ◌≤◌, Bool, true, false, List, [], ◌∷◌, ◌++◌, map, Option, Some, None, refl, sym, subst, ◌∙◌, arith}
-use Rattle.std.specs.Prelude.{◌&&◌, decimal, nat_le, if◌then◌else◌, ◌==◌}
+use Rattle.std.proofs.Common.{◌≡◌, ℕ, ◌+◌, ◌*◌, ◌≤◌, Bool, true, false, List, [], ◌∷◌, ◌++◌, map, Option, Some, None, refl, sym, subst, ◌∙◌, arith, ◌&&◌, decimal, nat_le, if◌then◌else◌, ◌==◌}
 use Rattle.page_model.specs.declared.glyph.Glyph.TheVariants.{Printed}
 use Rattle.input_source.specs.Bytes.{tab, newline, blank, apostrophe, dot, backslash, is_silent}
 use Rattle.input_escapes.specs.Characters.{character}

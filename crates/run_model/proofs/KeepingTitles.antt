@@ -1,6 +1,5 @@
 -- What each taking of a title changes in the input, as of text lines and others (`KeepingText`).
-use Rattle.std.proofs.Common.{ℕ, ◌+◌, ◌*◌, ◌≤◌, false, List, Option, Some, None, arith, refl}
-use Rattle.std.specs.Prelude.{◌==◌}
+use Rattle.std.proofs.Common.{ℕ, ◌+◌, ◌*◌, ◌≤◌, false, List, Option, Some, None, arith, refl, ◌==◌}
 use Rattle.input_source.specs.Bytes.{newline, blank}
 use Rattle.input_escapes.specs.Characters.{character}
 use Rattle.input_escapes.specs.Escapes.{escape_of}

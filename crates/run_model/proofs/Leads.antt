@@ -1,6 +1,5 @@
 -- Runs of the definition: where some steps lead.
-use Rattle.std.proofs.Common.{◌≡◌, ℕ, zero, suc, ◌+◌, ◌<◌, ◌≤◌, Bool, length, if◌then◌else◌, Option, None, Some, IsSome, zero-add, suc-add, refl, ap, subst, ◌∙◌}
-use Rattle.std.proofs.lemmas.Bool.{le-ltb, lt-ltb}
+use Rattle.std.proofs.Common.{◌≡◌, ℕ, zero, suc, ◌+◌, ◌<◌, ◌≤◌, Bool, length, if◌then◌else◌, Option, None, Some, IsSome, zero-add, suc-add, refl, ap, subst, ◌∙◌, le-ltb, lt-ltb}
 use Rattle.roff_num.specs.declared.limit.Limit.TheVariants.{Messages}
 use Rattle.roff_num.specs.declared.limits.Limits.{Limits}
 use Rattle.run_model.specs.declared.status.Status.{Status}

@@ -1,7 +1,6 @@
 -- The byte behind the mark of the line that ends a definition: it is a blank, a tab or a newline, and begins nothing.
-use Rattle.std.proofs.Common.{◌≡◌, ℕ, ◌+◌, Bool, true, false, List, [], ◌∷◌, Option, Some, None, inl, inr, refl, subst, ◌==◌, arith}
-use Rattle.std.specs.Prelude.{drop, if◌then◌else◌}
-use Rattle.std.proofs.lemmas.Bool.{cases_Bool, eqb-true}
+use Rattle.std.proofs.Common.{◌≡◌, ℕ, ◌+◌, Bool, true, false, List, [], ◌∷◌, Option, Some, None, inl, inr, refl, subst, ◌==◌, arith, drop, if◌then◌else◌, eqb-true}
+use Rattle.std.proofs.lemmas.Bool.{cases_Bool}
 use Rattle.input_source.specs.Bytes.{backslash}
 use Rattle.input_escapes.specs.OpenEscape.{Condition, unit_bytes}
 use Rattle.input_escapes.specs.OpenEscapes.{byte_read}

@@ -1,6 +1,5 @@
 -- The bytes of a name behind a control character.
-use Rattle.std.proofs.Common.{◌≡◌, ℕ, Bool, true, false, List, [], refl, ap, ◌∙◌}
-use Rattle.std.specs.Prelude.{◌||◌, if◌then◌else◌, ◌==◌}
+use Rattle.std.proofs.Common.{◌≡◌, ℕ, Bool, true, false, List, [], refl, ap, ◌∙◌, ◌||◌, if◌then◌else◌, ◌==◌}
 use Rattle.input_model.specs.Arguments.{Arguments}
 use Rattle.input_source.specs.Bytes.{backslash, blank, is_dropped, newline}
 use Rattle.roff_store.specs.Named.{Named}

@@ -1,6 +1,5 @@
 -- What is done with an item of the input tells one message at the most, and a short one.
-use Rattle.std.proofs.Common.{◌≤◌, ◌+◌, ℕ, Bool, true, false, List, [], ◌∷◌, length, length-append, Option, Some, None, arith}
-use Rattle.std.specs.Prelude.{decimal, if◌then◌else◌}
+use Rattle.std.proofs.Common.{◌≤◌, ◌+◌, ℕ, Bool, true, false, List, [], ◌∷◌, length, length-append, Option, Some, None, arith, decimal, if◌then◌else◌}
 use Rattle.input_escapes.specs.declared.open_escape.Remark.{Remark}
 use Rattle.input_escapes.specs.declared.open_escape.Remark.TheVariants.{LeftOut as EscapeLeftOut, UnknownCharacter as NoCharacter, BadNumber as NoNumber, BackwardMotion as MotionBack}
 use Rattle.run_model.specs.Messages.{character_name, message_line, message_text, remark_message, remark_messages}

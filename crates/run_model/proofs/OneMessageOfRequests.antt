@@ -1,6 +1,5 @@
 -- A request says one thing at the most.
-use Rattle.std.proofs.Common.{◌≡◌, refl, ℕ, zero, suc, Bool, true, false, List, [], ◌∷◌, Option, Some, None}
-use Rattle.std.specs.Prelude.{◌&&◌, if◌then◌else◌, slice_get}
+use Rattle.std.proofs.Common.{◌≡◌, refl, ℕ, zero, suc, Bool, true, false, List, [], ◌∷◌, Option, Some, None, ◌&&◌, if◌then◌else◌, slice_get}
 use Rattle.roff_num.specs.declared.short_name.ShortName.{ShortName}
 use Rattle.run_model.specs.Registers.{Known}
 use Rattle.run_model.specs.Requests.{called_as, called_by, request_effect, requests, row_of}

@@ -1,8 +1,7 @@
 -- What text lines mean, titles, and what begins a line tells one thing at the most.
 --
 -- Each function f of reading has its lemma Brief-f here, with a line for each of its cases.
-use Rattle.std.proofs.Common.{arith, ℕ, Bool, true, false, List, [], ◌∷◌, Option, Some, None}
-use Rattle.std.specs.Prelude.{if◌then◌else◌, ◌==◌}
+use Rattle.std.proofs.Common.{arith, ℕ, Bool, true, false, List, [], ◌∷◌, Option, Some, None, if◌then◌else◌, ◌==◌}
 use Rattle.input_source.specs.Bytes.{tab, newline, blank, apostrophe, dot, is_silent}
 use Rattle.input_escapes.specs.Characters.{character}
 use Rattle.input_escapes.specs.Escapes.{escape_of}

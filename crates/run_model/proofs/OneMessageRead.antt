@@ -1,8 +1,7 @@
 -- What is done with an item tells one thing at the most: a byte, an end of what is half read, or that of an unfinished line.
 --
 -- Each function f of reading has its lemma Brief-f here, with a line for each of its cases.
-use Rattle.std.proofs.Common.{arith, ◌++◌, ℕ, Bool, true, false, List, Option, Some, None}
-use Rattle.std.specs.Prelude.{◌||◌, ◌&&◌, nat_le, if◌then◌else◌, ◌==◌}
+use Rattle.std.proofs.Common.{arith, ◌++◌, ℕ, Bool, true, false, List, Option, Some, None, ◌||◌, ◌&&◌, nat_le, if◌then◌else◌, ◌==◌}
 use Rattle.roff_num.specs.declared.short_name.ShortName.{ShortName}
 use Rattle.roff_num.specs.ShortNames.{name_at, name_or_none}
 use Rattle.input_source.specs.Bytes.{tab, newline, blank, backslash, is_dropped, quote}

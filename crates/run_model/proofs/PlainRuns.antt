@@ -1,7 +1,5 @@
 -- Runs over bytes that change what is read, the arguments of the line and the texts in the making, and nothing else.
-use Rattle.std.proofs.Common.{◌≡◌, ℕ, ◌+◌, ◌-◌, ◌≤◌, false, List, [], ◌∷◌, ◌++◌, length, Some, None, refl, ap, sym, ◌∙◌, arith}
-use Rattle.std.specs.Prelude.{map, sum_by, if◌then◌else◌, ◌==◌}
-use Rattle.std.proofs.lemmas.List.{length-append}
+use Rattle.std.proofs.Common.{◌≡◌, ℕ, ◌+◌, ◌-◌, ◌≤◌, false, List, [], ◌∷◌, ◌++◌, length, Some, None, refl, ap, sym, ◌∙◌, arith, map, sum_by, if◌then◌else◌, ◌==◌, length-append}
 use Rattle.roff_num.specs.declared.limits.Limits.{Limits}
 use Rattle.input_model.specs.Arguments.{Arguments, held}
 use Rattle.input_source.specs.Bytes.{newline}

@@ -1,6 +1,5 @@
 -- Events that are put back count as nothing else, and are few.
-use Rattle.std.proofs.Common.{◌≡◌, ◌≤◌, List, [], ◌∷◌, ◌++◌, length, refl, arith}
-use Rattle.std.specs.Prelude.{map}
+use Rattle.std.proofs.Common.{◌≡◌, ◌≤◌, List, [], ◌∷◌, ◌++◌, length, refl, arith, map}
 use Rattle.input_model.specs.Input.{Ahead, DoAhead, bytes_ahead, ends_ahead}
 use Rattle.run_model.specs.PageEvents.{PageEvent}
 use Rattle.run_model.specs.Springs.{AreFewBehind}

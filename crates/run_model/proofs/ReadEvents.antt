@@ -2,8 +2,7 @@
 -- at the most, and nothing but bytes and ends is put in front.
 --
 -- Each function f of reading has its lemma Means-f here, with a line for each of its cases.
-use Rattle.std.proofs.Common.{ℕ, Bool, true, false, List, ◌++◌, Option, Some, None, ◌≡◌, inl, inr, subst}
-use Rattle.std.specs.Prelude.{◌||◌, ◌&&◌, nat_le, if◌then◌else◌, ◌==◌}
+use Rattle.std.proofs.Common.{ℕ, Bool, true, false, List, ◌++◌, Option, Some, None, ◌≡◌, inl, inr, subst, ◌||◌, ◌&&◌, nat_le, if◌then◌else◌, ◌==◌}
 use Rattle.roff_num.specs.declared.short_name.ShortName.{ShortName}
 use Rattle.roff_num.specs.ShortNames.{name_at, name_bytes, name_or_none}
 use Rattle.input_model.specs.Arguments.{no_arguments}

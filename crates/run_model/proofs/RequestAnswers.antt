@@ -5,8 +5,7 @@
 -- they answer.
 use Rattle.roff_num.specs.declared.num.Scale.TheVariants.{Units}
 use Rattle.run_model.specs.Numbers.{value_beside, value_in}
-use Rattle.std.proofs.Common.{◌<◌, ℕ, zero, suc, arith, ℤ, Bool, true, false, List, [], ◌∷◌, map, Option, Some, None, pos}
-use Rattle.std.specs.Prelude.{negsuc, pos, take, Result, Ok, Err, if◌then◌else◌, ◌==◌, length}
+use Rattle.std.proofs.Common.{◌<◌, ℕ, zero, suc, arith, ℤ, Bool, true, false, List, [], ◌∷◌, map, Option, Some, None, pos, negsuc, take, Result, Ok, Err, if◌then◌else◌, ◌==◌, length}
 use Rattle.page_model.specs.declared.event.Event.TheVariants.{Set as SetParam}
 use Rattle.page_model.specs.declared.settings.AdjustMode.{AdjustMode}
 use Rattle.page_model.specs.declared.settings.Param.{Param}

@@ -1,6 +1,5 @@
 -- Which events a request means: they are meant, and few of them wait behind a macro that one springs.
-use Rattle.std.proofs.Common.{ℕ, zero, suc, ℤ, Bool, true, false, List, [], ◌∷◌, map}
-use Rattle.std.specs.Prelude.{◌&&◌}
+use Rattle.std.proofs.Common.{ℕ, zero, suc, ℤ, Bool, true, false, List, [], ◌∷◌, map, ◌&&◌}
 use Rattle.page_model.specs.declared.stop.StopKind.{StopKind}
 use Rattle.run_model.specs.Registers.{Known}
 use Rattle.run_model.specs.Requests.{request_effect, row_of}

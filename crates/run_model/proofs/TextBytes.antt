@@ -1,8 +1,7 @@
 -- A byte of plain text behind a glyph of its line is told, and changes nothing of what is read.
-use Rattle.std.proofs.Common.{◌≡◌, ℕ, Bool, true, false, List, [], ◌∷◌, inl, inr, refl, sym, ap, subst, ◌∙◌}
-use Rattle.std.specs.Prelude.{◌==◌, ◌||◌, ◌&&◌, not, nat_lt, if◌then◌else◌}
+use Rattle.std.proofs.Common.{◌≡◌, ℕ, Bool, true, false, List, [], ◌∷◌, inl, inr, refl, sym, ap, subst, ◌∙◌, ◌==◌, ◌||◌, ◌&&◌, not, nat_lt, if◌then◌else◌, eqb-true}
 use Rattle.std.specs.List.{AllByRecursion, list_any}
-use Rattle.std.proofs.lemmas.Bool.{cases_Bool, eqb-true}
+use Rattle.std.proofs.lemmas.Bool.{cases_Bool}
 use Rattle.page_model.specs.declared.event.Event.TheVariants.{Print, WordEnd, Gap}
 use Rattle.page_model.specs.declared.glyph.Glyph.TheVariants.{Printed}
 use Rattle.input_source.specs.Bytes.{blank, backslash, is_silent, is_text_byte, newline, tab}

@@ -2,8 +2,7 @@
 -- but bytes and ends is put in front.
 --
 -- Each function f of reading has its lemma here, with a line for each of its cases: Texts-f where it is of text alone, and else Tells-f.
-use Rattle.std.proofs.Common.{ℕ, Bool, true, false, List, [], ◌∷◌, ◌++◌, map, Option, Some, None, inl, inr, refl}
-use Rattle.std.specs.Prelude.{option_map, find, bytes_eq, ◌||◌, if◌then◌else◌, ◌==◌, decimal}
+use Rattle.std.proofs.Common.{ℕ, Bool, true, false, List, [], ◌∷◌, ◌++◌, map, Option, Some, None, inl, inr, refl, option_map, find, bytes_eq, ◌||◌, if◌then◌else◌, ◌==◌, decimal}
 use Rattle.page_model.specs.declared.event.Event.TheVariants.{Print, WordEnd, LineEnd, Count, Break, Tab}
 use Rattle.page_model.specs.declared.glyph.Glyph.{Glyph}
 use Rattle.page_model.specs.declared.glyph.Glyph.TheVariants.{Blanks, Printed}

@@ -1,6 +1,5 @@
 -- What a byte of a title means, as `TextEvents` says it of text lines.
-use Rattle.std.proofs.Common.{ℕ, false, List, Option, Some, None, inl, refl}
-use Rattle.std.specs.Prelude.{◌==◌}
+use Rattle.std.proofs.Common.{ℕ, false, List, Option, Some, None, inl, refl, ◌==◌}
 use Rattle.input_source.specs.Bytes.{newline, blank}
 use Rattle.input_escapes.specs.Characters.{character}
 use Rattle.input_escapes.specs.Escapes.{escape_of}

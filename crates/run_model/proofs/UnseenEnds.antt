@@ -1,7 +1,6 @@
 -- What is half read and ends before something that can't be read springs no macro, and leads to no condition where none was read, but
 -- for a condition that decided: it is a size.
-use Rattle.std.proofs.Common.{◌≡◌, ℕ, Bool, true, false, List, [], ◌∷◌, ◌++◌, Option, Some, None, refl}
-use Rattle.std.specs.Prelude.{◌+◌, ◌&&◌, drop, if◌then◌else◌, ◌==◌}
+use Rattle.std.proofs.Common.{◌≡◌, ℕ, Bool, true, false, List, [], ◌∷◌, ◌++◌, Option, Some, None, refl, ◌+◌, ◌&&◌, drop, if◌then◌else◌, ◌==◌}
 use Rattle.roff_num.specs.declared.short_name.ShortName.{ShortName}
 use Rattle.input_escapes.specs.OpenEscape.{OpenEscape, Backslash, Comment, Name as NameHalf, Size, Delimited, Width, Condition}
 use Rattle.input_escapes.specs.OpenEscapes.{escape_given, reading_ended}

@@ -1,6 +1,5 @@
 -- What waits, and what ends it.
-use Rattle.std.proofs.Common.{◌≡◌, ℕ, ◌≤◌, Bool, true, false, List, [], ◌∷◌, length, Option, refl, ap, arith}
-use Rattle.std.specs.Prelude.{if◌then◌else◌}
+use Rattle.std.proofs.Common.{◌≡◌, ℕ, ◌≤◌, Bool, true, false, List, [], ◌∷◌, length, Option, refl, ap, arith, if◌then◌else◌}
 use Rattle.input_model.specs.Arguments.{is_behind_quote}
 use Rattle.input_model.specs.declared.place.Place.{Place}
 use Rattle.input_escapes.specs.Conditions.{ends_condition, is_decided}

@@ -1,6 +1,5 @@
 -- What stands behind bytes of a text that were told of those that stood ready.
-use Rattle.std.proofs.Common.{◌≡◌, ℕ, ◌-◌, ◌≤◌, Bool, true, false, List, length, if◌then◌else◌, sym, ap, ◌∙◌, arith}
-use Rattle.std.proofs.lemmas.List.{length-take-le}
+use Rattle.std.proofs.Common.{◌≡◌, ℕ, ◌-◌, ◌≤◌, Bool, true, false, List, length, if◌then◌else◌, sym, ap, ◌∙◌, arith, length-take-le}
 use Rattle.input_source.specs.Tape.{Tape}
 use Rattle.roff_scan.specs.Unread.Calls.{PassesFront, front_bytes}
 use Rattle.run_model.specs.Reading.Items.{PageUnread}

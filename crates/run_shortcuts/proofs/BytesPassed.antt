@@ -1,6 +1,5 @@
 -- Bytes that were taken at once, wherever they stood: the run goes past them where it is at its place behind them.
-use Rattle.std.proofs.Common.{◌≡◌, ℕ, ◌+◌, ◌*◌, ◌≤◌, Bool, true, false, List, [], length, refl, sym, ap, subst, ◌∙◌, arith}
-use Rattle.std.specs.Prelude.{map}
+use Rattle.std.proofs.Common.{◌≡◌, ℕ, ◌+◌, ◌*◌, ◌≤◌, Bool, true, false, List, [], length, refl, sym, ap, subst, ◌∙◌, arith, map}
 use Rattle.input_source.specs.Tape.{OneByte, Tape, items_then}
 use Rattle.input_model.specs.Looking.{is_closed, looked_then}
 use Rattle.input_model.specs.declared.looked.Looked.{Looked}

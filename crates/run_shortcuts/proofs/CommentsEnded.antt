@@ -1,6 +1,5 @@
 -- A comment behind arguments that was read at once up to its newline, and then the newline was taken: the comment ends in front of it.
-use Rattle.std.proofs.Common.{false, true, ◌≡◌, [], ℕ, ◌≤◌, ◌∷◌, ◌++◌, List, Result, map, refl, sym, ap, subst, ◌∙◌, arith}
-use Rattle.std.specs.Prelude.{if◌then◌else◌}
+use Rattle.std.proofs.Common.{false, true, ◌≡◌, [], ℕ, ◌≤◌, ◌∷◌, ◌++◌, List, Result, map, refl, sym, ap, subst, ◌∙◌, arith, if◌then◌else◌}
 use Rattle.input_escapes.specs.OpenEscape.{OpenEscape}
 use Rattle.input_escapes.specs.declared.open_escape.Waiting.{Waiting}
 use Rattle.input_model.proofs.FewEvents.{few-seen}

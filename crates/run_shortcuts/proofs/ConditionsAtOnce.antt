@@ -1,6 +1,5 @@
 -- A condition that was read at once, and decided: the run has come behind it.
-use Rattle.std.proofs.Common.{◌≡◌, ℕ, ◌≤◌, Bool, true, false, List, [], ◌∷◌, Some, None, Result, refl, sym, ap, subst, ◌∙◌, arith}
-use Rattle.std.specs.Prelude.{pos, int_lt}
+use Rattle.std.proofs.Common.{◌≡◌, ℕ, ◌≤◌, Bool, true, false, List, [], ◌∷◌, Some, None, Result, refl, sym, ap, subst, ◌∙◌, arith, pos, int_lt}
 use Rattle.roff_num.specs.declared.num.Num.{Num}
 use Rattle.roff_num.specs.declared.num.NumFault.{NumFault}
 use Rattle.input_source.specs.Bytes.{blank}

@@ -1,7 +1,6 @@
 -- A text line that stood in front up to its newline, and was told and ended at once.
-use Rattle.std.proofs.Common.{◌≡◌, ℕ, ◌+◌, ◌<◌, ◌≤◌, true, false, List, [], ◌∷◌, ◌++◌, length, take, slice_index_or, None, Option, Some, Result, refl, sym, ap, subst, ◌∙◌, arith}
-use Rattle.std.specs.Prelude.{IfSome}
-use Rattle.std.proofs.lemmas.List.{get_or-take, length-take, take_more}
+use Rattle.std.proofs.Common.{◌≡◌, ℕ, ◌+◌, ◌<◌, ◌≤◌, true, false, List, [], ◌∷◌, ◌++◌, length, take, slice_index_or, None, Option, Some, Result, refl, sym, ap, subst, ◌∙◌, arith, IfSome, get_or-take, length-take}
+use Rattle.std.proofs.lemmas.List.{take_more}
 use Rattle.input_source.specs.Bytes.{is_text_byte, newline}
 use Rattle.input_source.specs.Tape.{Tape}
 use Rattle.roff_scan.specs.Unread.Calls.{IsFront, NoNewline, PassesFront, front_bytes, next_bytes}

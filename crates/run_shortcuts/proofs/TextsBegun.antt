@@ -1,7 +1,5 @@
 -- As many bytes of a text line as can be told together were told, and taken.
-use Rattle.std.proofs.Common.{◌≡◌, ℕ, ◌≤◌, Bool, true, false, List, [], ◌∷◌, length, sym, ap, subst, ◌∙◌, arith}
-use Rattle.std.proofs.lemmas.List.{length-take-le}
-use Rattle.std.specs.Prelude.{◌==◌, if◌then◌else◌, drop}
+use Rattle.std.proofs.Common.{◌≡◌, ℕ, ◌≤◌, Bool, true, false, List, [], ◌∷◌, length, sym, ap, subst, ◌∙◌, arith, length-take-le, ◌==◌, if◌then◌else◌, drop}
 use Rattle.input_source.specs.Bytes.{backslash}
 use Rattle.input_source.specs.Tape.{Tape}
 use Rattle.roff_scan.specs.Unread.Calls.{PassesFront, front_bytes}

@@ -1,6 +1,5 @@
 -- A blank of a text line, which ends a word, whether a field is open or not.
-use Rattle.std.proofs.Common.{◌≡◌, ℕ, ◌∷◌, false, not, ◌&&◌, Option, Some, None, refl}
-use Rattle.std.specs.Prelude.{is_some}
+use Rattle.std.proofs.Common.{◌≡◌, ℕ, ◌∷◌, false, not, ◌&&◌, Option, Some, None, refl, is_some}
 use Rattle.page_model.specs.Behind.{has_open_word, pending_length}
 use Rattle.page_model.specs.Events.{History}
 use Rattle.page_model.specs.Fields.{Field, Told, so_far, told_plainly, told_behind}

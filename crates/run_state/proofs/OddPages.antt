@@ -1,7 +1,6 @@
 -- Whether a page is odd, as conditions ask it.
-use Rattle.std.proofs.Common.{◌≡◌, Bool, true, false, not, refl}
+use Rattle.std.proofs.Common.{◌≡◌, Bool, true, false, not, refl, if◌then◌else◌}
 use mathlib.Core.Bool.{beq}
-use Rattle.std.specs.Prelude.{if◌then◌else◌}
 
 -- whether a page is odd, where a condition asks for odd pages or for even ones
 pub odd_as_asked : (is_odd asks_odd : Bool) → beq is_odd asks_odd ≡ (if asks_odd then is_odd else not is_odd)

@@ -1,7 +1,5 @@
 -- Bytes of a text line that are told: the environments, the pages and what is written behind them.
-use Rattle.std.proofs.Common.{◌≡◌, ℕ, Bool, true, false, List, [], ◌∷◌, ◌++◌, Option, None, refl, sym, ap, subst, ◌∙◌}
-use Rattle.std.specs.Prelude.{◌==◌, option_map, if◌then◌else◌}
-use Rattle.std.proofs.lemmas.List.{append-nil}
+use Rattle.std.proofs.Common.{◌≡◌, ℕ, Bool, true, false, List, [], ◌∷◌, ◌++◌, Option, None, refl, sym, ap, subst, ◌∙◌, ◌==◌, option_map, if◌then◌else◌, append-nil}
 use Rattle.page_model.specs.Events.{History}
 use Rattle.page_model.specs.declared.event.Event.TheVariants.{Print, WordEnd, Gap}
 use Rattle.page_model.specs.Lines.{Finished}

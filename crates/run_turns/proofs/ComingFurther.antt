@@ -1,6 +1,5 @@
 -- Runs that come further: one behind another, with fewer turns to come or no more, by a turn, behind what is due.
-use Rattle.std.proofs.Common.{◌≡◌, ℕ, ◌≤◌, ◌<◌, ◌+◌, Bool, true, false, ◌++◌, Result, Ok, Err, OnOk, refl, sym, subst, ◌∙◌, arith, Option, None, ap, List, []}
-use Rattle.std.specs.Prelude.{◌&&◌, ◌||◌}
+use Rattle.std.proofs.Common.{◌≡◌, ℕ, ◌≤◌, ◌<◌, Bool, true, false, ◌++◌, Result, Ok, Err, OnOk, refl, sym, subst, ◌∙◌, arith, Option, None, ap, List, [], ◌&&◌, ◌||◌}
 use Rattle.input_source.specs.Tape.{Tape, items_then}
 use Rattle.run_model.specs.Run.{step, State, item_read, reading_by}
 use Rattle.run_model.specs.declared.status.Status.{Status}
@@ -102,11 +101,6 @@ pub comes_on : (taken fewer : Bool) {gave mid gives : Tape → Type 0} {noted ke
     → GoesPast taken gave mid noted kept old between now halfway → GoesPast false mid gives kept notes between new halfway behind
     → GoesPast fewer gave gives noted notes old new now behind
 comes_on taken fewer is one other = comes_any fewer (comes_both true (rw is at one) other)
-
--- the same, with the answer by another name
-pub comes_any_as : (fewer : Bool) {gave gives : Tape → Type 0} {noted notes : ℕ} {old new : Coded} {now behind : Seen} {r other : Result (Unit {0}) Status}
-    → r ≡ other → Comes true gave gives noted notes old new now behind r → Comes fewer gave gives noted notes old new now behind other
-comes_any_as fewer is one = rw (sym is) (comes_any fewer one)
 
 -- to the run's end, where it doesn't matter whether fewer turns are to come
 pub comes_ended : {said fewer : Bool} {gave gives : Tape → Type 0} {noted notes : ℕ} {old new : Coded} {now behind : Seen} {status : Status}

@@ -1,7 +1,5 @@
 -- A run that goes on behind events, where none of them stopped the others, or one did and sprang a macro that is read.
-use Rattle.std.proofs.Common.{◌∙◌, ◌≡◌, ◌≤◌, ◌-◌, ℕ, List, [], length, Option, Some, None, Ok, Err, ap, arith, refl, subst, sym}
-use Rattle.std.specs.Prelude.{false, is_some, map, nat_lt}
-use Rattle.std.proofs.lemmas.Bool.{le-ltb}
+use Rattle.std.proofs.Common.{◌∙◌, ◌≡◌, ◌≤◌, ◌-◌, ℕ, List, [], length, Option, Some, None, Ok, Err, ap, arith, refl, subst, sym, false, is_some, map, nat_lt, le-ltb}
 use Rattle.input_model.specs.Input.{putting_all_back}
 use Rattle.run_items.specs.Room.{FewFor, HasRoom}
 use Rattle.input_model.proofs.FewEvents.{few-called}

@@ -1,6 +1,5 @@
 -- What was left behind an event that stopped the others is performed, up to one that stops once more.
-use Rattle.std.proofs.Common.{◌∙◌, ◌≡◌, ◌≤◌, ◌+◌, ◌*◌, ℕ, Bool, false, List, [], length, Option, Some, None, Result, Ok, Err, ap, append-nil, arith, refl, subst, sym}
-use Rattle.std.specs.Prelude.{drop}
+use Rattle.std.proofs.Common.{◌∙◌, ◌≡◌, ◌≤◌, ◌+◌, ◌*◌, ℕ, Bool, false, List, [], length, Option, Some, None, Result, Ok, Err, ap, append-nil, arith, refl, subst, sym, drop}
 use Rattle.roff_num.specs.declared.short_name.ShortName.{ShortName}
 use Rattle.input_source.specs.Tape.{Tape}
 use Rattle.run_events.proofs.EventsLeft.{going-none}

@@ -1,6 +1,5 @@
 -- Events that are put back: what was left of those that the reader keeps.
-use Rattle.std.proofs.Common.{◌∙◌, ◌≡◌, ◌≤◌, ◌<◌, ◌+◌, ℕ, Bool, true, false, List, [], ◌∷◌, ◌++◌, length, Some, None, ap, arith, refl, subst, sym}
-use Rattle.std.specs.Prelude.{drop, map, slice_get, ◌-◌}
+use Rattle.std.proofs.Common.{◌∙◌, ◌≡◌, ◌≤◌, ◌<◌, ◌+◌, ℕ, Bool, true, false, List, [], ◌∷◌, ◌++◌, length, Some, None, ap, arith, refl, subst, sym, drop, map, slice_get, ◌-◌}
 use Rattle.std.proofs.lemmas.List.{length-map}
 use Rattle.input_model.specs.Input.{Ahead, DoAhead, events_ahead, most_events, putting_all_back, putting_back}
 use Rattle.read_lines.specs.Reader.State.{ReaderState}

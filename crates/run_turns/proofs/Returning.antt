@@ -1,6 +1,5 @@
 -- What the code goes back to at the end of a body, and where the input is left.
-use Rattle.std.proofs.Common.{◌≡◌, ℕ, Bool, true, false, List, [], ◌∷◌, None, Ok, refl, sym, ap, subst, ◌∙◌}
-use Rattle.std.specs.Prelude.{if◌then◌else◌}
+use Rattle.std.proofs.Common.{◌≡◌, ℕ, Bool, true, false, List, [], ◌∷◌, None, Ok, refl, sym, ap, subst, ◌∙◌, if◌then◌else◌}
 use Rattle.input_model.specs.Input.{leaving, outermost_back}
 use Rattle.input_model.specs.Looking.{closing}
 use Rattle.page_model.specs.declared.event.Event.TheVariants.{Resume}

@@ -1,7 +1,5 @@
 -- The text of a diversion changes behind an event that stopped the others, before what sprang is read or they are performed.
-use Rattle.std.proofs.Common.{◌∙◌, ◌≡◌, ℕ, false, List, [], ◌++◌, length, Option, Some, None, Result, Ok, Err, ap, append-nil, refl, subst, sym}
-use Rattle.std.specs.Prelude.{nat_lt}
-use Rattle.std.proofs.lemmas.Bool.{le-ltb}
+use Rattle.std.proofs.Common.{◌∙◌, ◌≡◌, ℕ, false, List, [], ◌++◌, length, Option, Some, None, Result, Ok, Err, ap, append-nil, refl, subst, sym, nat_lt, le-ltb}
 use Rattle.roff_num.specs.declared.limit.Limit.{Limit}
 use Rattle.roff_num.specs.declared.limits.Limits.{Limits}
 use Rattle.input_model.specs.Unread.{input_refusal}

@@ -1,6 +1,5 @@
 -- Events that stop their list one after another, up to where the run goes on: each time less is left to be done.
-use Rattle.std.proofs.Common.{◌∙◌, ◌≡◌, ◌≤◌, ◌<◌, ◌+◌, ◌*◌, ◌-◌, ℕ, Bool, true, false, Option, Some, None, Result, Ok, Err, ap, arith, refl, subst}
-use Rattle.std.specs.Prelude.{◌||◌, is_some}
+use Rattle.std.proofs.Common.{◌∙◌, ◌≡◌, ◌≤◌, ◌<◌, ◌+◌, ◌*◌, ◌-◌, ℕ, Bool, true, false, Option, Some, None, Result, Ok, Err, ap, arith, refl, subst, ◌||◌, is_some}
 use Rattle.roff_num.specs.declared.short_name.ShortName.{ShortName}
 use Rattle.input_source.specs.Tape.{Tape}
 use Rattle.run_state.specs.declared.composer.Composer.{Composer as ComposerOf}

@@ -1,6 +1,5 @@
 -- What is answered, as items of the input are taken.
-use Rattle.std.proofs.Common.{◌≡◌, ℕ, List, [], ◌∷◌, ◌++◌, Option, Some, None, refl, sym, ap, ◌∙◌, subst, append_assoc, IfSome}
-use Rattle.std.specs.Prelude.{unwrap_or}
+use Rattle.std.proofs.Common.{◌≡◌, ℕ, List, [], ◌∷◌, ◌++◌, Option, Some, None, refl, sym, ap, ◌∙◌, subst, append_assoc, IfSome, unwrap_or}
 use Rattle.std.specs.Option.{MatchOption}
 use Rattle.roff_num.specs.declared.limit.Limit.{Limit}
 use Rattle.input_source.specs.declared.source.Taken.{Taken}

@@ -1,7 +1,7 @@
 -- Bytes that are gathered of those that are pending, and given.
-use Rattle.std.proofs.Common.{◌≡◌, ◌⊎◌, inl, inr, ◌∙◌, ℕ, ◌+◌, ◌<◌, ◌≤◌, List, [], ◌∷◌, ◌++◌, length, map, take, drop, get_or, Option, Some, None, IfSome, ap, append_assoc, arith, refl, sym, subst, length-drop, vec_capacity, vec_len}
+use Rattle.std.proofs.Common.{◌≡◌, ◌⊎◌, inl, inr, ◌∙◌, ℕ, ◌+◌, ◌<◌, ◌≤◌, List, [], ◌∷◌, ◌++◌, length, map, take, drop, get_or, Option, Some, None, IfSome, ap, append_assoc, arith, refl, sym, subst, length-drop, vec_capacity, vec_len, drop-drop, take-append-drop}
 use Rattle.std.proofs.Math.Bridge.{le_prop}
-use Rattle.std.proofs.lemmas.List.{drop-append-le, drop-drop, drop_all, drop_more, length-map, map-append, take-append-drop}
+use Rattle.std.proofs.lemmas.List.{drop-append-le, drop_all, drop_more, length-map, map-append}
 use Rattle.input_source.specs.declared.source.ByteSource as byte_source
 use Rattle.input_source.specs.BlockRead.{SomeTape}
 use Rattle.input_source.specs.Tape.{Item, OneByte, Tape, Answer, Answers, Gives, Took, items_then}

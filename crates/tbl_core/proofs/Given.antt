@@ -1,7 +1,7 @@
 -- Bytes that are pending and lie together are given at once.
-use Rattle.std.proofs.Common.{◌≡◌, ℕ, zero, suc, ◌≤◌, Bool, true, false, List, [], ◌∷◌, Option, length, length-take, map, nat_le, take, drop, refl, sym, ap, ◌∙◌, subst, arith}
+use Rattle.std.proofs.Common.{◌≡◌, ℕ, zero, suc, ◌≤◌, Bool, true, false, List, [], ◌∷◌, Option, length, length-take, map, nat_le, take, drop, refl, sym, ap, ◌∙◌, subst, arith, length-take-le, take-take, take_all}
 use Rattle.std.proofs.lemmas.Bool.Decides.{nat_tests}
-use Rattle.std.proofs.lemmas.List.{drop-map, drop_all, length-map, length-take-le, take-map, take-take, take_all}
+use Rattle.std.proofs.lemmas.List.{drop-map, drop_all, length-map, take-map}
 use Rattle.input_source.specs.Tape.{Item, OneByte, OneNote, Tape}
 use Rattle.tbl_format.specs.declared.limits.TblLimits.{TblLimits}
 use Rattle.tbl_options.specs.declared.message.Told.{Told}

@@ -1,7 +1,7 @@
 -- What may be given behind each turn, over what the input may give.
 use Rattle.std.proofs.Common.{◌≡◌, ℕ, List, [], ◌∷◌, Option, Some, None, length, nat_lt, subst, refl, sym, ap, ◌∙◌, Bool, true, false}
 use Rattle.roff_num.specs.declared.limit.Limit.{Limit}
-use Rattle.input_source.specs.Tape.{Item, OneByte, OneNote, Ending, Ended, Failed, Stopped, Tape, Answer, Answers, Gives, Ends, only, items_then, answer_then}
+use Rattle.input_source.specs.Tape.{Item, OneByte, Ending, Ended, Failed, Stopped, Tape, Answer, Answers, Gives, Ends, only, items_then, answer_then}
 use Rattle.tbl_format.specs.declared.limits.TblLimits.{TblLimits}
 use Rattle.tbl_core.specs.declared.place.Count.{Count}
 use Rattle.tbl_core.specs.Lines.{is_name}
@@ -38,12 +38,6 @@ module _ (l : TblLimits) (line_length : ℕ) where
       → Continues (MayGive l line_length (record { pending = []; standing = Reads now }) old) (MayGive l line_length (behind_step (take l line_length b now)) new)
   byte_taken old new b now answers = λ t gives.
       record { under = answer_then (Gives (OneByte b)) gives.under; given = answers.before gives.under gives.given; is = gives.is }
-
-  -- a message of the input, which isn't passed on
-  pub note_taken : (old new : Tape → Type 0) (message : List ℕ) (now : Now) → Answers old new (Gives (OneNote message))
-      → Continues (MayGive l line_length (record { pending = []; standing = Reads now }) old) (MayGive l line_length (record { pending = []; standing = Reads now }) new)
-  note_taken old new message now answers = λ t gives.
-      record { under = answer_then (Gives (OneNote message)) gives.under; given = answers.before gives.under gives.given; is = gives.is }
 
   -- at rest an ending gives itself alone
   rest_ends : (e : Ending) (count : Count) → yields_from l line_length (Reads (at_rest count)) [] e ≡ only e

@@ -1,13 +1,10 @@
 -- Bytes outside tables that pass, many at once.
-use Rattle.std.proofs.Common.{◌≡◌, ◌==◌, ◌&&◌, ℕ, ◌+◌, ◌≤◌, ◌<◌, Bool, true, false, not, List, [], ◌∷◌, ◌++◌, Option, Some, None}
-use Rattle.std.proofs.Common.{length, take, drop, get_or, if◌then◌else◌, refl, sym, ap, ◌∙◌, subst, arith, append_assoc}
-use Rattle.std.proofs.Common.{append-nil, zero, suc}
-use Rattle.std.specs.Prelude.{unwrap_or}
+use Rattle.std.proofs.Common.{append-nil, zero, suc, ◌≡◌, ◌==◌, ◌&&◌, ℕ, ◌+◌, ◌≤◌, ◌<◌, Bool, true, false, not, List, [], ◌∷◌, ◌++◌, Option, Some, None, length, take, drop, get_or, if◌then◌else◌, refl, sym, ap, ◌∙◌, subst, arith, unwrap_or, take-append-drop}
 use Rattle.std.specs.List.{take_while}
 use Rattle.std.specs.List.{prefix_len}
 use Rattle.std.proofs.lemmas.List.Sums.{prefix_len_is}
 use Rattle.memchr.specs.Find.{IsFirstByte, is_byte}
-use Rattle.std.proofs.lemmas.List.{take-append-drop, take_all, take_more, drop_more, drop_all}
+use Rattle.std.proofs.lemmas.List.{drop_more}
 use Rattle.input_source.specs.Bytes.{newline}
 use Rattle.tbl_core.specs.declared.place.Front.{Front}
 use Rattle.tbl_core.specs.declared.place.Front.TheVariants.{Nothing, Dot, Letter, Name, Other}
@@ -43,19 +40,6 @@ module _ (line whole : List ℕ) (front : Front) (count : ℕ) where
       rw (is_other-Other front is) (before_other (drop count line) within) in
       sym (take-append-drop count line) ∙ ap (λ (bytes : List ℕ). take count line ++ bytes) (sym rest) ∙ so_far
 
-  -- one byte more does
-  pub before-more : count < length line → (is_name front && ends_name (get_or line count 0)) ≡ false
-      → take count line ++ before_table front (drop count line) ≡ whole
-      → take (count + 1) line ++ before_table (front_behind start_letter front (get_or line count 0)) (drop (count + 1) line) ≡ whole
-  before-more inside is so_far =
-      let b = get_or line count 0 in
-      let rest = before_table (front_behind start_letter front b) (drop (count + 1) line) in
-      ap (λ (bytes : List ℕ). bytes ++ rest) (take_more line count 0 inside)
-      ∙ append_assoc (take count line) (b ∷ []) rest
-      ∙ ap (λ (t : Bool). take count line ++ (if t then [] else b ∷ rest)) (sym is)
-      ∙ ap (λ (bytes : List ℕ). take count line ++ before_table front bytes) (sym (drop_more line count 0 inside))
-      ∙ so_far
-
   -- and the next one makes it a `.TS` line
   pub before-none : count < length line → (is_name front && ends_name (get_or line count 0)) ≡ true
       → take count line ++ before_table front (drop count line) ≡ whole
@@ -66,13 +50,6 @@ module _ (line whole : List ℕ) (front : Front) (count : ℕ) where
       sym (append-nil (take count line))
       ∙ ap (λ (t : Bool). take count line ++ (if t then [] else b ∷ rest)) (sym is)
       ∙ ap (λ (bytes : List ℕ). take count line ++ before_table front bytes) (sym (drop_more line count 0 inside))
-      ∙ so_far
-
-  -- or it is at its end
-  pub before-ended : length line ≤ count → take count line ++ before_table front (drop count line) ≡ whole → line ≡ whole
-  before-ended past so_far =
-      sym (take_all count line past) ∙ sym (append-nil (take count line))
-      ∙ ap (λ (bytes : List ℕ). take count line ++ before_table front bytes) (sym (drop_all count line past))
       ∙ so_far
 
 -- the front behind bytes that stay outside
@@ -93,17 +70,6 @@ module _ (bytes : List ℕ) (whole front : Front) (count : ℕ) where
       let other = is_other-Other front is in
       let rest = over_other (drop count bytes) (subst (λ (f : Front). StaysOutside f (drop count bytes)) other stays) in
       other ∙ sym rest ∙ ap (λ (f : Front). front_over f (drop count bytes)) (sym other) ∙ so_far
-
-  pub over-more : count < length bytes → front_over front (drop count bytes) ≡ whole
-      → front_over (front_behind start_letter front (get_or bytes count 0)) (drop (count + 1) bytes) ≡ whole
-  over-more inside so_far = ap (front_over front) (sym (drop_more bytes count 0 inside)) ∙ so_far
-
-  pub stays-more : count < length bytes → StaysOutside front (drop count bytes)
-      → StaysOutside (front_behind start_letter front (get_or bytes count 0)) (drop (count + 1) bytes)
-  stays-more inside stays = (subst (StaysOutside front) (drop_more bytes count 0 inside) stays).2
-
-  pub over-ended : length bytes ≤ count → front_over front (drop count bytes) ≡ whole → front ≡ whole
-  over-ended past so_far = ap (front_over front) (sym (drop_all count bytes past)) ∙ so_far
 
 -- the front of a line, as it is found
 not_found : (t : Bool) → (t ≡ true → ⊥) → not t ≡ true

@@ -1,6 +1,5 @@
 -- What is pending, by what is kept of it.
-use Rattle.std.proofs.Common.{◌≡◌, ℕ, List, [], ◌∷◌, ◌++◌, Bool, true, false, Option, Some, None, map, option_to_list}
-use Rattle.std.proofs.Common.{if◌then◌else◌, IfSome, refl, sym, ap, ◌∙◌, arith, append-nil}
+use Rattle.std.proofs.Common.{if◌then◌else◌, IfSome, refl, sym, ap, ◌∙◌, arith, append-nil, ◌≡◌, ℕ, List, [], ◌∷◌, ◌++◌, Bool, true, false, Option, Some, None, map, option_to_list}
 use Rattle.std.specs.Option.{MatchOption}
 use Rattle.roff_num.specs.declared.limit.Limit.{Limit}
 use Rattle.input_source.specs.Tape.{Item, OneByte, answer_of}

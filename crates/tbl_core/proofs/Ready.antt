@@ -1,9 +1,6 @@
 -- Bytes that stand ready: they are given one after another as the inner source gives them.
-use Rattle.std.proofs.Common.{◌≡◌, ◌&&◌, ℕ, ◌+◌, ◌-◌, ◌≤◌, ◌<◌, min, nat_le, Bool, true, false, if◌then◌else◌}
-use Rattle.std.proofs.Common.{List, [], ◌∷◌, ◌++◌, None, length, map, take, refl, sym, ap, ◌∙◌, subst, arith, length-take}
 use Rattle.std.specs.List.{prefix_len, take_while}
 use Rattle.std.proofs.lemmas.Bool.Decides.{nat_tests}
-use Rattle.std.proofs.lemmas.List.{take-take, length-take-le}
 use Rattle.input_source.specs.Tape.{Item, OneByte, Ending, Tape, Took, items_then}
 use Rattle.input_source.proofs.PlainBytes.{take_while-plain}
 use Rattle.roff_num.specs.declared.limit.Limit.TheVariants.{TblBytes}
@@ -17,7 +14,7 @@ use Rattle.tbl_core.specs.Passing.{DoPass, StaysOutside, before_table, front_ove
 use Rattle.tbl_core.specs.Passing.{passed, passes_next, passing, passing_in}
 use Rattle.tbl_core.specs.Tables.{IsByteGiven, IsGiven, TablesState, stopped_by}
 use Rattle.tbl_core.specs.NotesLeft.{noted}
-use Rattle.std.proofs.Common.{Option, Some, IfSome}
+use Rattle.std.proofs.Common.{Option, Some, IfSome, ◌≡◌, ◌&&◌, ℕ, ◌+◌, ◌-◌, ◌≤◌, ◌<◌, min, nat_le, Bool, true, false, if◌then◌else◌, List, [], ◌∷◌, ◌++◌, None, length, map, take, refl, sym, ap, ◌∙◌, subst, arith, length-take, take-take, length-take-le}
 use Rattle.std.specs.Option.{MatchOption}
 use Rattle.input_source.specs.Tape.{Answers, Gives}
 use Rattle.tbl_core.specs.Source.{IsAlive, IsSourced}

@@ -1,11 +1,9 @@
 -- What stood ready behind bytes that were taken stands ready still.
-use Rattle.std.proofs.Common.{◌≡◌, ◌⊎◌, inl, inr, ◌&&◌, ◌∙◌, ℕ, ◌+◌, ◌-◌, ◌<◌, ◌≤◌, min, nat_le, nat_lt, suc, zero, Bool, true, false, if◌then◌else◌}
-use Rattle.std.proofs.Common.{List, [], ◌∷◌, ◌++◌, Option, Some, None, IfSome, length, take, drop, refl, sym, ap, subst, arith}
+use Rattle.std.proofs.Common.{List, [], ◌∷◌, ◌++◌, Option, Some, None, IfSome, length, take, drop, refl, sym, ap, subst, arith, ◌≡◌, ◌⊎◌, inl, inr, ◌&&◌, ◌∙◌, ℕ, ◌+◌, ◌-◌, ◌<◌, ◌≤◌, min, nat_le, nat_lt, suc, zero, Bool, true, false, if◌then◌else◌, length-append, length-take-le}
 use Rattle.std.proofs.Math.Bool.{and-true}
 use Rattle.std.specs.List.{take_while}
 use Rattle.std.specs.Option.{MatchOption}
 use Rattle.std.proofs.lemmas.Bool.Decides.{nat_tests}
-use Rattle.std.proofs.lemmas.List.{length-append, length-take-le}
 use Rattle.std.proofs.lemmas.List.Sums.{take_while-cons}
 use Rattle.input_source.specs.Tape.{OneByte, StaysReady}
 use Rattle.tbl_format.specs.declared.limits.TblLimits.{TblLimits}

@@ -26,11 +26,6 @@ module _ (ends : List (ℕ × ℕ)) (n : ℕ) (in_front : List Content) (had : B
       outcome (ends_in_block all) (in_front ++ map content-of fields) (nat_lt room (length all)) had (line_at ends (place + len_of_fields texts - 1) n)
       (with_notes (field_notes ends n place fields) t)
 
-pub fields-within : (ends : List (ℕ × ℕ)) (n : ℕ) (in_front : List Content) (had : Bool) (place : ℕ) (all : List (List ℕ)) (t : TableRead)
-    → with_fields ends n place all in_front had t
-    ≡ within ends n in_front had (serving t) (length in_front) (cells t - length in_front) place all (take (cells t - length in_front) (without_opening all)) t
-fields-within ends n in_front had place all t = refl
-
 -- two tests that hold together are the same
 by-tests : (p q : Bool) → (p ≡ true → q ≡ true) → (q ≡ true → p ≡ true) → p ≡ q
 by-tests true true there back = refl

@@ -1,7 +1,7 @@
 -- The fields of a line of the data, as they are taken one after another.
-use Rattle.std.proofs.Common.{◌≡◌, ℕ, ◌+◌, ◌-◌, ◌<◌, ◌≤◌, Bool, true, false, not, List, [], ◌∷◌, ◌++◌, length, take, drop, Some, refl, sym, ap, subst, ◌∙◌, arith, length-append, if◌then◌else◌}
+use Rattle.std.proofs.Common.{◌≡◌, ℕ, ◌+◌, ◌-◌, ◌<◌, ◌≤◌, Bool, true, false, not, List, [], ◌∷◌, ◌++◌, length, take, drop, Some, refl, sym, ap, subst, ◌∙◌, arith, length-append, if◌then◌else◌, take_all}
 use Rattle.std.specs.List.{slice_range}
-use Rattle.std.proofs.lemmas.List.{drop_all, drop_more, length-map, take_all}
+use Rattle.std.proofs.lemmas.List.{drop_all, drop_more, length-map}
 use Rattle.tbl_data.specs.DataRead.{cells, notes_of_field, row_opened, serving, surplus_notes, with_fields, with_open_row, with_row}
 use Rattle.tbl_data.specs.LineTaken.{EndsRow, Grows, LineLies, Makes, OpensBlock, RowFits, TakesField, cells_next, contents_in, fields_made, key_next, last_made, left_from, more_notes, surplus_kept}
 use Rattle.tbl_data.specs.TableData.{EndsBy, OpenEndsAt, SameRooms, Serves, table_by}

@@ -1,6 +1,5 @@
 -- Whole lines of the data, by what they are.
-use Rattle.std.proofs.Common.{◌≡◌, ◌≢◌, ℕ, ◌+◌, ◌-◌, ◌<◌, ◌≤◌, ◌^◌, Bool, true, false, List, [], ◌∷◌, ◌++◌, length, map, take, drop, Option, Some, refl, sym, ap, subst, ◌∙◌, arith, append-nil, length-append, if◌then◌else◌}
-use Rattle.std.specs.Prelude.{is_some, nat_lt, option_map}
+use Rattle.std.proofs.Common.{◌≡◌, ◌≢◌, ℕ, ◌+◌, ◌-◌, ◌<◌, ◌≤◌, ◌^◌, Bool, true, false, List, [], ◌∷◌, ◌++◌, length, map, take, drop, Option, Some, refl, sym, ap, subst, ◌∙◌, arith, append-nil, length-append, if◌then◌else◌, is_some, nat_lt, option_map}
 use Rattle.std.specs.List.{slice_range}
 use Rattle.tbl_data.specs.DataRead.{behind_block, cells, closed_block, field_notes, fields_with_block, item_notes, keyed, serving, with_block_line, with_fields, with_line, with_row, with_text, with_whole}
 use Rattle.tbl_data.specs.LineTaken.{EndsRow, Grows, LineLies, Makes, RowFits, block_line_made, contents_in, fields_made, left_from, made_by, more_notes, notes_kept, row_begun, text_made}

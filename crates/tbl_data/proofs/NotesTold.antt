@@ -1,6 +1,5 @@
 -- What is told of a text, item by item.
-use Rattle.std.proofs.Common.{◌≡◌, ℕ, suc, ◌+◌, ◌≤◌, Bool, true, false, List, [], ◌∷◌, ◌++◌, length, drop, Option, Some, None, refl, ap, ◌∙◌, arith, ◌||◌, ◌==◌, if◌then◌else◌}
-use Rattle.std.specs.Prelude.{is_some, option_map, option_to_list}
+use Rattle.std.proofs.Common.{◌≡◌, ℕ, suc, ◌+◌, ◌≤◌, Bool, true, false, List, [], ◌∷◌, ◌++◌, length, drop, Option, Some, None, refl, ap, ◌∙◌, arith, ◌||◌, ◌==◌, if◌then◌else◌, is_some, option_map, option_to_list}
 use Rattle.tbl_data.specs.DataRead.{item_notes}
 use Rattle.tbl_data.specs.LineTaken.{more_notes, notes_kept}
 use Rattle.tbl_options.specs.Notes.{NotesWithin, told_at, told_of_all}

@@ -1,6 +1,5 @@
 -- The columns of a row's cells, as they are read from its last key.
-use Rattle.std.proofs.Common.{◌≡◌, ℕ, ◌-◌, Some, List, [], ◌∷◌, length, refl, sym, ap, ◌∙◌, arith}
-use Rattle.std.specs.Prelude.{slice_get}
+use Rattle.std.proofs.Common.{◌≡◌, ℕ, ◌-◌, Some, List, [], ◌∷◌, length, refl, sym, ap, ◌∙◌, arith, slice_get}
 use Rattle.tbl_format.specs.Format.{columns_of_keys}
 use Rattle.tbl_format.specs.declared.format.FormatKey.{FormatKey}
 

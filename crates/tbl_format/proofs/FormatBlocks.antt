@@ -1,6 +1,6 @@
 -- The rows of formats, as they lie among their keys.
-use Rattle.std.proofs.Common.{◌≡◌, ℕ, zero, suc, ◌+◌, ◌-◌, ◌<◌, ◌≤◌, Bool, true, false, ◌&&◌, max, not, nat_lt, List, [], ◌∷◌, ◌++◌, length, take, drop, set, get_or, refl, sym, ap, subst, ◌∙◌, arith, length-append, length-drop, if◌then◌else◌}
-use Rattle.std.proofs.lemmas.List.{drop-append-le, drop_all, take-append-drop, take-append-le, take_all}
+use Rattle.std.proofs.Common.{◌≡◌, ℕ, zero, suc, ◌+◌, ◌-◌, ◌<◌, ◌≤◌, Bool, true, false, ◌&&◌, max, not, nat_lt, List, [], ◌∷◌, ◌++◌, length, take, drop, set, get_or, refl, sym, ap, subst, ◌∙◌, arith, length-append, length-drop, if◌then◌else◌, take-append-drop, take_all}
+use Rattle.std.proofs.lemmas.List.{drop-append-le, drop_all, take-append-le}
 use Rattle.tbl_format.specs.Format.{Format, FormatRow, asking, asking_for_bars, at_fault, columns_of_keys, fault_if, further, has_some, is_spanned, keys_with, last_changed, most_bars, nothing_asked, plain_key, with_asked, with_columns, with_end, with_last, with_whole, widened}
 use Rattle.tbl_format.specs.FormatRows.{key_count, keys_of, rows_kept, rows_with}
 use Rattle.roff_num.specs.Lists.{last_end}

@@ -1,8 +1,8 @@
 -- The keys and the columns of a format, as it is read byte by byte.
-use Rattle.std.proofs.Common.{◌≡◌, ℕ, zero, suc, ◌+◌, ◌<◌, ◌≤◌, max, Bool, true, false, List, [], ◌∷◌, ◌++◌, length, take, drop, get_or, nat_lt, not, inl, inr, length-drop, refl, sym, ap, subst, ◌∙◌, arith, append-nil, append_assoc, if◌then◌else◌}
+use Rattle.std.proofs.Common.{◌≡◌, ℕ, zero, suc, ◌+◌, ◌<◌, ◌≤◌, max, Bool, true, false, List, [], ◌∷◌, ◌++◌, length, take, drop, get_or, nat_lt, not, inl, inr, length-drop, refl, sym, ap, subst, ◌∙◌, arith, append-nil, append_assoc, if◌then◌else◌, length-take-le}
 use Rattle.std.proofs.lemmas.Bool.{cases_lt}
 use Rattle.std.proofs.lemmas.Bool.Decides.{nat_tests}
-use Rattle.std.proofs.lemmas.List.{length-take-le, take_more}
+use Rattle.std.proofs.lemmas.List.{take_more}
 use Rattle.input_source.specs.Bytes.{newline}
 use Rattle.tbl_format.specs.Format.{Format, FormatRow, asked_by, asking_for_bars, at_fault, columns_of_keys, done, fault_if, format_byte, format_byte_at, format_read, has_some, is_misplaced, looked_again, most_bars, read_behind, said_by, stepped, with_any_key, with_asked, with_columns, with_key, with_whole}
 use Rattle.tbl_format.specs.FormatRows.{key_count, keys_of}

@@ -1,7 +1,7 @@
 -- Parts that lie in one list, one after another.
-use Rattle.std.proofs.Common.{◌≡◌, ℕ, zero, suc, ◌+◌, ◌-◌, ◌<◌, ◌≤◌, List, [], ◌∷◌, ◌++◌, length, take, drop, get_or, refl, sym, ap, ◌∙◌, arith, length-drop}
+use Rattle.std.proofs.Common.{◌≡◌, ℕ, zero, suc, ◌+◌, ◌-◌, ◌<◌, ◌≤◌, List, [], ◌∷◌, ◌++◌, length, take, drop, get_or, refl, sym, ap, ◌∙◌, arith, length-drop, length-take-le}
 use Rattle.std.specs.List.{slice_range}
-use Rattle.std.proofs.lemmas.List.{drop-append-le, length-take-le, take-append-le, take_rest}
+use Rattle.std.proofs.lemmas.List.{drop-append-le, take-append-le, take_rest}
 use Rattle.roff_num.specs.Lists.{last_end}
 use Rattle.tbl_format.specs.Parts.{EndWithin}
 use Rattle.roff_num.specs.Lists.{EndInOrder}

@@ -1,6 +1,5 @@
 -- How many entries are still to count in front of an element of a table, and behind it.
-use Rattle.std.proofs.Common.{◌≡◌, ℕ, suc, ◌+◌, ◌<◌, Bool, List, [], ◌∷◌, ◌++◌, drop, get_or, length, Some, refl, sym, ap, subst, ◌∙◌, arith, drop-cons, append-nil, ◌==◌, true, false}
-use Rattle.std.proofs.lemmas.List.{get_or-drop}
+use Rattle.std.proofs.Common.{◌≡◌, ℕ, suc, ◌+◌, ◌<◌, Bool, List, [], ◌∷◌, ◌++◌, drop, get_or, length, Some, refl, sym, ap, subst, ◌∙◌, arith, drop-cons, append-nil, ◌==◌, true, false, get_or-drop}
 use Rattle.std.specs.List.{AllByRecursion, slice_range}
 use Rattle.tbl_format.proofs.Elements.{each-at}
 use Rattle.tbl_format.specs.Format.{FormatRow}

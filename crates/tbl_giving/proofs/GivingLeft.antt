@@ -1,7 +1,7 @@
 -- What is still to give of a table, behind the pieces that follow.
-use Rattle.std.proofs.Common.{◌≡◌, ℕ, ◌+◌, ◌-◌, ◌^◌, ◌<◌, ◌≤◌, Bool, true, false, List, [], ◌∷◌, ◌++◌, length, take, drop, refl, sym, ap, subst, ◌∙◌, arith, append_assoc, ◌==◌, if◌then◌else◌, ne_eqb}
+use Rattle.std.proofs.Common.{◌≡◌, ℕ, ◌+◌, ◌-◌, ◌^◌, ◌<◌, ◌≤◌, Bool, true, false, List, [], ◌∷◌, ◌++◌, length, take, drop, refl, sym, ap, subst, ◌∙◌, arith, append_assoc, ◌==◌, if◌then◌else◌, ne_eqb, append-nil, length-take}
 use Rattle.std.specs.List.{slice_range}
-use Rattle.std.proofs.lemmas.List.{append-nil, drop_all, length-take, take-append-le}
+use Rattle.std.proofs.lemmas.List.{drop_all, take-append-le}
 use Rattle.input_source.specs.Bytes.{backslash, newline}
 use Rattle.tbl_format.specs.Format.{has_some}
 use Rattle.tbl_format.specs.Parts.{IsFront}
@@ -61,11 +61,6 @@ module _ (block frame : List ℕ) where
   pub frame-bytes : (from to : ℕ) (rest : List Piece)
       → bytes_of_all block frame (some_piece (Frame from to) ++ rest) ≡ slice_range frame from to ++ bytes_of_all block frame rest
   frame-bytes from to rest = some_by block frame (to - from == 0) (Frame from to) rest (part-none block frame (to - from) (drop from frame))
-
-  pub block-alone : (from to : ℕ) → bytes_of_all block frame (some_piece (Block from to)) ≡ slice_range block from to
-  block-alone from to =
-      ap (bytes_of_all block frame) (sym (append-nil (some_piece (Block from to))))
-      ∙ block-bytes from to [] ∙ append-nil (slice_range block from to)
 
   pub frame-alone : (from to : ℕ) → bytes_of_all block frame (some_piece (Frame from to)) ≡ slice_range frame from to
   frame-alone from to =

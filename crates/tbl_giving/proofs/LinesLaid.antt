@@ -1,6 +1,6 @@
 -- A line of a picture with cells of several rows is laid and begins, as a row of one line.
-use Rattle.std.proofs.Common.{◌≡◌, ℕ, suc, ◌≤◌, ◌<◌, Bool, true, List, [], ◌∷◌, ◌++◌, drop, get_or, length, Option, refl, sym, ap, subst, ◌∙◌, arith}
-use Rattle.std.proofs.lemmas.List.{append-nil, length-map}
+use Rattle.std.proofs.Common.{◌≡◌, ℕ, suc, ◌≤◌, ◌<◌, Bool, true, List, [], ◌∷◌, ◌++◌, drop, get_or, length, Option, refl, sym, ap, subst, ◌∙◌, arith, append-nil}
+use Rattle.std.proofs.lemmas.List.{length-map}
 use Rattle.tbl_format.specs.Format.{FormatRow}
 use Rattle.tbl_kept.specs.Rows.{Command, KeptElement, KeptRows, Row, Rule, heights_of}
 use Rattle.tbl_layout.specs.Entries.{Element}

@@ -1,8 +1,7 @@
 -- Rows of rule keys that stand in front of a row have one column for each key, and places for their bars.
-use Rattle.std.proofs.Common.{◌≡◌, ℕ, ◌-◌, ◌&&◌, ◌==◌, Bool, true, false, List, [], ◌∷◌, length, drop, arith}
+use Rattle.std.proofs.Common.{◌≡◌, ℕ, ◌-◌, ◌&&◌, ◌==◌, Bool, true, false, List, [], ◌∷◌, length, drop, arith, is_some}
 use Rattle.std.proofs.lemmas.Bool.Decides.{nat_tests}
 use Rattle.std.specs.List.{AllByRecursion, list_all}
-use Rattle.std.specs.Prelude.{is_some}
 use Rattle.tbl_format.specs.Format.{FormatRow, columns_of_keys}
 use Rattle.tbl_format.specs.declared.format.FormatKey.{FormatKey}
 use Rattle.tbl_kept.specs.Rows.{Command, ElementLaid, IsRuleRow, KeptElement, Row, Rule, rows_in_front}

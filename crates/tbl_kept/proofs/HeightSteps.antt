@@ -1,8 +1,7 @@
 -- The heights of rows, one row after another.
-use Rattle.std.proofs.Common.{◌≡◌, ℕ, zero, suc, ◌+◌, ◌-◌, ◌<◌, ◌≤◌, max, Bool, true, not, List, [], ◌∷◌, ◌++◌, length, map, take, drop, get_or, set, refl, sym, ap, subst, ◌∙◌, arith, append_assoc, length-drop}
-use Rattle.std.specs.Prelude.{if◌then◌else◌, Option, None, Some, is_some}
+use Rattle.std.proofs.Common.{◌≡◌, ℕ, zero, suc, ◌+◌, ◌-◌, ◌<◌, ◌≤◌, max, Bool, true, not, List, [], ◌∷◌, ◌++◌, length, map, take, drop, get_or, set, refl, sym, ap, subst, ◌∙◌, arith, append_assoc, length-drop, if◌then◌else◌, Option, None, Some, is_some, drop-set-lt, length-take-le}
 use Rattle.std.specs.List.{AllByRecursion, slice_range}
-use Rattle.std.proofs.lemmas.List.{drop-set-lt, drop_all, drop_more, length-take-le, map-append, take_more_set}
+use Rattle.std.proofs.lemmas.List.{drop_all, drop_more, map-append, take_more_set}
 use Rattle.tbl_format.specs.Cells.{cell_count, same_cell}
 use Rattle.tbl_format.specs.Format.{FormatRow}
 use Rattle.tbl_format.specs.FormatRows.{AreWithin}

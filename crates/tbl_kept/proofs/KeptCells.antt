@@ -1,6 +1,5 @@
 -- The cells of rows that are kept, by their keys and fields.
-use Rattle.std.proofs.Common.{◌≡◌, ℕ, ◌<◌, List, length, map, get_or, refl, sym, ap, subst, ◌∙◌}
-use Rattle.std.specs.Prelude.{Option, None}
+use Rattle.std.proofs.Common.{◌≡◌, ℕ, ◌<◌, List, length, map, get_or, refl, sym, ap, subst, ◌∙◌, Option, None}
 use Rattle.std.specs.List.{slice_range}
 use Rattle.tbl_format.specs.Format.{FormatRow}
 use Rattle.tbl_format.specs.RowsServed.{row_at}
@@ -77,15 +76,6 @@ module _ (formats : List FormatRow) where
   above-none bytes cell (Row row rules height fields) e none = absurd none
   above-none bytes cell (Rule sign) e none = refl
   above-none bytes cell (Command from to) e none = refl
-
-  pub own-none : (bytes : List ℕ) (cell : ℕ) (above e : KeptElement) → IsNoRow e → None ≡ cell_above_kept bytes formats cell above e
-  own-none bytes cell above (Row row rules height fields) none = absurd none
-  own-none bytes cell (Row row rules height fields) (Rule sign) none = refl
-  own-none bytes cell (Rule other) (Rule sign) none = refl
-  own-none bytes cell (Command first last) (Rule sign) none = refl
-  own-none bytes cell (Row row rules height fields) (Command from to) none = refl
-  own-none bytes cell (Rule other) (Command from to) none = refl
-  own-none bytes cell (Command first last) (Command from to) none = refl
 
   pub row-none : (bytes : List ℕ) (cell : ℕ) (e below : KeptElement) → IsNoRow e → None ≡ cell_below_kept bytes formats cell e below
   row-none bytes cell (Row row rules height fields) below none = absurd none

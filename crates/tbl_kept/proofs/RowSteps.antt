@@ -1,7 +1,7 @@
 -- The rows of a table behind one step, by how they lie in lists.
-use Rattle.std.proofs.Common.{◌≡◌, ℕ, zero, suc, ◌+◌, ◌-◌, ◌≤◌, List, [], ◌∷◌, ◌++◌, length, map, take, drop, get_or, set, sym, ap, ◌∙◌, arith, length-drop}
+use Rattle.std.proofs.Common.{◌≡◌, ℕ, zero, suc, ◌+◌, ◌-◌, ◌≤◌, List, [], ◌∷◌, ◌++◌, length, map, take, drop, get_or, set, sym, ap, ◌∙◌, arith, length-drop, take_all}
 use Rattle.std.specs.List.{slice_range}
-use Rattle.std.proofs.lemmas.List.{drop-append-le, drop_all, map-append, take-append-le, take-set-le, take_all}
+use Rattle.std.proofs.lemmas.List.{drop-append-le, drop_all, map-append, take-append-le, take-set-le}
 use Rattle.tbl_format.specs.Format.{FormatRow}
 use Rattle.tbl_layout.specs.KeptEntries.{with_end}
 use Rattle.tbl_layout.specs.declared.columns.Column.{Column}

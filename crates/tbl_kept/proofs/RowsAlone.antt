@@ -1,6 +1,5 @@
 -- Rows of which no cell goes on with one above it: each is as high as the most lines of its fields.
-use Rattle.std.proofs.Common.{◌≡◌, ℕ, zero, suc, ◌-◌, ◌≤◌, max, Bool, true, false, not, ◌||◌, List, [], ◌∷◌, ◌++◌, length, map, take, drop, get_or, refl, sym, ap, ◌∙◌, arith}
-use Rattle.std.specs.Prelude.{if◌then◌else◌, Option, None, Some, is_some}
+use Rattle.std.proofs.Common.{◌≡◌, ℕ, zero, suc, ◌-◌, ◌≤◌, max, Bool, true, false, not, ◌||◌, List, [], ◌∷◌, ◌++◌, length, map, take, drop, get_or, refl, sym, ap, ◌∙◌, arith, if◌then◌else◌, Option, None, Some, is_some}
 use Rattle.std.specs.List.{AllByRecursion, list_any, slice_range}
 use Rattle.tbl_format.proofs.Elements.{each-append}
 use Rattle.tbl_format.specs.Cells.{by_cells, cell_count, same_cell}

@@ -1,5 +1,5 @@
 -- What is kept of a table's rows stays as it is behind each step of its reading.
-use Rattle.std.proofs.Common.{◌≡◌, ℕ, zero, suc, ◌+◌, ◌-◌, ◌<◌, ◌≤◌, Bool, false, List, [], ◌∷◌, ◌++◌, length, map, take, drop, replicate, refl, sym, ap, subst, ◌∙◌, arith, length-append, length-drop}
+use Rattle.std.proofs.Common.{◌≡◌, ℕ, suc, ◌+◌, ◌-◌, ◌<◌, ◌≤◌, Bool, List, [], ◌∷◌, ◌++◌, length, map, take, drop, replicate, refl, sym, ap, subst, ◌∙◌, arith, length-append, length-drop}
 use Rattle.std.specs.List.{AllByRecursion, slice_range}
 use Rattle.std.proofs.lemmas.List.{drop-append-le, length-replicate, map-append, take-append-le}
 use Rattle.tbl_format.specs.Cells.{cell_count}
@@ -7,7 +7,7 @@ use Rattle.tbl_format.specs.Format.{FormatRow}
 use Rattle.tbl_format.specs.FormatRows.{AreWithin}
 use Rattle.tbl_format.specs.RowsServed.{row_at}
 use Rattle.tbl_layout.specs.Columns.{row_stands}
-use Rattle.tbl_layout.specs.Entries.{Command as OneCommand, Content, Element, Row as OneRow, Rule as OneRule, completed, key_at}
+use Rattle.tbl_layout.specs.Entries.{Command as OneCommand, Content, Row as OneRow, Rule as OneRule, completed, key_at}
 use Rattle.tbl_layout.specs.Heights.{heights}
 use Rattle.tbl_layout.specs.KeptEntries.{IsKept, content_of, stands_of, with_end}
 use Rattle.tbl_layout.specs.declared.columns.Column.{Column}
@@ -17,7 +17,7 @@ use Rattle.tbl_format.proofs.Elements.{each-append}
 use Rattle.tbl_kept.specs.Rows.{AreKept, AreLaid, Command, ElementKept, ElementLaid, IsRuleRow, KeptElement, KeptRows, Row, RowBegunKept, RowsKept, RowsLaid, Rule, columns_holding, element_of, elements_of, fields_of, held_by, last_changed, no_column, no_rows, rows_in_front, with_block_end, with_columns, with_command, with_entry, with_row, with_rule}
 use Rattle.tbl_kept.specs.RowsGrowing.{BlockGrows, with_line}
 use Rattle.tbl_kept.proofs.ColumnsHeld.{columns_holding-behind, columns_holding-command, columns_holding-formats, columns_holding-more, columns_holding-rule, holding-row, length-columns_holding, row_at-more}
-use Rattle.tbl_kept.proofs.KeptFields.{AreKept-front, AreKept-last, AreKept-more, IsKept-block_end, IsLaid-more, content_of-block_end, content_of-laid-more, contents-more, last_changed-last, more-within, part-more}
+use Rattle.tbl_kept.proofs.KeptFields.{AreKept-front, AreKept-last, AreKept-more, IsKept-block_end, IsLaid-more, content_of-block_end, content_of-laid-more, last_changed-last, more-within, part-more}
 
 -- what holds of each element, by what it says
 each : {A : Type 0} (P Q : A → Type 0) → ((x : A) → P x → Q x) → (xs : List A) → AllByRecursion P xs → AllByRecursion Q xs
@@ -50,13 +50,6 @@ module _ (bytes more : List ℕ) (formats : List FormatRow) where
   element-kept-more columns (Rule sign) kept = tt
   element-kept-more columns (Command from to) kept = record { order = kept.order; within = more-within bytes more to kept.within }
 
-  element_of-more : (columns : ℕ) (e : KeptElement) → ElementKept bytes formats columns e
-      → element_of (bytes ++ more) formats e ≡ element_of bytes formats e
-  element_of-more columns (Row keys rules height entries) kept =
-      ap (λ (fields : List Content). OneRow (rows_in_front formats keys rules) (row_at formats keys) (completed (row_at formats keys) fields)) (contents-more bytes more (row_at formats keys) 0 entries kept.kept)
-  element_of-more columns (Rule sign) kept = refl
-  element_of-more columns (Command from to) kept = ap OneCommand (part-more bytes more from to kept.within)
-
   pub RowsKept-more : (k : KeptRows) → RowsKept bytes formats k → RowsKept (bytes ++ more) formats k
   RowsKept-more k kept = record {
     elements = each (ElementKept bytes formats (length k.columns)) (ElementKept (bytes ++ more) formats (length k.columns))
@@ -70,12 +63,6 @@ module _ (bytes more : List ℕ) (formats : List FormatRow) where
     row = AreKept-more bytes more (row_at formats keys) 0 k.row begun.row;
     short = begun.short;
   }
-
-  pub elements_of-more : (k : KeptRows) → RowsKept bytes formats k
-      → elements_of (bytes ++ more) formats k.elements ≡ elements_of bytes formats k.elements
-  elements_of-more k kept =
-      map-same (element_of (bytes ++ more) formats) (element_of bytes formats) (ElementKept bytes formats (length k.columns))
-      (element_of-more (length k.columns)) k.elements kept.elements
 
   -- and none that is laid out
   fields-laid-more : (format : FormatRow) (cell : ℕ) (entries : List Entry) → AreLaid bytes format cell entries
@@ -161,15 +148,6 @@ module _ (bytes : List ℕ) (formats more : List FormatRow) where
     elements = each (ElementKept bytes formats (length k.columns)) (ElementKept bytes (formats ++ more) (length k.columns))
         (element-kept-formats (length k.columns)) k.elements kept.elements;
     columns = kept.columns ∙ sym (columns_holding-formats bytes formats more (length k.columns) k.elements kept.elements 0 (length k.columns));
-  }
-
-  pub RowBegunKept-formats : (keys : ℕ) (k : KeptRows) → keys < length formats → RowBegunKept bytes formats keys k
-      → RowBegunKept bytes (formats ++ more) keys k
-  RowBegunKept-formats keys k serves begun = record {
-    all = RowsKept-formats k begun.all;
-    row = subst (λ (row : FormatRow). AreKept bytes row 0 k.row) (sym (row_at-more bytes formats more (length k.columns) keys serves)) begun.row;
-    short = subst (λ (row : FormatRow). length k.row ≤ cell_count row.keys (length k.columns))
-        (sym (row_at-more bytes formats more (length k.columns) keys serves)) begun.short;
   }
 
   pub elements_of-formats : (k : KeptRows) → RowsKept bytes formats k
@@ -323,10 +301,3 @@ module _ (bytes : List ℕ) (formats : List FormatRow) (k : KeptRows) where
             (sym (columns_holding-behind formats bytes old k.elements kept.elements (0 + old) more (omega arith)))
             ∙ sym (columns_holding-more formats k.elements 0 old more all (length-columns count));
       }
-
-  pub RowBegunKept-columns : (keys count : ℕ) → RowBegunKept bytes formats keys k → RowBegunKept bytes formats keys (with_columns count k)
-  RowBegunKept-columns keys count begun = record {
-    all = RowsKept-columns count begun.all;
-    row = begun.row;
-    short = omega (arith, begun.short, length-columns count);
-  }

@@ -1,7 +1,7 @@
 -- The fields of a row, one after another, and the columns that hold them.
-use Rattle.std.proofs.Common.{◌≡◌, ℕ, zero, suc, ◌+◌, ◌-◌, ◌<◌, ◌≤◌, Bool, true, false, List, [], ◌∷◌, ◌++◌, length, take, drop, get_or, replicate, set, refl, sym, ap, ◌∙◌, arith, append_assoc}
+use Rattle.std.proofs.Common.{◌≡◌, ℕ, zero, suc, ◌+◌, ◌-◌, ◌<◌, ◌≤◌, Bool, true, false, List, [], ◌∷◌, ◌++◌, length, take, drop, get_or, replicate, set, refl, sym, ap, ◌∙◌, arith, append_assoc, drop-set-lt, take-append-drop}
 use Rattle.std.specs.List.{slice_range}
-use Rattle.std.proofs.lemmas.List.{drop-set-lt, drop_more, take-append-drop, take_more_set}
+use Rattle.std.proofs.lemmas.List.{drop_more, take_more_set}
 use Rattle.tbl_format.specs.Cells.{by_cells}
 use Rattle.tbl_format.specs.declared.format.Asked.{Asked}
 use Rattle.tbl_format.specs.declared.format.FormatKey.{FormatKey}

@@ -1,6 +1,6 @@
 -- Cells that cover the columns of a laid table, and fit them, stand in order on lines of rows and of rules.
-use Rattle.std.proofs.Common.{◌≡◌, ℕ, zero, suc, ◌+◌, ◌-◌, ◌<◌, ◌≤◌, Bool, true, false, List, [], ◌∷◌, ◌++◌, length, take, drop, get_or, map, replicate, refl, sym, ap, subst, ◌∙◌, arith, length-drop, if◌then◌else◌}
-use Rattle.std.proofs.lemmas.List.{drop_more, length-take-le, take_all}
+use Rattle.std.proofs.Common.{◌≡◌, ℕ, zero, suc, ◌+◌, ◌-◌, ◌<◌, ◌≤◌, Bool, true, false, List, [], ◌∷◌, ◌++◌, length, take, drop, get_or, map, replicate, refl, sym, ap, subst, ◌∙◌, arith, length-drop, if◌then◌else◌, length-take-le, take_all}
+use Rattle.std.proofs.lemmas.List.{drop_more}
 use Rattle.tbl_format.specs.Cells.{AreCells, by_cells}
 use Rattle.tbl_format.specs.declared.format.FormatKey.{FormatKey}
 use Rattle.tbl_format.proofs.CellColumns.{columns_behind, columns_of-behind}

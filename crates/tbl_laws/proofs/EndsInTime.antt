@@ -1,6 +1,5 @@
 -- What runs on ends in front of what is next, as it is cut.
-use Rattle.std.proofs.Common.{◌≡◌, ℕ, ◌-◌, Bool, true, false, List, [], ◌∷◌, drop, map, min, Option, Some, None, refl, sym, ap, subst, ◌∙◌, arith, if◌then◌else◌, nat_lt}
-use Rattle.std.proofs.lemmas.Bool.{ltb-false}
+use Rattle.std.proofs.Common.{◌≡◌, ℕ, ◌-◌, Bool, true, false, List, [], ◌∷◌, drop, map, min, Option, Some, None, refl, sym, ap, subst, ◌∙◌, arith, if◌then◌else◌, nat_lt, ltb-false}
 use Rattle.tbl_laws.proofs.LinesNarrow.{field-narrow}
 use Rattle.tbl_laws.specs.RunningOn.{EndInTime, EndsBefore}
 use Rattle.tbl_layout.specs.Entries.{columns_of, line_within}

@@ -1,8 +1,7 @@
 -- On a line of a row nothing stands in a cell between what runs on and where that stops.
-use Rattle.std.proofs.Common.{◌≡◌, ℕ, zero, suc, ◌+◌, ◌-◌, ◌<◌, ◌≤◌, Bool, true, false, ◌&&◌, ◌==◌, List, [], ◌∷◌, length, take, drop, get_or, map, Option, Some, None, inl, refl, sym, ap, subst, ◌∙◌, arith, length-drop, if◌then◌else◌}
-use Rattle.std.specs.Prelude.{unwrap_or}
+use Rattle.std.proofs.Common.{◌≡◌, ℕ, zero, suc, ◌+◌, ◌-◌, ◌<◌, ◌≤◌, Bool, true, false, ◌&&◌, ◌==◌, List, [], ◌∷◌, length, take, drop, get_or, map, Option, Some, None, inl, refl, sym, ap, subst, ◌∙◌, arith, length-drop, if◌then◌else◌, unwrap_or, drop-drop}
 use Rattle.std.specs.List.{AllByRecursion}
-use Rattle.std.proofs.lemmas.List.{drop-drop, get_or_past}
+use Rattle.std.proofs.lemmas.List.{get_or_past}
 use Rattle.tbl_format.proofs.CellColumns.{columns_behind, columns_of-behind}
 use Rattle.tbl_format.specs.Cells.{AreCells, by_cells}
 use Rattle.tbl_format.specs.Format.{columns_of_keys}

@@ -1,7 +1,6 @@
 -- What cells show stands in the order of their columns, where there is a column of the page at least between these.
-use Rattle.std.proofs.Common.{◌≡◌, ℕ, suc, ◌+◌, ◌-◌, ◌<◌, ◌≤◌, Bool, true, false, ◌&&◌, ◌==◌, nat_lt, List, [], ◌∷◌, ◌++◌, length, take, drop, map, Option, Some, None, refl, sym, ap, subst, ◌∙◌, arith, append_assoc, ne_eqb, if◌then◌else◌}
+use Rattle.std.proofs.Common.{◌≡◌, ℕ, suc, ◌+◌, ◌-◌, ◌<◌, ◌≤◌, Bool, true, false, ◌&&◌, ◌==◌, nat_lt, List, [], ◌∷◌, ◌++◌, length, take, drop, map, Option, Some, None, refl, sym, ap, subst, ◌∙◌, arith, append_assoc, ne_eqb, if◌then◌else◌, append-nil}
 use Rattle.std.specs.List.{AllByRecursion}
-use Rattle.std.proofs.lemmas.List.{append-nil}
 use Rattle.tbl_format.specs.Cells.{by_cells}
 use Rattle.tbl_layout.specs.Columns.{bars_end, place_of_rule, stands, widest_entry}
 use Rattle.tbl_layout.specs.DataLines.{sign_byte}
@@ -27,10 +26,6 @@ use Rattle.tbl_laws.proofs.RuleApart.{ending, from-between, rest_shown, shown-sp
 abbrev pub Ascend : ℕ → List Shown → Type 0
 Ascend place [] = Unit {0}
 Ascend place (s ∷ all) = (place ≤ s.at) × Ascend (s.at + 1) all
-
-ascend-before : (place further : ℕ) (all : List Shown) → place ≤ further → Ascend further all → Ascend place all
-ascend-before place further [] before ascend = tt
-ascend-before place further (s ∷ all) before ascend = (omega (arith, before, ascend.0), ascend.1)
 
 abbrev Before : ℕ → List Shown → Type 0
 Before place all = AllByRecursion (λ s. s.at < place) all

@@ -1,8 +1,6 @@
 -- What is shown of an entry that is cut are the first of its glyphs, as many as fit.
-use Rattle.std.proofs.Common.{◌≡◌, ℕ, ◌+◌, ◌-◌, ◌<◌, Bool, true, false, List, [], ◌∷◌, ◌++◌, length, map, take, drop, refl, sym, ap, subst, ◌∙◌, arith, append_assoc, if◌then◌else◌, nat_lt}
+use Rattle.std.proofs.Common.{◌≡◌, ℕ, ◌+◌, ◌-◌, ◌<◌, Bool, true, false, List, [], ◌∷◌, ◌++◌, length, map, take, drop, refl, sym, ap, subst, ◌∙◌, arith, append_assoc, if◌then◌else◌, nat_lt, le-ltb, lt-ltb, ltb-false, ltb-true, append-nil, take-append-drop}
 use Rattle.std.specs.List.{AllByRecursion}
-use Rattle.std.proofs.lemmas.Bool.{le-ltb, lt-ltb, ltb-false, ltb-true}
-use Rattle.std.proofs.lemmas.List.{append-nil, take-append-drop}
 use Rattle.tbl_laws.proofs.LinesNarrow.{line-narrow}
 use Rattle.tbl_laws.specs.RunningOn.{AreWords, CutsLine, Front, HasNoBlank, IsLongestFront, IsLongestLine, Whole, front_of_word, word_cut}
 use Rattle.tbl_text.proofs.FrontItems.{fitting-front, fitting-items, fitting-most, fitting-width}

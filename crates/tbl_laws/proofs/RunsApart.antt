@@ -1,8 +1,8 @@
 -- Pieces of a line on which entries run on stand apart, where they do if these fill their columns, and nothing else stands in a cell up to
 -- where they stop.
-use Rattle.std.proofs.Common.{◌≡◌, ℕ, ◌+◌, ◌<◌, ◌≤◌, max, min, Bool, true, false, not, ◌&&◌, List, [], ◌∷◌, drop, length, map, Option, Some, None, ◌⊎◌, inl, inr, refl, sym, ap, subst, ◌∙◌, arith, if◌then◌else◌, nat_lt}
+use Rattle.std.proofs.Common.{◌≡◌, ℕ, ◌+◌, ◌<◌, ◌≤◌, max, min, Bool, true, false, not, ◌&&◌, List, [], ◌∷◌, drop, length, map, Option, Some, None, ◌⊎◌, inl, inr, refl, sym, ap, subst, ◌∙◌, arith, if◌then◌else◌, nat_lt, lt-ltb, ltb-true}
 use Rattle.std.specs.List.{AllByRecursion}
-use Rattle.std.proofs.lemmas.Bool.{cases_lt, lt-ltb, ltb-true}
+use Rattle.std.proofs.lemmas.Bool.{cases_lt}
 use Rattle.tbl_laws.proofs.EndsInTime.{cut-ends, still}
 use Rattle.tbl_laws.specs.PiecesApart.{BeginsBehind, InTurn, IsApart, StandApart}
 use Rattle.tbl_laws.specs.RunningOn.{Alike, AreAlike, FreeToStop, HasColumns, HaveColumns, IsClear, IsDrawn, Runs, Same}

@@ -1,34 +1,17 @@
 -- The measures of blocks, and elements whose blocks have them.
-use Rattle.std.proofs.Common.{◌≡◌, ℕ, suc, ◌+◌, ◌*◌, ◌/◌, ◌<◌, ◌≤◌, ◌^◌, min, max, Bool, true, false, List, [], ◌∷◌, ◌++◌, length, drop, refl, sym, ap, ◌∙◌, arith, if◌then◌else◌}
+use Rattle.std.proofs.Common.{◌≡◌, ℕ, suc, List, [], ◌∷◌, ◌++◌, length, drop, refl, sym, ap, ◌∙◌, arith}
 use Rattle.std.specs.List.{AllByRecursion}
-use Rattle.std.proofs.lemmas.List.{length-map, map-append}
-use Rattle.std.proofs.lemmas.Nat.{div_below}
-use Rattle.std.proofs.Math.Nat.{mul-le-mul_left}
+use Rattle.std.proofs.lemmas.List.{length-map}
 use Rattle.tbl_format.specs.Cells.{by_cells}
 use Rattle.tbl_format.specs.Format.{FormatRow}
 use Rattle.tbl_format.specs.declared.format.Asked.{Asked}
-use Rattle.tbl_layout.specs.Columns.{columns_from, equalled, gaps, total, with_widths}
 use Rattle.tbl_layout.specs.Entries.{Above, Block, Command, Content, Element, Repeated, Row, Rule, Ruled, Short, Text, completed, content_of_kind}
 use Rattle.tbl_layout.specs.RuleKeys.{under_keys}
-use Rattle.tbl_layout.specs.Spans.{all_fitted, all_wide, columns_laid, filled, filled_element, filled_fields, filled_in, has_least, least_of, measure_of}
+use Rattle.tbl_layout.specs.Spans.{filled, filled_element, filled_fields, filled_in, measure_of}
 use Rattle.tbl_layout.specs.declared.bars.Bars.{Bars}
 use Rattle.tbl_layout.specs.declared.data_lines.FieldKind.{FieldKind}
 use Rattle.tbl_layout.specs.declared.data_lines.FieldKind.TheVariants.{Above as AboveKind, Repeated as RepeatedKind, Ruled as RuledKind, Short as ShortKind, Text as OneText}
 use Rattle.tbl_layout.proofs.RowStands.{all-under}
-
--- a measure is a number of 32 bits where the length of lines is one
-measure-small : (asks : Bool) (widths line_length count columns : ℕ) → line_length < 2 ^ 32 → columns ≤ count
-    → (if asks then min widths 4294967295 else max 1 (line_length * columns / (count + 1))) < 2 ^ 32
-measure-small true widths line_length count columns line few = omega arith
-measure-small false widths line_length count columns line few =
-    let product = mul-le-mul_left line_length few in
-    let part = div_below (line_length * columns) (count + 1) (line_length + 1) (omega arith) (omega (arith, product)) in
-    omega (arith, part, line)
-
-pub measure_of-small : (bars : Bars) (line_length count : ℕ) (asked : List Asked) → line_length < 2 ^ 32 → length asked ≤ count
-    → measure_of bars line_length count asked < 2 ^ 32
-measure_of-small bars line_length count asked line few =
-    measure-small (has_least asked) (least_of asked + total (gaps bars asked)) line_length count (length asked) line few
 
 -- a block's measure is set anew
 pub filled_in-twice : (measure other : ℕ) (field : Content) → filled_in measure (filled_in other field) ≡ filled_in measure field
@@ -107,12 +90,3 @@ module _ (bars : Bars) (line_length : ℕ) where
 
   pub length-filled : (asked : List Asked) (elements : List Element) → length (filled bars line_length asked elements) ≡ length elements
   length-filled asked elements = length-map elements (filled_element bars line_length asked)
-
-  pub filled-append : (asked : List Asked) (front behind : List Element)
-      → filled bars line_length asked (front ++ behind) ≡ filled bars line_length asked front ++ filled bars line_length asked behind
-  filled-append asked front behind = map-append (filled_element bars line_length asked) front behind
-
-  pub columns_laid-filled : (asked : List Asked) (elements : List Element)
-      → columns_laid bars line_length asked (filled bars line_length asked elements) ≡ columns_laid bars line_length asked elements
-  columns_laid-filled asked elements =
-      ap (λ (all : List Element). equalled asked (all_fitted bars asked (all_wide all) (with_widths asked (columns_from all 0 asked)))) (filled-twice asked elements)

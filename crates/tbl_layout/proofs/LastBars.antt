@@ -1,6 +1,5 @@
 -- The bars behind the last column.
-use Rattle.std.proofs.Common.{◌≡◌, ℕ, ◌-◌, List, [], ◌∷◌, length, Option, Some, None, refl, ap, ◌∙◌, arith}
-use Rattle.std.specs.Prelude.{slice_get}
+use Rattle.std.proofs.Common.{◌≡◌, ℕ, ◌-◌, List, [], ◌∷◌, length, Option, Some, None, refl, ap, ◌∙◌, arith, slice_get}
 use Rattle.tbl_format.specs.declared.format.Asked.{Asked}
 use Rattle.tbl_layout.specs.Widths.{last_bars}
 

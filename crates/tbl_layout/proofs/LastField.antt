@@ -1,6 +1,6 @@
 -- The last field of a line: it stands behind the last separator.
-use Rattle.std.proofs.Common.{◌≡◌, ◌==◌, ℕ, zero, suc, ◌+◌, ◌-◌, ◌<◌, ◌≤◌, Bool, true, false, List, [], ◌∷◌, length, take, drop, sym, ap, ◌∙◌, arith, None, true≢false, if◌then◌else◌}
-use Rattle.std.proofs.lemmas.List.{drop_all, drop_more, take_all, get_or-drop, length-drop}
+use Rattle.std.proofs.Common.{◌≡◌, ◌==◌, ℕ, zero, suc, ◌+◌, ◌-◌, ◌<◌, ◌≤◌, Bool, true, false, List, [], ◌∷◌, length, take, drop, sym, ap, ◌∙◌, arith, None, true≢false, if◌then◌else◌, take_all, get_or-drop, length-drop}
+use Rattle.std.proofs.lemmas.List.{drop_all, drop_more}
 use Rattle.memchr.specs.Find.{Nowhere, Passes, is_byte}
 use Rattle.tbl_layout.specs.Data.{fields, in_first}
 use Rattle.tbl_layout.specs.DataLines.{behind_first, ends_in_block, opens_block}

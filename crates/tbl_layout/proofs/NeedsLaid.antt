@@ -1,7 +1,6 @@
 -- Columns that have their widths and their places have what their own entries need, and so room for each of them.
-use Rattle.std.proofs.Common.{◌≡◌, ℕ, zero, suc, ◌+◌, ◌≤◌, Bool, true, false, List, [], ◌∷◌, ◌++◌, drop, get_or, map, refl, ap, subst, ◌∙◌, arith, if◌then◌else◌}
+use Rattle.std.proofs.Common.{◌≡◌, ℕ, zero, suc, ◌+◌, ◌≤◌, Bool, true, false, List, [], ◌∷◌, ◌++◌, drop, get_or, map, refl, ap, subst, ◌∙◌, arith, if◌then◌else◌, Contains}
 use Rattle.std.proofs.lemmas.List.Elements.{Contains-append_left, Contains-append_right}
-use Rattle.std.specs.Prelude.{Contains}
 use Rattle.tbl_format.specs.Format.{FormatRow}
 use Rattle.tbl_format.specs.declared.format.Asked.{Asked}
 use Rattle.tbl_layout.specs.Columns.{alone, columns_from, entries_of, equal_widths, gaps, greatest, in_strip, left_of, needs_of, placed, placed_with, right_of, row_stands, split_width, spread, stands, total, widest_entry, width_by, with_equal, with_widths}

@@ -1,7 +1,7 @@
 -- The parts of what is spread that fall to fronts of all gaps.
-use Rattle.std.proofs.Common.{◌≡◌, ℕ, suc, zero, ◌+◌, ◌-◌, ◌*◌, ◌/◌, ◌%◌, ◌<◌, ◌≤◌, Bool, ap, subst, ◌∙◌, arith, if◌then◌else◌, ne_eqb}
+use Rattle.std.proofs.Common.{◌≡◌, ℕ, suc, zero, ◌+◌, ◌-◌, ◌*◌, ◌/◌, ◌%◌, ◌<◌, ◌≤◌, Bool, ap, subst, ◌∙◌, arith, if◌then◌else◌, ne_eqb, div-add-mod'}
 use Rattle.std.proofs.Math.Nat.{add-mul-div_left}
-use Rattle.std.proofs.lemmas.Nat.{div-add-mod', div_below, le-div}
+use Rattle.std.proofs.lemmas.Nat.{div_below, le-div}
 use native.Mathlib.Nat.{div-mul-le_self}
 use Rattle.tbl_layout.specs.Columns.{share}
 

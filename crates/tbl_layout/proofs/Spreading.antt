@@ -1,6 +1,6 @@
 -- Columns that get room for entries of several columns.
-use Rattle.std.proofs.Common.{◌≡◌, ℕ, suc, ◌+◌, ◌-◌, ◌*◌, ◌/◌, List, [], ◌∷◌, ◌++◌, length, map, take, drop, refl, sym, ap, ◌∙◌, arith, length-append, length-drop, length-take}
-use Rattle.std.proofs.lemmas.List.{drop-drop, map-append, take-append-drop}
+use Rattle.std.proofs.Common.{◌≡◌, ℕ, suc, ◌+◌, ◌-◌, ◌*◌, ◌/◌, List, [], ◌∷◌, ◌++◌, length, map, take, drop, refl, sym, ap, ◌∙◌, arith, length-append, length-drop, length-take, drop-drop, take-append-drop}
+use Rattle.std.proofs.lemmas.List.{map-append}
 use Rattle.tbl_format.specs.declared.format.Asked.{Asked}
 use Rattle.tbl_layout.specs.Spans.{Wide, all_fitted, fitted, lacks, spread_over}
 use Rattle.tbl_layout.specs.declared.bars.Bars.{Bars}

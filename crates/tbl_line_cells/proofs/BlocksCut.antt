@@ -1,9 +1,6 @@
 -- A block's line that runs on, as far as it fits.
-use Rattle.std.proofs.Common.{◌≡◌, ℕ, ◌+◌, ◌<◌, ◌==◌, Bool, true, false, List, [], ◌∷◌, get_or, map, Option, None, Some, refl, sym, ap, subst, ◌∙◌, arith}
+use Rattle.std.proofs.Common.{◌≡◌, ℕ, ◌+◌, ◌<◌, ◌==◌, Bool, true, false, List, [], ◌∷◌, get_or, map, Option, None, Some, refl, sym, ap, subst, ◌∙◌, arith, if◌then◌else◌, is_some, nat_lt, ltb-true, get_or-drop}
 use Rattle.std.specs.Option.{MatchOption}
-use Rattle.std.specs.Prelude.{if◌then◌else◌, is_some, nat_lt}
-use Rattle.std.proofs.lemmas.Bool.{ltb-true}
-use Rattle.std.proofs.lemmas.List.{get_or-drop}
 use Rattle.tbl_format.specs.declared.format.Key.{Key}
 use Rattle.tbl_layout.specs.Columns.{place_in}
 use Rattle.tbl_layout.specs.Entries.{Block as BlockField, Content, Run, block_line, columns_of, line_within}

@@ -1,11 +1,9 @@
 -- A cell of a line in which something runs on is cut, or fits.
-use Rattle.std.proofs.Common.{◌≡◌, ℕ, ◌+◌, ◌-◌, Bool, true, false, List, get_or, length, Option, None, Some, refl, sym, ap, subst, ◌∙◌, arith, if◌then◌else◌}
-use Rattle.std.specs.Prelude.{nat_lt}
-use Rattle.tbl_layout.specs.Entries.{columns_of}
+use Rattle.std.proofs.Common.{◌≡◌, ℕ, List, Option, None, Some, refl, sym, subst, arith}
 use Rattle.tbl_lines.specs.CellsLeft.{Left}
 use Rattle.tbl_lines.specs.LinesLeft.{Shown, cut_to}
 use Rattle.tbl_line_cells.specs.LaidCells.{IsDrawn, IsShown, RunsAs}
-use Rattle.tbl_line_cells.specs.LinesDrawn.{CutMore, IsNoted, KeptLine, passes_room, shown_in}
+use Rattle.tbl_line_cells.specs.LinesDrawn.{CutMore, KeptLine, passes_room, shown_in}
 use Rattle.tbl_line_cells.specs.declared.laid_cells.LaidCell.{LaidCell}
 use Rattle.tbl_line_cells.specs.declared.laid_cells.RunsOn.{RunsOn}
 
@@ -39,40 +37,9 @@ runs-by bytes c s r (Some own) runs = record { own = own; shown = refl; running 
 pub runs-own : (bytes : List ℕ) (c : LaidCell) (s : Shown) (r : RunsOn) → IsShown bytes c s → c.runs_on ≡ Some r → RunsBy bytes c s r s.runs_on
 runs-own bytes c s r is kept = runs-by bytes c s r s.runs_on (subst (λ (x : Option RunsOn). RunsAs bytes c s x s.runs_on) kept is.running)
 
--- it fits
-pub fits-drawn : (bytes : List ℕ) (c : LaidCell) (s : Shown) (room : ℕ) (own : Left) (o : Option Left) → o ≡ Some own → IsDrawn bytes c s
-    → cut_to room own s ≡ s → IsDrawn bytes c (shown_in room o s)
-fits-drawn bytes c s room own o shown drawn same =
-    subst (λ (x : Option Left). IsDrawn bytes c (shown_in room x s)) (sym shown) (subst (λ (t : Shown). IsDrawn bytes c t) (sym same) drawn)
-
-pub fits-more : (s : Shown) (room : ℕ) (own : Left) (o : Option Left) (old new : KeptLine) → o ≡ Some own → false ≡ nat_lt room (columns_of s.runs)
-    → new.cut ≡ old.cut → new.first_cut ≡ old.first_cut → CutMore (passes_room room o s) o old new
-fits-more s room own o old new shown fits cut first =
-    subst (λ (x : Option Left). CutMore (passes_room room x s) x old new) (sym shown)
-    (subst (λ (b : Bool). CutMore b (Some own) old new) fits (cut, first))
-
 -- it is cut
 pub cut-drawn : (bytes : List ℕ) (c fits : LaidCell) (s : Shown) (room : ℕ) (own : Left) (o : Option Left) → o ≡ Some own → c ≡ fits
     → IsDrawn bytes fits (cut_to room own s) → IsDrawn bytes c (shown_in room o s)
 cut-drawn bytes c fits s room own o shown same drawn =
     subst (λ (x : Option Left). IsDrawn bytes c (shown_in room x s)) (sym shown)
     (subst (λ (d : LaidCell). IsDrawn bytes d (cut_to room own s)) (sym same) drawn)
-
-noted-of : (end : ℕ) (is_cut : Bool) (old mid new : KeptLine) → mid.cut ≡ old.cut → mid.first_cut ≡ old.first_cut → IsNoted end is_cut mid new
-    → IsNoted end is_cut old new
-noted-of end is_cut old mid new cut first noted = record {
-  here = λ some few. noted.here some (omega (arith, few, ap (λ (bs : List Bool). length bs) cut));
-  others = λ other some apart. noted.others other some apart ∙ ap (λ (bs : List Bool). get_or bs (other - 1) false) cut;
-  count = noted.count ∙ ap (λ (bs : List Bool). length bs) cut;
-  first = noted.first ∙ ap (λ (n : ℕ). (if is_cut then 0 else 1) + n) first;
-}
-
-pub cut-more : (s : Shown) (room : ℕ) (own : Left) (o : Option Left) (end : ℕ) (is_cut : Bool) (old mid new : KeptLine) → o ≡ Some own
-    → true ≡ nat_lt room (columns_of s.runs) → end ≡ own.key.end → is_cut ≡ own.is_cut → mid.cut ≡ old.cut → mid.first_cut ≡ old.first_cut
-    → IsNoted end is_cut mid new → CutMore (passes_room room o s) o old new
-cut-more s room own o end is_cut old mid new shown passes end_is cut_is cut first noted =
-    subst (λ (x : Option Left). CutMore (passes_room room x s) x old new) (sym shown)
-    (subst (λ (b : Bool). CutMore b (Some own) old new) passes
-    (subst (λ (e : ℕ). IsNoted e own.is_cut old new) end_is
-    (subst (λ (b : Bool). IsNoted end b old new) cut_is
-    (noted-of end is_cut old mid new cut first noted))))

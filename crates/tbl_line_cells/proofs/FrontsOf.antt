@@ -1,6 +1,5 @@
 -- What is laid between two columns on a line of rules is what stands there.
-use Rattle.std.proofs.Common.{◌≡◌, ℕ, suc, ◌+◌, ◌-◌, ◌==◌, ◌≤◌, ◌<◌, true, false, List, ◌∷◌, drop, get_or, length, take, sym, ap, subst, ◌∙◌, arith}
-use Rattle.std.specs.Prelude.{nat_lt, Option, None}
+use Rattle.std.proofs.Common.{◌≡◌, ℕ, suc, ◌+◌, ◌-◌, ◌==◌, ◌≤◌, ◌<◌, true, false, List, ◌∷◌, drop, get_or, length, take, sym, ap, subst, ◌∙◌, arith, nat_lt, Option, None}
 use Rattle.tbl_format.specs.declared.format.Key.TheVariants.{Left as LeftKey}
 use Rattle.tbl_format.specs.declared.format.Standing.TheVariants.{Middle}
 use Rattle.tbl_layout.specs.Columns.{bar_place, bars_begin, bars_end}

@@ -1,6 +1,5 @@
 -- What a cell shows that is laid as it is left.
-use Rattle.std.proofs.lemmas.Bool.{true≢false}
-use Rattle.std.proofs.Common.{◌≡◌, ℕ, zero, suc, ◌+◌, ◌-◌, ◌<◌, ◌==◌, Bool, true, false, ◌&&◌, List, [], ◌∷◌, drop, get_or, map, Option, None, Some, refl, sym, ap, subst, ◌∙◌, if◌then◌else◌}
+use Rattle.std.proofs.Common.{◌≡◌, ℕ, zero, suc, ◌+◌, ◌-◌, ◌<◌, ◌==◌, Bool, true, false, ◌&&◌, List, [], ◌∷◌, drop, get_or, map, Option, None, Some, refl, sym, ap, subst, ◌∙◌, if◌then◌else◌, true≢false}
 use Rattle.tbl_format.specs.declared.format.FormatKey.{FormatKey}
 use Rattle.tbl_format.specs.declared.format.Key.{Key}
 use Rattle.tbl_layout.specs.Columns.{passes, place_in, place_of_rule, stands, widest_entry}

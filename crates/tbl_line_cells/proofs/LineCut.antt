@@ -1,8 +1,7 @@
 -- A line on which what runs on is cut, from the right.
-use Rattle.std.proofs.Common.{◌≡◌, ◌≢◌, ℕ, zero, suc, ◌+◌, ◌-◌, ◌<◌, ◌≤◌, ◌==◌, Bool, true, false, not, ◌&&◌, ◌||◌, List, [], ◌∷◌, ◌++◌, drop, get_or, length, map, replicate, take, Option, None, Some, refl, sym, ap, subst, ◌∙◌, arith, if◌then◌else◌}
-use Rattle.std.specs.Prelude.{is_some, nat_lt}
+use Rattle.std.proofs.Common.{◌≡◌, ℕ, zero, suc, ◌+◌, ◌-◌, ◌<◌, ◌≤◌, ◌==◌, Bool, true, false, not, ◌&&◌, ◌||◌, List, [], ◌∷◌, ◌++◌, drop, get_or, length, map, replicate, take, Option, None, Some, refl, sym, ap, subst, ◌∙◌, arith, if◌then◌else◌, is_some, nat_lt, eqb-true}
 use Rattle.std.specs.List.{AllByRecursion, list_any}
-use Rattle.std.proofs.lemmas.Bool.{eqb-false, eqb-true}
+use Rattle.std.proofs.lemmas.Bool.{eqb-false}
 use Rattle.std.proofs.lemmas.List.{get_or-replicate}
 use Rattle.tbl_format.specs.declared.format.Key.TheVariants.{Left as LeftKey}
 use Rattle.tbl_layout.specs.Entries.{columns_of}
@@ -111,9 +110,6 @@ drop-get (suc k) (x ∷ xs) d few = drop-get k xs d (omega (arith, few))
 -- where the next bar or rule stands from a cell on, without what stands in front of it
 abbrev pub next_behind : ℕ → List Cell → List Shown → ℕ
 next_behind end fronts done = next_drawn end (nothing_there ∷ drop 1 fronts) done
-
-none-there : (end : ℕ) (fronts : List Cell) → next_behind end fronts [] ≡ end
-none-there end fronts = refl
 
 with-front : (end : ℕ) (f : Cell) (fronts : List Cell) (done : List Shown)
     → next_drawn end (f ∷ fronts) done ≡ (if is_there (first_of f) then f.at else next_drawn end (nothing_there ∷ fronts) done)

@@ -1,6 +1,5 @@
 -- What cutting cells of a line and putting them in order leaves as it was.
-use Rattle.std.proofs.Common.{◌≡◌, ℕ, List, sym, ap, subst, ◌∙◌, arith}
-use Rattle.std.specs.Prelude.{vec_capacity}
+use Rattle.std.proofs.Common.{◌≡◌, ℕ, List, sym, ap, subst, ◌∙◌, arith, vec_capacity}
 use Rattle.tbl_lines.specs.CellsLeft.{Left}
 use Rattle.tbl_line_cells.specs.LinesDrawn.{CutOn, LineHasRoom, IsNoRow, KeptLine, as_row, kept_line}
 use Rattle.tbl_line_cells.specs.declared.line_cells.LineCells.{LineCells}

@@ -1,6 +1,5 @@
 -- A line that is laid from the left: one cell or front more.
-use Rattle.std.proofs.Common.{◌≡◌, ℕ, Bool, true, false, ◌||◌, List, [], ◌∷◌, ◌++◌, map, Option, None, Some, refl, sym, ap, subst, ◌∙◌}
-use Rattle.std.specs.Prelude.{is_some}
+use Rattle.std.proofs.Common.{◌≡◌, ℕ, Bool, true, false, ◌||◌, List, [], ◌∷◌, ◌++◌, map, Option, None, Some, refl, sym, ap, subst, ◌∙◌, is_some}
 use Rattle.std.specs.List.{AllByRecursion, list_any}
 use Rattle.std.proofs.lemmas.List.Folds.{list_any-append}
 use Rattle.tbl_lines.specs.CellsLeft.{Left}
@@ -60,23 +59,6 @@ more-bars (g ∷ fronts) f all is = (all.0, more-bars fronts f all.1 is)
 more-map : {A B : Type 0} (g : A → B) (xs : List A) (x : A) → map g (xs ++ x ∷ []) ≡ map g xs ++ g x ∷ []
 more-map g [] x = refl
 more-map {B = B} g (y ∷ xs) x = ap (λ (ys : List B). g y ∷ ys) (more-map g xs x)
-
-pub front-so-far : (bytes : List ℕ) (old new : KeptLine) (f : Front) (c : Cell) (done : List Shown) (fronts : List Cell)
-    → HasBars f → on_line (cell_of_front f) ≡ on_line c → SoFar bytes old done fronts → new.cells ≡ old.cells
-    → new.has_running ≡ old.has_running → new.fronts ≡ old.fronts ++ f ∷ [] → SoFar bytes new done (fronts ++ c ∷ [])
-front-so-far bytes old new f c done fronts bars is so_far cells running fronts_are =
-    let shows : Front → Cell = λ g. on_line (cell_of_front g) in
-    record {
-      cells = subst (λ (cs : List LaidCell). AreShown bytes cs done) (sym cells) so_far.cells;
-      running = running ∙ so_far.running;
-      front = record {
-        in_front = ap (map shows) fronts_are ∙ more-map shows old.fronts f
-            ∙ ap (λ (cs : List Cell). cs ++ shows f ∷ []) so_far.front.in_front
-            ∙ ap (λ (d : Cell). map on_line fronts ++ d ∷ []) is
-            ∙ sym (more-map on_line fronts c);
-        some = subst (AllByRecursion HasBars) (sym fronts_are) (more-bars old.fronts f so_far.front.some bars);
-      };
-    }
 
 -- where nothing runs on, all is drawn
 pub shown-drawn : (bytes : List ℕ) (cells : List LaidCell) (done : List Shown) → AreShown bytes cells done → AreDrawn bytes cells done

@@ -1,8 +1,6 @@
 -- A cell of a line more is put in order.
-use Rattle.std.proofs.Common.{◌≡◌, ℕ, suc, ◌+◌, ◌≤◌, ◌<◌, List, [], ◌∷◌, ◌++◌, length, get_or, Option, None, Some, refl, sym, ap, ◌∙◌, arith}
-use Rattle.std.specs.Prelude.{vec_capacity}
+use Rattle.std.proofs.Common.{◌≡◌, ℕ, suc, ◌+◌, ◌≤◌, ◌<◌, List, [], ◌∷◌, ◌++◌, length, get_or, Option, None, Some, refl, sym, ap, ◌∙◌, arith, vec_capacity, length-append}
 use Rattle.std.specs.List.{insert}
-use Rattle.std.proofs.lemmas.List.{length-append}
 use Rattle.tbl_lines.specs.LinesLeft.{Shown, in_order}
 use Rattle.tbl_line_cells.specs.LaidCells.{place_among}
 use Rattle.tbl_line_cells.specs.declared.laid_cells.LaidCell.{LaidCell}

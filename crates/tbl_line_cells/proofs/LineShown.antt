@@ -1,8 +1,6 @@
 -- What the cells of a line draw that is laid, in order.
-use Rattle.std.proofs.Common.{◌≡◌, ℕ, zero, suc, get_or, take, append_assoc, append-nil, ◌≤◌, ◌<◌, ◌==◌, ◌&&◌, Bool, true, false, List, [], ◌∷◌, ◌++◌, length, map, Option, None, Some, refl, sym, ap, subst, ◌∙◌, arith, if◌then◌else◌}
-use Rattle.std.specs.Prelude.{nat_lt}
+use Rattle.std.proofs.Common.{◌≡◌, ℕ, zero, suc, get_or, take, append_assoc, append-nil, ◌≤◌, ◌<◌, ◌==◌, ◌&&◌, Bool, true, false, List, [], ◌∷◌, ◌++◌, length, map, Option, None, Some, refl, sym, ap, subst, ◌∙◌, arith, if◌then◌else◌, nat_lt, ne_eqb}
 use Rattle.std.specs.List.{AllByRecursion, insert}
-use Rattle.std.proofs.lemmas.Bool.{ne_eqb}
 use Rattle.std.proofs.lemmas.List.Edits.{length-insert}
 use Rattle.tbl_lines.specs.LinesLeft.{Shown, in_order, is_behind, put}
 use Rattle.tbl_line_cells.specs.LaidCells.{IsDrawn, is_text_behind, place_among, text_by, text_of}

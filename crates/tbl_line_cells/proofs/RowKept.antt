@@ -1,6 +1,5 @@
 -- What stays where cells of a line are laid, and how much room there is.
-use Rattle.std.proofs.Common.{◌≡◌, ℕ, ◌≤◌, ap, ◌∙◌, arith}
-use Rattle.std.specs.Prelude.{vec_capacity}
+use Rattle.std.proofs.Common.{◌≡◌, ℕ, ◌≤◌, ap, ◌∙◌, arith, vec_capacity}
 use Rattle.tbl_line_cells.specs.LinesDrawn.{LineHasRoom, IsNoRow, KeepsRow, kept_line}
 use Rattle.tbl_line_cells.specs.declared.line_cells.LineCells.{LineCells}
 

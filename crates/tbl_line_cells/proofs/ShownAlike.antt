@@ -1,8 +1,7 @@
 -- Cells that are drawn alike on a line: what stands behind them is drawn alike too, and runs without a byte draw nothing.
-use Rattle.std.proofs.Common.{◌≡◌, ℕ, ◌+◌, ◌-◌, max, List, [], ◌∷◌, ◌++◌, refl, ap, ◌∙◌, arith}
+use Rattle.std.proofs.Common.{◌≡◌, ℕ, ◌+◌, ◌-◌, max, List, [], ◌∷◌, ◌++◌, refl, ap, ◌∙◌, arith, codes}
 use Rattle.std.proofs.lemmas.List.Sums.{sum_by-cons}
 use Rattle.input_source.specs.Bytes.{newline}
-use Rattle.std.specs.Prelude.{codes}
 use Rattle.tbl_layout.specs.DataLines.{sign_byte}
 use Rattle.tbl_layout.specs.Entries.{Run, before_glyphs, blanks, columns_of, up_to_last_glyph}
 use Rattle.tbl_layout.specs.declared.data_lines.RuleSign.TheVariants.{Single}

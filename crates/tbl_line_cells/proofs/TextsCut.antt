@@ -1,5 +1,5 @@
 -- A text that runs on, as far as it fits.
-use Rattle.std.proofs.Common.{◌≡◌, ℕ, zero, suc, ◌+◌, ◌-◌, ◌≤◌, ◌==◌, Bool, true, false, nat_lt, List, [], ◌∷◌, drop, get_or, length, take, Option, None, Some, refl, sym, ap, subst, ◌∙◌, arith, if◌then◌else◌, length-drop}
+use Rattle.std.proofs.Common.{◌≡◌, ℕ, zero, suc, ◌+◌, ◌-◌, ◌≤◌, ◌==◌, Bool, true, false, nat_lt, List, [], ◌∷◌, drop, get_or, length, take, Option, None, Some, refl, sym, ap, subst, ◌∙◌, arith, if◌then◌else◌, length-drop, eqb-true}
 use Rattle.std.specs.List.{slice_range}
 use Rattle.std.specs.Option.{MatchOption}
 use Rattle.tbl_format.specs.declared.format.Key.{Key}
@@ -19,7 +19,6 @@ use Rattle.tbl_lines.specs.RowsLeft.{begins_by, cell_left, first_of, lines_left_
 use Rattle.tbl_line_cells.specs.LaidCells.{EndsItself, IsDrawn, IsRunning, IsShown, MayRun, RunsAs, at_first, on_line, row_column, runs_at, with_text}
 use Rattle.tbl_line_cells.specs.declared.laid_cells.LaidCell.{LaidCell}
 use Rattle.tbl_line_cells.specs.declared.laid_cells.RunsOn.{RunsOn}
-use Rattle.std.proofs.lemmas.Bool.{eqb-true}
 use Rattle.tbl_line_cells.proofs.LaidShown.{lines-same}
 use Rattle.tbl_line_cells.proofs.RunningLaid.{first-place}
 use Rattle.tbl_line_cells.specs.declared.cells.CellLeft.{CellLeft}

@@ -1,8 +1,6 @@
 -- What is given of a cell of a line, by its kind.
-use Rattle.std.proofs.Common.{◌≡◌, ◌≢◌, ℕ, zero, suc, ◌+◌, ◌-◌, ◌≤◌, max, Bool, true, false, List, [], ◌∷◌, ◌++◌, length, drop, min, replicate, get_or, refl, sym, ap, subst, ◌∙◌, arith, ◌<◌, ◌==◌, if◌then◌else◌}
+use Rattle.std.proofs.Common.{◌≡◌, ◌≢◌, ℕ, zero, suc, ◌+◌, ◌-◌, ◌≤◌, max, Bool, true, false, List, [], ◌∷◌, ◌++◌, length, drop, min, replicate, get_or, refl, sym, ap, subst, ◌∙◌, arith, ◌<◌, ◌==◌, if◌then◌else◌, eq-eqb, ne_eqb, drop-drop}
 use Rattle.std.specs.List.{slice_range}
-use Rattle.std.proofs.lemmas.Bool.{eq-eqb, ne_eqb}
-use Rattle.std.proofs.lemmas.List.{drop-drop}
 use Rattle.input_source.specs.Bytes.{blank}
 use Rattle.tbl_layout.specs.Entries.{Run, blanks, columns_of}
 use Rattle.tbl_layout.specs.declared.entry.EntryKind.{EntryKind}

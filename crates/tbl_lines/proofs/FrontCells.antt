@@ -1,8 +1,6 @@
 -- What stands in front of the columns of a row: how much it is, one of it, and what it is on further lines.
-use Rattle.std.proofs.Common.{◌≡◌, ◌≢◌, ℕ, zero, suc, ◌+◌, ◌*◌, ◌-◌, ◌<◌, ◌≤◌, max, Bool, true, false, List, [], ◌∷◌, ◌++◌, length, drop, get_or, map, refl, sym, ap, subst, ◌∙◌, arith, length-append, Option, Some, None, if◌then◌else◌}
+use Rattle.std.proofs.Common.{◌≡◌, ◌≢◌, ℕ, zero, suc, ◌+◌, ◌*◌, ◌-◌, ◌<◌, ◌≤◌, max, Bool, true, false, List, [], ◌∷◌, ◌++◌, length, drop, get_or, map, refl, sym, ap, subst, ◌∙◌, arith, length-append, Option, Some, None, if◌then◌else◌, ltb-true, ltb-false, drop-drop}
 use Rattle.std.specs.Option.{MatchOption}
-use Rattle.std.proofs.lemmas.Bool.{ltb-true, ltb-false}
-use Rattle.std.proofs.lemmas.List.{drop-drop}
 use Rattle.tbl_format.specs.Format.{FormatRow}
 use Rattle.tbl_options.specs.declared.options.Boxing.{Boxing}
 use Rattle.tbl_layout.specs.DataLines.{sign_byte}
@@ -214,11 +212,6 @@ rule-glyph : (sign : RuleSign) (k : ℕ) → 0 < k → HasGlyph (repeated (sign_
 rule-glyph sign zero some = absurd (omega (arith, some))
 rule-glyph Single (suc k) some = omega arith
 rule-glyph Double (suc k) some = omega arith
-
-rule-glyphless : (sign : RuleSign) (k : ℕ) → k ≡ 0 → up_to_last_glyph (repeated (sign_byte sign) k ∷ []) ≡ []
-rule-glyphless Single zero none = refl
-rule-glyphless Double zero none = refl
-rule-glyphless sign (suc k) none = absurd (omega (arith, none))
 
 three-glyphs : (sign : RuleSign) (j k n : ℕ) → 0 < j + k + n
     → HasGlyph (repeated (sign_byte sign) j ∷ repeated crossing k ∷ repeated (sign_byte sign) n ∷ [])

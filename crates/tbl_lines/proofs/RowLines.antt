@@ -1,7 +1,7 @@
 -- The lines of a row that begins are those of its fields in the table.
-use Rattle.std.proofs.Common.{◌≡◌, ℕ, zero, suc, ◌+◌, ◌-◌, ◌≤◌, max, Bool, true, false, List, [], ◌∷◌, ◌++◌, length, drop, get_or, map, codes, Option, Some, None, refl, sym, ap, ◌∙◌, arith, if◌then◌else◌}
+use Rattle.std.proofs.Common.{◌≡◌, ℕ, zero, suc, ◌+◌, ◌-◌, ◌≤◌, max, Bool, true, false, List, [], ◌∷◌, ◌++◌, length, drop, get_or, map, codes, Option, Some, None, refl, sym, ap, ◌∙◌, arith, if◌then◌else◌, drop-drop}
 use Rattle.std.specs.List.{AllByRecursion}
-use Rattle.std.proofs.lemmas.List.{drop-drop, drop-map}
+use Rattle.std.proofs.lemmas.List.{drop-map}
 use Rattle.tbl_format.specs.Format.{FormatRow}
 use Rattle.tbl_kept.specs.Rows.{AreLaid, RowLaid, fields_of, height_of}
 use Rattle.tbl_format.specs.RowsServed.{row_at}

@@ -1,9 +1,7 @@
 -- How many bars meet on a line of rules through which no cell goes, and how many it shows: by both descriptions the same.
-use Rattle.std.proofs.Common.{◌≡◌, ℕ, zero, suc, ◌-◌, ◌<◌, max, ◌⊎◌, inl, inr, Bool, true, false, not, ◌&&◌, ◌||◌, ◌==◌, ne_eqb, List, [], ◌∷◌, drop, length, replicate, take, refl, sym, ap, subst, ◌∙◌, arith, if◌then◌else◌}
+use Rattle.std.proofs.Common.{◌≡◌, ℕ, zero, suc, ◌-◌, ◌<◌, max, ◌⊎◌, inl, inr, Bool, true, false, not, ◌&&◌, ◌||◌, ◌==◌, ne_eqb, List, [], ◌∷◌, drop, length, replicate, take, refl, sym, ap, subst, ◌∙◌, arith, if◌then◌else◌, nat_lt, eq-eqb, le-ltb, ltb-false}
 use Rattle.std.specs.List.{AllByRecursion}
-use Rattle.std.specs.Prelude.{nat_lt}
 use Rattle.std.proofs.Math.Dec.{eqb-suc-zero}
-use Rattle.std.proofs.lemmas.Bool.{eq-eqb, le-ltb, ltb-false}
 use Rattle.tbl_format.specs.Format.{FormatRow}
 use Rattle.tbl_format.proofs.Elements.{each-append}
 use Rattle.tbl_layout.specs.Spans.{as_one}

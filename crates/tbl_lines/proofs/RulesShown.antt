@@ -1,6 +1,6 @@
 -- What stands on a line of rules through which no cell goes shows the marks of the plain one.
-use Rattle.std.proofs.Common.{◌≡◌, ℕ, zero, suc, ◌+◌, ◌-◌, ◌<◌, ◌≤◌, Bool, false, List, [], ◌∷◌, ◌++◌, length, map, replicate, Option, None, Some, refl, sym, ap, subst, ◌∙◌, arith, if◌then◌else◌, ◌==◌}
-use Rattle.std.proofs.lemmas.List.{append-nil, length-replicate}
+use Rattle.std.proofs.Common.{◌≡◌, ℕ, zero, suc, ◌+◌, ◌-◌, ◌<◌, ◌≤◌, Bool, false, List, [], ◌∷◌, ◌++◌, length, map, replicate, Option, None, Some, refl, sym, ap, subst, ◌∙◌, arith, if◌then◌else◌, ◌==◌, append-nil}
+use Rattle.std.proofs.lemmas.List.{length-replicate}
 use Rattle.input_source.specs.Bytes.{blank}
 use Rattle.tbl_layout.specs.Columns.{bar_place, bars_end}
 use Rattle.tbl_layout.specs.DataLines.{sign_byte}

@@ -1,8 +1,8 @@
 -- The words of options, as they are read byte by byte.
-use Rattle.std.proofs.Common.{◌≡◌, ℕ, suc, ◌+◌, ◌-◌, ◌<◌, ◌≤◌, Bool, true, false, not, ◌&&◌, List, [], ◌∷◌, ◌++◌, length, map, take, drop, fold, get_or, refl, sym, ap, ◌∙◌, arith, append_assoc, append-nil, length-drop, if◌then◌else◌, ◌==◌}
+use Rattle.std.proofs.Common.{◌≡◌, ℕ, suc, ◌+◌, ◌-◌, ◌<◌, ◌≤◌, Bool, true, false, not, ◌&&◌, List, [], ◌∷◌, ◌++◌, length, map, take, drop, fold, get_or, refl, sym, ap, ◌∙◌, arith, append_assoc, append-nil, length-drop, if◌then◌else◌, ◌==◌, length-take-le}
 use Rattle.std.specs.List.{slice_range}
 use Rattle.std.proofs.lemmas.Bool.Decides.{nat_tests}
-use Rattle.std.proofs.lemmas.List.{at_drop_more, drop_all, length-take-le, map-append}
+use Rattle.std.proofs.lemmas.List.{at_drop_more, drop_all, map-append}
 use Rattle.std.proofs.lemmas.List.Edits.{between_more}
 use Rattle.tbl_options.specs.Notes.{ignored_message, told_at}
 use Rattle.tbl_options.specs.Options.{bracketed, if_word, ignored_of, is_unknown, option_of, option_of_two, options_of, separates_options, with_said, with_set, words_behind}
@@ -48,10 +48,6 @@ module _ (inside : Bool) (text : List ℕ) (from at : ℕ) (begun : from ≤ at)
 if_word-some : (word : List ℕ) → 0 < length word → if_word word ≡ word ∷ []
 if_word-some [] some = absurd (omega (arith, some))
 if_word-some (b ∷ word) some = refl
-
-if_word-none : (word : List ℕ) → length word ≤ 0 → if_word word ≡ []
-if_word-none [] none = refl
-if_word-none (b ∷ word) none = absurd (omega (arith, none))
 
 -- where it lies: between a place and itself nothing does
 slice-none : (text : List ℕ) (from to : ℕ) → (from == to) ≡ true → if_word (slice_range text from to) ≡ []
@@ -251,14 +247,6 @@ module _ (text : List ℕ) (r : OptionsRead) (held : IsHeld (length text) r) whe
 
   pub ignores-end : ignored_by (ignores_last text r) (held_word text r) ≡ ignored_of (options_of (held_words text r ++ []))
   ignores-end = ignores-ended (r.from == r.to) refl
-
-  count-ended : (t u : Bool) → (r.from == r.to) ≡ t → length (ignored_by (not t && u) (held_word text r)) ≤ r.to - r.from
-  count-ended true u is = omega arith
-  count-ended false true is = let less : r.from < r.to = grind (arith, nat_tests, held.order) in omega (arith, less)
-  count-ended false false is = omega arith
-
-  pub count-last : length (ignored_by (ignores_last text r) (held_word text r)) ≤ r.to - r.from
-  count-last = count-ended (r.from == r.to) (is_unknown (option_of (held_word text r))) refl
 
 -- the words that are left of a text, where one is read that begins at a place
 module _ (text : List ℕ) (all : Options) where

@@ -11,7 +11,7 @@ use Rattle.tbl_layout.specs.declared.bars.Bars.{Bars}
 use Rattle.tbl_layout.specs.declared.data_lines.RuleSign.{RuleSign}
 use Rattle.tbl_layout.specs.declared.data_lines.RuleSign.TheVariants.{Single}
 use Rattle.tbl_layout.specs.declared.entry.Entry.{Entry}
-use Rattle.tbl_picture.specs.ElementsWalked.{BehindRow, CanWalk, HasEnded, RowAtElement, RowBegin, RuleAtElement, RuleRowsCome, StandsAt, Steps, boxed_from, first_next, lines_on, started, steps_behind, steps_by, steps_left, steps_on, still_to_come, to_come_by}
+use Rattle.tbl_picture.specs.ElementsWalked.{BehindRow, CanWalk, HasEnded, RowAtElement, RowBegin, RuleAtElement, RuleRowsCome, StandsAt, Steps, boxed_from, lines_on, started, steps_behind, steps_by, steps_left, steps_on, still_to_come, to_come_by}
 use Rattle.tbl_lines.specs.PictureLines.{Neighbour, NoRow, Sheet, Whole, frame_sign, line_below, lines_behind, picture_lines, rule_line}
 use Rattle.tbl_pieces.specs.PieceQueue.{Adds, KeptPieces}
 use Rattle.tbl_pieces.specs.Pieces.{AreWithin}
@@ -40,14 +40,6 @@ module _ (bars : Bars) (width : ℕ) (bytes : List ℕ) (formats : List FormatRo
   pub started-lines : still_to_come bytes formats rows (started bars width w)
       ≡ picture_lines (record { bars = bars; width = width; columns = rows.columns }) (elements_of bytes formats rows.elements)
   started-lines = started-by (bars.boxing.bars == 0)
-
-  stands-by : (t : Bool) (elements : List KeptElement) → (bars.boxing.bars == 0) ≡ t
-      → StandsAt (if t then AtElement else AtTop) bytes formats rows (started bars width w) elements
-  stands-by true elements is = tt
-  stands-by false elements is = is
-
-  pub started-stands : (elements : List KeptElement) → StandsAt (first_next bars.boxing) bytes formats rows (started bars width w) elements
-  started-stands elements = stands-by (bars.boxing.bars == 0) elements refl
 
 module _ (bytes frame : List ℕ) (formats : List FormatRow) (rows : KeptRows) (w : KeptWalk) (can : CanWalk bytes formats rows w)
     (before after : KeptPieces) (within : AreWithin bytes frame before.pieces) where

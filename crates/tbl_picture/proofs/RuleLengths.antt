@@ -1,14 +1,12 @@
 -- How many keys rows of rule keys have that stand one after another: the nearest, and the longest of them.
-use Rattle.std.proofs.Common.{◌≡◌, ℕ, zero, suc, ◌+◌, ◌-◌, ◌≤◌, ◌<◌, max, Bool, true, false, List, [], ◌∷◌, length, drop, take, Some, refl, sym, ap, subst, ◌∙◌, arith, if◌then◌else◌}
-use Rattle.std.specs.Prelude.{nat_lt}
-use Rattle.std.proofs.lemmas.Bool.{ltb-false, ltb-true}
-use Rattle.std.proofs.lemmas.List.{drop_more, get_or-drop, length-drop, length-take}
+use Rattle.std.proofs.Common.{◌≡◌, ℕ, zero, suc, ◌+◌, ◌-◌, ◌≤◌, ◌<◌, max, Bool, true, false, List, [], ◌∷◌, length, drop, take, Some, refl, sym, ap, ◌∙◌, arith, if◌then◌else◌, nat_lt, ltb-false, ltb-true, get_or-drop, length-drop, length-take}
+use Rattle.std.proofs.lemmas.List.{drop_more}
 use Rattle.tbl_format.specs.Format.{FormatRow}
 use Rattle.tbl_format.specs.RowsServed.{no_keys, row_at}
 use Rattle.tbl_options.specs.declared.options.Boxing.{Boxing}
 use Rattle.tbl_kept.specs.Rows.{Command, KeptElement, Row, Rule}
 use Rattle.tbl_lines.specs.PictureLines.{Neighbour, bars_at_edge, behind_rules, shown_at_edge}
-use Rattle.tbl_picture.specs.RulesWalked.{AreLengths, AreServed, IsServed, LastIs, longest, nearest, rows_at, rows_of, rules_beside, rules_first, rules_first_beside, rules_of_first, with_keys}
+use Rattle.tbl_picture.specs.RulesWalked.{AreLengths, AreServed, LastIs, longest, nearest, rows_at, rows_of, rules_beside, rules_first, rules_first_beside, rules_of_first, with_keys}
 use Rattle.tbl_picture.specs.declared.walk.beside.Beside.{Beside}
 use Rattle.tbl_picture.specs.declared.walk.beside.Beside.TheVariants.{Nothing as NoRowBeside, Row as RowBeside}
 use Rattle.tbl_picture.specs.declared.walk.beside.Lengths.{Lengths}
@@ -19,14 +17,6 @@ served-drop formats [] zero all = tt
 served-drop formats [] (suc at) all = tt
 served-drop formats (e ∷ elements) zero all = all
 served-drop formats (e ∷ elements) (suc at) all = served-drop formats elements at all.1
-
-served-first : (formats : List FormatRow) (elements rest : List KeptElement) (e : KeptElement) → AreServed formats elements → elements ≡ e ∷ rest
-    → IsServed formats e
-served-first formats elements rest e all is = (subst (AreServed formats) is all).0
-
-pub served-at : (formats : List FormatRow) (elements rest : List KeptElement) (e : KeptElement) (at : ℕ) → AreServed formats elements
-    → drop at elements ≡ e ∷ rest → IsServed formats e
-served-at formats elements rest e at all is = served-first formats (drop at elements) rest e (served-drop formats elements at all) is
 
 -- the rows of rule keys in front of a row are those of its place
 rows-first : (formats : List FormatRow) (elements : List KeptElement) → rows_of formats (rules_first elements) ≡ rules_of_first formats elements
@@ -199,12 +189,6 @@ longest-behind formats first count lengths some within behind are last =
       last.2,
       longest-of formats first count lengths.last behind few (omega (arith, few, within)),
     )
-
--- some rows aren't none
-pub rows-there : (formats : List FormatRow) (first count : ℕ) → 0 < first → first + count ≤ length formats
-    → rows_at formats (first - 1) (count + 1) ≡ [] → ⊥
-rows-there formats first count some within is =
-    omega (arith, ap length is, some-rows formats (first - 1) (count + 1) (omega arith) (omega (arith, some, within)))
 
 -- the bars of rows of rule keys at an edge, with one row more
 edge-take : (boxing : Boxing) (formats : List FormatRow) (n column : ℕ) (line : Neighbour) → n < length formats

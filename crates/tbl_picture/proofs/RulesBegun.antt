@@ -1,7 +1,7 @@
 -- A line of rules begins: what is given of it, and what is left. The bars of its edges are the same for all lines of some rows of rule
 -- keys, and for a rule above them, as none of them is ruled there.
-use Rattle.std.proofs.Common.{◌≡◌, ℕ, zero, suc, ◌+◌, ◌-◌, ◌≤◌, ◌<◌, max, Bool, true, false, ◌&&◌, List, [], ◌∷◌, ◌++◌, length, drop, take, codes, replicate, Some, refl, sym, ap, ◌∙◌, arith, append_assoc, if◌then◌else◌, ◌==◌, ne_eqb}
-use Rattle.std.proofs.lemmas.List.{append-nil, drop_more, length-replicate}
+use Rattle.std.proofs.Common.{◌≡◌, ℕ, zero, suc, ◌+◌, ◌-◌, ◌≤◌, ◌<◌, max, Bool, true, false, ◌&&◌, List, [], ◌∷◌, ◌++◌, length, drop, take, codes, replicate, Some, refl, sym, ap, ◌∙◌, arith, append_assoc, if◌then◌else◌, ◌==◌, ne_eqb, append-nil}
+use Rattle.std.proofs.lemmas.List.{drop_more, length-replicate}
 use Rattle.input_source.specs.Bytes.{blank, newline}
 use Rattle.tbl_format.specs.Format.{FormatRow}
 use Rattle.tbl_format.specs.RowsServed.{no_keys, row_at}

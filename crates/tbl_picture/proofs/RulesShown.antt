@@ -1,7 +1,5 @@
 -- How many bars are seen through rows of rule keys, by how many keys these have.
-use Rattle.std.proofs.Common.{◌≡◌, ℕ, suc, ◌≤◌, max, Bool, true, false, List, [], ◌∷◌, length, Option, Some, None, refl, sym, ap, ◌∙◌, arith, if◌then◌else◌}
-use Rattle.std.specs.Prelude.{nat_lt}
-use Rattle.std.proofs.lemmas.Bool.{le-ltb, lt-ltb, ltb-false, ltb-true}
+use Rattle.std.proofs.Common.{◌≡◌, ℕ, suc, ◌≤◌, max, Bool, true, false, List, [], ◌∷◌, length, Option, Some, None, refl, sym, ap, ◌∙◌, arith, if◌then◌else◌, nat_lt, le-ltb, lt-ltb, ltb-false, ltb-true}
 use Rattle.tbl_format.specs.Format.{FormatRow}
 use Rattle.tbl_options.specs.declared.options.Boxing.{Boxing}
 use Rattle.tbl_layout.specs.Widths.{inner_bars}

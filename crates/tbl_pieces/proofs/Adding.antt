@@ -1,7 +1,6 @@
 -- Pieces that are added behind others.
-use Rattle.std.proofs.Common.{◌≡◌, ℕ, ◌+◌, ◌≤◌, Bool, true, false, List, [], ◌∷◌, ◌++◌, length, drop, refl, sym, ap, ◌∙◌, arith, append_assoc, length-append, if◌then◌else◌, ◌==◌}
-use Rattle.std.proofs.lemmas.Bool.{eqb-true}
-use Rattle.std.proofs.lemmas.List.{append-nil, drop-append-le}
+use Rattle.std.proofs.Common.{◌≡◌, ℕ, ◌+◌, ◌≤◌, Bool, true, false, List, [], ◌∷◌, ◌++◌, length, drop, refl, sym, ap, ◌∙◌, arith, append_assoc, length-append, if◌then◌else◌, ◌==◌, eqb-true, append-nil}
+use Rattle.std.proofs.lemmas.List.{drop-append-le}
 use Rattle.tbl_pieces.specs.PieceQueue.{Adds, AddsFitting, IsInFirst, KeptPieces, bytes_left, with_piece}
 use Rattle.tbl_pieces.specs.Pieces.{AreWithin, bytes_of, bytes_of_all, piece_len, some_piece}
 use Rattle.tbl_pieces.specs.declared.pieces.Piece.{Piece}

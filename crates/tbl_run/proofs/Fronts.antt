@@ -1,7 +1,7 @@
 -- Bytes that are put at once, as steps of the definition: each is one.
-use Rattle.std.proofs.Common.{◌≡◌, ◌∙◌, ◌⊎◌, ℕ, suc, ◌+◌, ◌-◌, ◌<◌, ◌≤◌, Bool, true, List, [], ◌∷◌, ◌++◌, length, map, take, drop, nat_lt, ap, append_assoc, append-nil, arith, inl, inr, length-append, length-take, refl, subst, sym, if◌then◌else◌}
+use Rattle.std.proofs.Common.{◌≡◌, ◌∙◌, ◌⊎◌, ℕ, suc, ◌+◌, ◌-◌, ◌<◌, ◌≤◌, Bool, true, List, [], ◌∷◌, ◌++◌, length, map, take, drop, nat_lt, ap, append_assoc, append-nil, arith, inl, inr, length-append, length-take, refl, subst, sym, if◌then◌else◌, take-append-drop}
 use Rattle.std.proofs.lemmas.Bool.Decides.{nat_tests}
-use Rattle.std.proofs.lemmas.List.{length-map, map-append, take-append-drop}
+use Rattle.std.proofs.lemmas.List.{length-map, map-append}
 use Rattle.std.specs.Io.KnownBytes.{Appends}
 use Rattle.roff_num.specs.declared.limit.Limit.TheVariants.{Output}
 use Rattle.page_bytes.proofs.Appending.{Appends-append}

@@ -1,6 +1,5 @@
 -- A whole line of the data has one message for each of its bytes at the most, where there is a column.
-use Rattle.std.proofs.Common.{◌≡◌, ℕ, suc, ◌+◌, ◌-◌, ◌≤◌, Bool, false, not, ◌&&◌, ◌||◌, List, [], ◌∷◌, ◌++◌, length, map, take, drop, Option, Some, None, refl, arith, length-append, length-drop, nat_lt, if◌then◌else◌}
-use Rattle.std.specs.Prelude.{is_some}
+use Rattle.std.proofs.Common.{◌≡◌, ℕ, suc, ◌+◌, ◌-◌, ◌≤◌, Bool, false, not, ◌&&◌, ◌||◌, List, [], ◌∷◌, ◌++◌, length, map, take, drop, Option, Some, None, refl, arith, length-append, length-drop, nat_lt, if◌then◌else◌, is_some}
 use Rattle.tbl_data.specs.DataRead.{behind_block, cells, field_notes, fields_with_block, item_notes, keyed, serving, surplus_notes, whole_line, with_block_line, with_fields, with_line, with_whole}
 use Rattle.tbl_data.proofs.FieldSteps.{content-of}
 use Rattle.tbl_data.specs.TableRead.{RowBegun, TableRead, columns, with_notes}

@@ -43,9 +43,6 @@ asked-wide change f wide some = omega (arith, wide some, length-asking change (c
 last-wide : (change : FormatKey → FormatKey) (f : Format) → HasColumns f → HasColumns (with_last change f)
 last-wide change f wide some = wide (omega (arith, some, length-last change f.row))
 
-pub Extends-refl : (f : Format) → Extends f f
-Extends-refl f = same-rows f f refl refl (λ wide. wide)
-
 Extends-behind : (f g h : Format) → Extends f g → Extends g h → Extends f h
 Extends-behind f g h first second = record {
   more = first.more ++ second.more;

@@ -1,7 +1,6 @@
 -- A line of the format has ended: the parts hold together, and give the table behind it.
-use Rattle.std.proofs.Common.{◌≡◌, ◌==◌, ℕ, ◌+◌, ◌-◌, ◌<◌, ◌≤◌, false, List, [], ◌∷◌, ◌++◌, length, map, drop, Option, None, refl, sym, ap, subst, ◌∙◌, arith, append-nil, length-append}
+use Rattle.std.proofs.Common.{◌≡◌, ◌==◌, ℕ, ◌+◌, ◌-◌, ◌<◌, ◌≤◌, false, List, [], ◌∷◌, ◌++◌, length, map, drop, Option, None, refl, sym, ap, subst, ◌∙◌, arith, append-nil, length-append, drop_at}
 use Rattle.std.proofs.lemmas.List.Elements.{All-nil}
-use Rattle.std.proofs.lemmas.List.{drop_at}
 use Rattle.std.specs.List.{slice_range}
 use Rattle.tbl_format.proofs.Parts.{slice_range-rest}
 use Rattle.tbl_format.proofs.RowsHeld.{read-held}

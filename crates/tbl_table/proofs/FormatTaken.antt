@@ -1,7 +1,6 @@
 -- What is kept of the data fits behind keys of the format, and gives the table behind them.
-use Rattle.std.proofs.Common.{◌≡◌, ℕ, ◌+◌, ◌-◌, ◌<◌, ◌≤◌, List, ◌++◌, length, map, drop, Option, None, refl, sym, ap, subst, ◌∙◌, arith, append_assoc, length-append}
-use Rattle.std.proofs.lemmas.List.{length-drop, length-replicate}
-use Rattle.std.specs.Prelude.{replicate}
+use Rattle.std.proofs.Common.{◌≡◌, ℕ, ◌+◌, ◌-◌, ◌<◌, ◌≤◌, List, ◌++◌, length, map, drop, Option, None, refl, sym, ap, subst, ◌∙◌, arith, append_assoc, length-append, length-drop, replicate}
+use Rattle.std.proofs.lemmas.List.{length-replicate}
 use Rattle.tbl_data.specs.TableData.{BadFits, DataFits, FitsBehind, FormatFits, OpenFits, begun_by, table_by}
 use Rattle.tbl_data.specs.TableRead.{RowBegun, TableRead}
 use Rattle.tbl_data.specs.declared.phase.Phase.{Phase}

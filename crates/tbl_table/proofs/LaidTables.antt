@@ -1,6 +1,5 @@
 -- A table that is laid out: its picture can be given, and no line follows.
-use Rattle.std.proofs.Common.{◌≡◌, ℕ, suc, ◌+◌, ◌<◌, ◌≤◌, min, List, [], ◌∷◌, ◌++◌, length, map, take, Option, Some, None, refl, sym, ap, subst, ◌∙◌, arith, append-nil, length-append}
-use Rattle.std.proofs.lemmas.List.{take_at}
+use Rattle.std.proofs.Common.{◌≡◌, ℕ, suc, ◌+◌, ◌<◌, ◌≤◌, min, List, [], ◌∷◌, ◌++◌, length, map, take, Option, Some, None, refl, sym, ap, subst, ◌∙◌, arith, append-nil, length-append, take_at}
 use Rattle.std.specs.List.{AllByRecursion}
 use Rattle.tbl_data.specs.TableData.{ElementEnds}
 use Rattle.tbl_data.specs.declared.phase.Phase.{Phase}

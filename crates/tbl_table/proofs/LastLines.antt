@@ -1,7 +1,6 @@
 -- The parts of a table whose last line has no newline.
-use Rattle.std.proofs.Common.{◌≡◌, ◌==◌, ℕ, suc, ◌+◌, ◌<◌, ◌≤◌, false, List, [], ◌∷◌, ◌++◌, length, take, drop, Option, Some, None, refl, sym, ap, subst, ◌∙◌, arith, append-nil, length-append}
+use Rattle.std.proofs.Common.{◌≡◌, ◌==◌, ℕ, suc, ◌+◌, ◌<◌, ◌≤◌, false, List, [], ◌∷◌, ◌++◌, length, take, drop, Option, Some, None, refl, sym, ap, subst, ◌∙◌, arith, append-nil, length-append, IfSome, unwrap_or}
 use Rattle.std.proofs.lemmas.List.Elements.{All-nil}
-use Rattle.std.specs.Prelude.{IfSome, unwrap_or}
 use Rattle.input_source.specs.Bytes.{newline}
 use Rattle.tbl_data.specs.TableData.{FormatFits}
 use Rattle.tbl_data.specs.TableRead.{TableRead, with_notes}

@@ -1,6 +1,6 @@
 -- A whole line of the data is done: the parts hold together, and give the table behind it.
-use Rattle.std.proofs.Common.{◌≡◌, ℕ, ◌+◌, ◌-◌, ◌<◌, ◌≤◌, ◌⊎◌, inl, inr, List, [], ◌∷◌, ◌++◌, length, map, take, drop, get_or, Option, Some, None, refl, sym, ap, subst, ◌∙◌, arith, append-nil, append_assoc, length-append}
-use Rattle.std.proofs.lemmas.List.{drop_at, length-map, take_at}
+use Rattle.std.proofs.Common.{◌≡◌, ℕ, ◌+◌, ◌-◌, ◌<◌, ◌≤◌, ◌⊎◌, inl, inr, List, [], ◌∷◌, ◌++◌, length, map, take, drop, get_or, Option, Some, None, refl, sym, ap, subst, ◌∙◌, arith, append-nil, append_assoc, length-append, drop_at, take_at}
+use Rattle.std.proofs.lemmas.List.{length-map}
 use Rattle.std.proofs.Math.Seq.{get_or-append_seam}
 use Rattle.std.proofs.Math.ListN.{get_or-append}
 use Rattle.std.specs.List.{slice_range, AllByRecursion}
@@ -28,7 +28,7 @@ use Rattle.tbl_layout.specs.Entries.{Content}
 use Rattle.tbl_layout.specs.KeptEntries.{content_of}
 use Rattle.tbl_layout.specs.declared.entry.Entry.{Entry}
 use Rattle.tbl_table.specs.Begun.{begun_in}
-use Rattle.tbl_table.specs.Kept.{DataReads, HasRooms, PartsFit, PhaseFits, block_open, data_read, kept_in, reading_of, row_open, table_of}
+use Rattle.tbl_table.specs.Kept.{DataReads, HasRooms, PartsFit, PhaseFits, block_open, data_read, kept_in, reading_of, table_of}
 use Rattle.tbl_table.specs.MayTell.{fault_may_come, line_may_tell}
 use Rattle.tbl_table.specs.Steps.{ended_with}
 use Rattle.tbl_table.specs.declared.begun.Begun.{Begun}
@@ -99,18 +99,6 @@ begun-open (Dropped had_surplus) contents = refl
 pub whole-most : (pending : Option Joined) (line : List ℕ) → length (behind_joined pending line) ≤ line_may_tell pending + length line
 whole-most None line = omega arith
 whole-most (Some j) line = omega (arith, length-append j.bytes line)
-
--- and fewer where a line goes on
-pub whole-less : (pending : Option Joined) (block : OpenBlock) (line : List ℕ)
-    → length (behind_joined pending line) + row_open pending NoBlock ≤ line_may_tell pending + length line
-whole-less None block line = omega arith
-whole-less (Some j) block line = omega (arith, length-append j.bytes line)
-
-pub row-open-most : (pending : Option Joined) (block : OpenBlock) → row_open pending block ≤ 1
-row-open-most None NoBlock = omega arith
-row-open-most None Kept = omega arith
-row-open-most None (Dropped had_surplus) = omega arith
-row-open-most (Some j) block = omega arith
 
 -- a further format is counted as the one before it
 counted-further : (l : TblLimits) (len : ℕ) (f : Format) → IsCounted l len f → IsCounted l len (further f)

@@ -1,6 +1,5 @@
 -- The rows and commands of a table behind a line, and the columns that count in it.
-use Rattle.std.proofs.Common.{◌≡◌, ℕ, suc, ◌+◌, ◌-◌, ◌≤◌, Bool, true, false, not, ◌&&◌, ◌||◌, List, [], ◌∷◌, ◌++◌, length, map, take, drop, Option, Some, None, refl, ap, arith, length-append, nat_lt, if◌then◌else◌}
-use Rattle.std.specs.Prelude.{is_some}
+use Rattle.std.proofs.Common.{◌≡◌, ℕ, suc, ◌+◌, ◌-◌, ◌≤◌, Bool, true, false, not, ◌&&◌, ◌||◌, List, [], ◌∷◌, ◌++◌, length, map, take, drop, Option, Some, None, refl, ap, arith, length-append, nat_lt, if◌then◌else◌, is_some}
 use Rattle.input_source.specs.Bytes.{newline}
 use Rattle.tbl_format.specs.Format.{format_read}
 use Rattle.tbl_options.specs.Options.{options_end}

@@ -1,6 +1,5 @@
 -- The parts of a table hold together in front of its first line, and behind more bytes of a line.
-use Rattle.std.proofs.Common.{◌≡◌, ◌==◌, ℕ, ◌+◌, ◌-◌, ◌<◌, ◌≤◌, All, true, false, List, [], ◌∷◌, ◌++◌, length, Option, Some, None, refl, sym, subst, ◌∙◌, arith, append_assoc, length-append}
-use Rattle.std.specs.Prelude.{is_some}
+use Rattle.std.proofs.Common.{◌≡◌, ◌==◌, ℕ, ◌+◌, ◌-◌, ◌<◌, ◌≤◌, All, true, false, List, [], ◌∷◌, ◌++◌, length, Option, Some, None, refl, sym, subst, ◌∙◌, arith, append_assoc, length-append, is_some}
 use Rattle.std.proofs.lemmas.List.Elements.{All-append, All-nil}
 use Rattle.input_escapes.specs.EscapeTexts.{KeptEscapes}
 use Rattle.input_source.specs.Bytes.{newline}
@@ -137,9 +136,6 @@ module _ (settled : List ℕ) (pending : Option Joined) (d : TableData) (to_tell
   telling-phase Bad none fits =
       record { alone = fits.alone; lies = fits.lies; fits = record { closed = fits.fits.closed; notes = fits.fits.notes } }
 
-no-note : {note : KeptNote} {rest : List KeptNote} → note ∷ rest ≡ [] → ⊥
-no-note is = absurd (cc)
-
 head-untold : (phase : Phase) (settled : List ℕ) (pending : Option Joined) (d : TableData) → PhaseFits phase settled pending d → phase ≡ AtHead
     → (d.notes.notes ≡ []) × (d.notes.to_tell ≡ [])
 head-untold phase settled pending d fits is =
@@ -177,17 +173,6 @@ module _ (l : TblLimits) (phase : Phase) (begun : Begun) (text : KeptText) (d : 
   tell-fits =
       telling-fits d.notes.notes d.escapes (notes-within phase text.settled text.pending d fits.by_phase)
       (λ is. (head-untold phase text.settled text.pending d fits.by_phase is).0)
-
-  -- one fewer
-  pub told-fits : (note : KeptNote) (rest : List KeptNote) → d.notes.to_tell ≡ note ∷ rest → PartsFit l phase begun text (telling rest d.escapes d)
-  told-fits note rest is =
-      telling-fits rest d.escapes (subst (λ (ns : List KeptNote). NotesWithin (length text.settled) ns) is fits.messages.telling).1
-      (λ head. absurd (no-note (sym is ∙ (head-untold phase text.settled text.pending d fits.by_phase head).1)))
-
-  -- those that were
-  pub escapes-fits : (escapes : KeptEscapes) → PartsFit l phase begun text (record d { escapes = escapes })
-  escapes-fits escapes =
-      telling-fits d.notes.to_tell escapes fits.messages.telling (λ is. (head-untold phase text.settled text.pending d fits.by_phase is).1)
 
   -- few keys are counted
   pub few-keys : FewKeys 4611686018427387904 (length text.line) begun

@@ -1,7 +1,6 @@
 -- The bars that lines show have their places.
-use Rattle.std.proofs.Common.{◌≡◌, ℕ, zero, suc, ◌+◌, ◌-◌, ◌<◌, ◌≤◌, max, nat_lt, Bool, true, false, ◌||◌, ◌==◌, List, [], ◌∷◌, ◌++◌, length, map, get_or, Option, None, Some, inl, inr, refl, sym, ap, ◌∙◌, arith, if◌then◌else◌}
-use Rattle.std.specs.Prelude.{is_some}
-use Rattle.std.proofs.lemmas.Bool.{cases_lt, eq-eqb, ne_eqb}
+use Rattle.std.proofs.Common.{◌≡◌, ℕ, zero, suc, ◌+◌, ◌-◌, ◌<◌, ◌≤◌, max, nat_lt, Bool, true, false, ◌||◌, ◌==◌, List, [], ◌∷◌, ◌++◌, length, map, get_or, Option, None, Some, inl, inr, refl, sym, ap, ◌∙◌, arith, if◌then◌else◌, is_some, eq-eqb, ne_eqb}
+use Rattle.std.proofs.lemmas.Bool.{cases_lt}
 use Rattle.std.proofs.lemmas.Bool.Decides.{nat_tests}
 use Rattle.std.proofs.lemmas.List.{length-map}
 use Rattle.tbl_format.specs.Cells.{AreCells, cell_behind, cell_from}
@@ -223,10 +222,6 @@ first-is (own ∷ cells) = refl
 first-found : (keys : List FormatKey) → cell_behind keys 0 ≡ Some 0
 first-found [] = refl
 first-found (k ∷ keys) = refl
-
-last-few : (t : Bool) (n : ℕ) → (if t then 0 else n) ≤ n
-last-few true n = omega arith
-last-few false n = omega arith
 
 -- those of a row
 module _ (s : Sheet) (format : FormatRow) (cells : List Left) (places : HasPlaces s.bars.front s.columns format)

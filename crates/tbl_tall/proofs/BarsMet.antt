@@ -1,7 +1,5 @@
 -- Bars that meet between two columns on a line of rules have their places there.
-use Rattle.std.proofs.Common.{◌≡◌, ℕ, zero, suc, ◌+◌, ◌≤◌, max, Bool, true, false, not, ◌||◌, ◌==◌, ◌<◌, List, [], ◌∷◌, drop, length, ap, subst, ◌∙◌, arith}
-use Rattle.std.proofs.lemmas.Bool.{ne_eqb}
-use Rattle.std.specs.Prelude.{if◌then◌else◌}
+use Rattle.std.proofs.Common.{◌≡◌, ℕ, zero, suc, ◌+◌, ◌≤◌, max, Bool, true, false, not, ◌||◌, ◌==◌, ◌<◌, List, [], ◌∷◌, drop, length, ap, subst, ◌∙◌, arith, ne_eqb, if◌then◌else◌}
 use Rattle.tbl_layout.specs.LayoutLaws.{AreBehind}
 use Rattle.tbl_layout.specs.Widths.{edge_bars, inner_bars}
 use Rattle.tbl_layout.specs.declared.bars.Bars.{Bars}

@@ -1,9 +1,7 @@
 -- Where what is without width in cells that begin with their row ends at the latest: the first cell behind it in which something stands.
-use Rattle.std.proofs.Common.{◌≡◌, ℕ, zero, suc, ◌+◌, ◌-◌, ◌<◌, ◌≤◌, min, Bool, true, false, not, ◌&&◌, List, [], ◌∷◌, ◌++◌, drop, length, refl, sym, ap, subst, ◌∙◌, arith}
+use Rattle.std.proofs.Common.{◌≡◌, ℕ, zero, suc, ◌+◌, ◌-◌, ◌<◌, ◌≤◌, min, Bool, true, false, not, ◌&&◌, List, [], ◌∷◌, ◌++◌, drop, length, refl, sym, ap, subst, ◌∙◌, arith, le-ltb, lt-ltb, if◌then◌else◌, nat_lt}
 use Rattle.std.proofs.Math.Nat.{min-eq_left}
 use Rattle.std.proofs.Math.Seq.{drop-nil}
-use Rattle.std.proofs.lemmas.Bool.{le-ltb, lt-ltb}
-use Rattle.std.specs.Prelude.{if◌then◌else◌, nat_lt}
 use Rattle.tbl_format.proofs.CellColumns.{columns_behind, columns_of-behind, end_behind, end_of-behind, start_behind, start_behind-next, start_behind-none}
 use Rattle.tbl_format.specs.Cells.{AreCells, end_of, start_of}
 use Rattle.tbl_format.specs.Format.{FormatRow, columns_of_keys}

@@ -1,9 +1,7 @@
 -- The keys of all cells of a row, one by one.
-use Rattle.std.proofs.Common.{◌≡◌, ℕ, zero, suc, ◌+◌, ◌-◌, ◌<◌, ◌≤◌, ◌==◌, Bool, true, false, List, [], ◌∷◌, ◌++◌, drop, get_or, length, map, refl, sym, ap, ◌∙◌, arith}
+use Rattle.std.proofs.Common.{◌≡◌, ℕ, zero, suc, ◌+◌, ◌-◌, ◌<◌, ◌≤◌, ◌==◌, Bool, true, false, List, [], ◌∷◌, ◌++◌, drop, get_or, length, map, refl, sym, ap, ◌∙◌, arith, ne_eqb, if◌then◌else◌}
 use Rattle.std.proofs.Math.Seq.{drop-append-add}
-use Rattle.std.proofs.lemmas.Bool.{ne_eqb}
 use Rattle.std.proofs.lemmas.List.{drop-append-le, length-map}
-use Rattle.std.specs.Prelude.{if◌then◌else◌}
 use Rattle.tbl_format.specs.Cells.{cell_count, end_of}
 use Rattle.tbl_format.specs.Format.{columns_of_keys, plain_key}
 use Rattle.tbl_format.specs.declared.format.FormatKey.{FormatKey}

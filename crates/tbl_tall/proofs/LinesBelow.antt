@@ -1,7 +1,5 @@
 -- How far a cell goes on below its row, row by row: the cell below goes up to the same column.
-use Rattle.std.proofs.Common.{◌≡◌, ℕ, zero, suc, ◌+◌, ◌<◌, ◌≤◌, ◌==◌, Bool, true, false, ◌&&◌, List, [], ◌∷◌, drop, refl, sym, ap, subst, ◌∙◌, arith}
-use Rattle.std.proofs.lemmas.Bool.{eqb-true}
-use Rattle.std.specs.Prelude.{if◌then◌else◌, IfSome, Option, None, Some, unwrap_or}
+use Rattle.std.proofs.Common.{◌≡◌, ℕ, zero, suc, ◌+◌, ◌<◌, ◌≤◌, ◌==◌, Bool, true, false, ◌&&◌, List, [], ◌∷◌, drop, refl, sym, ap, subst, ◌∙◌, arith, eqb-true, if◌then◌else◌, IfSome, Option, None, Some, unwrap_or}
 use Rattle.tbl_format.proofs.CellColumns.{end_behind, end_of-behind}
 use Rattle.tbl_format.specs.Cells.{AreCells, cell_behind, end_of, if_ends, start_of}
 use Rattle.tbl_format.specs.Format.{FormatRow}

@@ -1,6 +1,5 @@
 -- A line that is laid, lent as a row of one line.
-use Rattle.std.proofs.Common.{◌≡◌, ℕ, suc, ◌+◌, ◌-◌, List, [], ◌∷◌, drop, length, map, take, refl, sym, ap, subst, ◌∙◌, arith}
-use Rattle.std.specs.Prelude.{Some}
+use Rattle.std.proofs.Common.{◌≡◌, ℕ, suc, ◌+◌, ◌-◌, List, [], ◌∷◌, drop, length, map, take, refl, sym, ap, subst, ◌∙◌, arith, Some}
 use Rattle.tbl_format.proofs.CellColumns.{columns_behind, columns_of-behind}
 use Rattle.tbl_format.specs.Cells.{AreCells, by_cells}
 use Rattle.tbl_format.specs.Format.{columns_of_keys}

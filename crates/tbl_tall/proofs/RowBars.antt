@@ -1,6 +1,5 @@
 -- The bars that a line of a row shows, cell by cell.
-use Rattle.std.proofs.Common.{◌≡◌, ℕ, zero, suc, ◌-◌, ◌<◌, Bool, true, false, List, [], ◌∷◌, ◌++◌, length, map, get_or, replicate, Option, None, Some, refl, sym, ap, subst, ◌∙◌, arith, append_assoc, if◌then◌else◌}
-use Rattle.std.specs.Prelude.{is_some}
+use Rattle.std.proofs.Common.{◌≡◌, ℕ, zero, suc, ◌-◌, ◌<◌, Bool, true, false, List, [], ◌∷◌, ◌++◌, length, map, get_or, replicate, Option, None, Some, refl, sym, ap, subst, ◌∙◌, arith, append_assoc, if◌then◌else◌, is_some}
 use Rattle.std.proofs.lemmas.List.{length-map}
 use Rattle.tbl_format.specs.Cells.{AreCells, cell_behind}
 use Rattle.tbl_format.specs.Format.{columns_of_keys}

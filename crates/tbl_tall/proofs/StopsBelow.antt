@@ -1,7 +1,6 @@
 -- Where what is without width ends in front of what stands beside it below, row by row.
-use Rattle.std.proofs.Common.{◌≡◌, ℕ, zero, suc, ◌+◌, ◌≤◌, min, List, [], ◌∷◌, drop, length, refl, sym, ap, subst, ◌∙◌, arith}
+use Rattle.std.proofs.Common.{◌≡◌, ℕ, zero, suc, ◌+◌, ◌≤◌, min, List, [], ◌∷◌, drop, length, refl, sym, ap, subst, ◌∙◌, arith, if◌then◌else◌, Option, None, Some, is_some, unwrap_or}
 use Rattle.std.proofs.Math.Nat.{min-eq_left}
-use Rattle.std.specs.Prelude.{if◌then◌else◌, Option, None, Some, is_some, unwrap_or}
 use Rattle.tbl_format.specs.Cells.{end_of}
 use Rattle.tbl_format.specs.Format.{FormatRow}
 use Rattle.tbl_format.specs.FormatRows.{AreWithin}

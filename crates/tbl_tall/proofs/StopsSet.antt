@@ -1,7 +1,6 @@
 -- It is said of the cells of a row, from the last one on, where what is without width in them ends: they stay the same else.
-use Rattle.std.proofs.Common.{◌≡◌, ℕ, zero, suc, ◌+◌, ◌<◌, ◌≤◌, min, Bool, true, false, not, ◌&&◌, List, [], ◌∷◌, get_or, length, map, set, refl, sym, ap, subst, ◌∙◌, arith}
+use Rattle.std.proofs.Common.{◌≡◌, ℕ, zero, suc, ◌+◌, ◌<◌, ◌≤◌, min, Bool, true, false, not, ◌&&◌, List, [], ◌∷◌, get_or, length, map, set, refl, sym, ap, subst, ◌∙◌, arith, if◌then◌else◌, nat_lt}
 use Rattle.std.specs.List.{AllByRecursion}
-use Rattle.std.specs.Prelude.{if◌then◌else◌, nat_lt}
 use Rattle.tbl_format.proofs.CellColumns.{columns_behind}
 use Rattle.tbl_format.specs.Cells.{AreCells}
 use Rattle.tbl_format.specs.declared.format.FormatKey.{FormatKey}

@@ -1,9 +1,7 @@
 -- The lines of a block behind each other, and what each of them gives.
-use Rattle.std.proofs.Common.{◌≡◌, ◌==◌, ℕ, suc, ◌+◌, ◌-◌, ◌<◌, ◌≤◌, Bool, true, false, List, [], ◌∷◌, ◌++◌, length, take, drop, get_or, Option, Some, None, refl, sym, ap, ◌∙◌, arith, length-drop, if◌then◌else◌, map}
-use Rattle.std.specs.Prelude.{IfSome}
+use Rattle.std.proofs.Common.{◌≡◌, ◌==◌, ℕ, suc, ◌+◌, ◌-◌, ◌<◌, ◌≤◌, Bool, true, false, List, [], ◌∷◌, ◌++◌, length, take, drop, get_or, Option, Some, None, refl, sym, ap, ◌∙◌, arith, length-drop, if◌then◌else◌, map, IfSome, lt-ltb, le-ltb, drop-drop, get_or-take, length-take-le}
 use Rattle.std.specs.List.{slice_range}
-use Rattle.std.proofs.lemmas.Bool.{lt-ltb, le-ltb, false_from_ne_true}
-use Rattle.std.proofs.lemmas.List.{drop-drop, get_or-take, length-take-le}
+use Rattle.std.proofs.lemmas.Bool.{false_from_ne_true}
 use Rattle.std.proofs.lemmas.List.Elements.{All-from_get_or}
 use Rattle.std.proofs.lemmas.List.Splits.{slice_split_none, slice_split_at}
 use Rattle.std.proofs.lemmas.Slice.{between_is}
@@ -91,41 +89,6 @@ gapped bytes ends w false = refl
 pub word_at-joined : (bytes : List ℕ) (before : Option Bool) (w : BlockWord) → word_at bytes (joined_word before w) ≡ joined_to before (word_at bytes w)
 word_at-joined bytes None w = refl
 word_at-joined bytes (Some ends) w = gapped bytes ends w (w.gap == 0)
-
--- it lies where it lay
-gapped_lies : (bytes : List ℕ) (place : ℕ) (ends : Bool) (w : BlockWord) (none : Bool) → LiesBehind bytes place w
-    → LiesBehind bytes 0 (if none then record w { gap = if ends then 2 else 1 } else record w { breaks = true })
-gapped_lies bytes place true w true lies = record {
-  begins = omega arith;
-  order = lies.order;
-  last = lies.last;
-  some = omega (arith, lies.some);
-  within = lies.within;
-  gap = omega arith;
-  width = lies.width;
-}
-gapped_lies bytes place false w true lies = record {
-  begins = omega arith;
-  order = lies.order;
-  last = lies.last;
-  some = omega (arith, lies.some);
-  within = lies.within;
-  gap = omega arith;
-  width = lies.width;
-}
-gapped_lies bytes place ends w false lies = record {
-  begins = omega arith;
-  order = lies.order;
-  last = lies.last;
-  some = omega (arith, lies.some);
-  within = lies.within;
-  gap = lies.gap;
-  width = lies.width;
-}
-
-pub joined_lies : (bytes : List ℕ) (place : ℕ) (before : Option Bool) (w : BlockWord) → LiesBehind bytes place w → LiesBehind bytes 0 (joined_word before w)
-joined_lies bytes place None w lies = gapped_lies bytes place true w false lies
-joined_lies bytes place (Some ends) w lies = gapped_lies bytes place ends w (w.gap == 0) lies
 
 module _ (bytes : List ℕ) (from end : ℕ) (order : from ≤ end) (within : end ≤ length bytes) where
   len : length (take end bytes) ≡ end

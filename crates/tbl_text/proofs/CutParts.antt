@@ -1,6 +1,5 @@
 -- What is read of a line of a block in a room.
-use Rattle.std.proofs.Common.{◌≡◌, ℕ, ◌+◌, ◌-◌, Bool, true, false, List, [], ◌∷◌, map, refl, ap, ◌∙◌}
-use Rattle.std.specs.Prelude.{if◌then◌else◌, nat_lt}
+use Rattle.std.proofs.Common.{◌≡◌, ℕ, ◌+◌, ◌-◌, Bool, true, false, List, [], ◌∷◌, map, refl, ap, ◌∙◌, if◌then◌else◌, nat_lt}
 use Rattle.tbl_text.specs.BlockLines.{leading}
 use Rattle.tbl_text.specs.BlockPlaces.{IsWithin, ReadsAll, gap_in, left_at, parts_at, parts_within, place_within, word_at}
 use Rattle.tbl_text.specs.BlockWords.{OneWord, Part, Word}

@@ -1,6 +1,5 @@
 -- A block as far as it is filled.
-use Rattle.std.proofs.Common.{◌≡◌, ℕ, ◌+◌, ◌≤◌, Bool, true, false, ◌||◌, List, ◌∷◌, length, max, Option, Some, None, refl, sym, ap, ◌∙◌, arith}
-use Rattle.std.specs.Prelude.{IfSome}
+use Rattle.std.proofs.Common.{◌≡◌, ℕ, ◌+◌, ◌≤◌, Bool, true, false, ◌||◌, List, ◌∷◌, length, max, Option, Some, None, refl, sym, ap, ◌∙◌, arith, IfSome}
 use Rattle.tbl_text.specs.BlockWords.{Part}
 use Rattle.tbl_text.specs.BlockLines.{behind_first, first_line, has_word, line_width, lines_of, widest}
 use Rattle.tbl_text.specs.BlockPlaces.{GoesOn, IsWithin, PartLies, part_at, parts_at, parts_with}

@@ -1,7 +1,7 @@
 -- A word that is cut, by its place.
-use Rattle.std.proofs.Common.{◌≡◌, ℕ, ◌+◌, ◌-◌, ◌≤◌, List, [], ◌∷◌, map, take, drop, sym, ap, ◌∙◌, arith, length-take}
+use Rattle.std.proofs.Common.{◌≡◌, ℕ, ◌+◌, ◌-◌, ◌≤◌, List, [], ◌∷◌, map, take, drop, sym, ap, ◌∙◌, arith, length-take, take-take}
 use Rattle.std.specs.List.{slice_range}
-use Rattle.std.proofs.lemmas.List.{drop-take, take-take}
+use Rattle.std.proofs.lemmas.List.{drop-take}
 use Rattle.tbl_text.specs.BlockPlaces.{LiesBehind, word_at}
 use Rattle.tbl_text.specs.BlockWords.{Word, words_of}
 use Rattle.tbl_text.specs.Fitted.{fitting_len, fitting_text}

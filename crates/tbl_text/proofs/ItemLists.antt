@@ -1,7 +1,5 @@
 -- The items of a text: its first one and what is left, and of bytes that print themselves.
-use Rattle.std.proofs.Common.{◌≡◌, ℕ, zero, suc, ◌+◌, ◌≤◌, Bool, true, false, List, [], ◌∷◌, length, take, drop, refl, ap, ◌∙◌, arith, length-drop, length-take, eq-eqb}
-use Rattle.std.specs.Prelude.{◌==◌, fold, slice_index, if◌then◌else◌}
-use Rattle.std.proofs.lemmas.List.{length-take-le}
+use Rattle.std.proofs.Common.{◌≡◌, ℕ, zero, suc, ◌+◌, ◌≤◌, Bool, true, false, List, [], ◌∷◌, length, take, drop, refl, ap, ◌∙◌, arith, length-drop, length-take, eq-eqb, ◌==◌, fold, slice_index, if◌then◌else◌, length-take-le}
 use Rattle.input_source.specs.Bytes.{backslash}
 use Rattle.tbl_text.specs.Items.{Item, Reading, begun, byte_what, first_item, first_items, found_what, item_read, items, met, whole}
 use Rattle.tbl_text.proofs.ItemsRead.{IsWithin, met-within}

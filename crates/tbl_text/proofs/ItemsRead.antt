@@ -1,6 +1,5 @@
 -- An escape behind one byte more, and behind many.
-use Rattle.std.proofs.Common.{◌≡◌, ℕ, ◌+◌, ◌≤◌, Bool, true, false, List, [], ◌∷◌, length, refl, sym, ap, ◌∙◌, arith, rules}
-use Rattle.std.specs.Prelude.{◌==◌, None, Some, fold, if◌then◌else◌}
+use Rattle.std.proofs.Common.{◌≡◌, ℕ, ◌+◌, ◌≤◌, Bool, true, false, List, [], ◌∷◌, length, refl, sym, ap, ◌∙◌, arith, rules, ◌==◌, None, Some, fold, if◌then◌else◌}
 use Rattle.input_source.specs.Bytes.{is_dropped}
 use Rattle.input_escapes.specs.Nesting.{is_nothing}
 use Rattle.input_escapes.specs.OpenEscape.{OpenEscape, Reads}

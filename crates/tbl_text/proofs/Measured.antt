@@ -1,8 +1,7 @@
 -- A text is measured item by item.
-use Rattle.std.proofs.Common.{◌≡◌, ℕ, ◌+◌, ◌≤◌, Bool, true, false, List, [], ◌∷◌, ◌++◌, length, take, drop, map, refl, sym, ap, subst, ◌∙◌, arith, length-drop}
-use Rattle.std.specs.Prelude.{None, if◌then◌else◌}
+use Rattle.std.proofs.Common.{◌≡◌, ℕ, ◌+◌, ◌≤◌, Bool, true, false, List, [], ◌∷◌, ◌++◌, length, take, drop, map, refl, sym, ap, subst, ◌∙◌, arith, length-drop, None, if◌then◌else◌, drop-drop, length-take-le, take-append-drop}
 use Rattle.std.proofs.lemmas.List.Sums.{sum_by-cons}
-use Rattle.std.proofs.lemmas.List.{drop-drop, drop_all, length-take-le, take-append-drop}
+use Rattle.std.proofs.lemmas.List.{drop_all}
 use Rattle.tbl_text.specs.Items.{Item, columns, is_glyph, items}
 use Rattle.tbl_text.specs.Laws.{ArePlain, byte_item}
 use Rattle.tbl_text.specs.Measuring.{before_glyphs, len_of, text_measured, up_to_last_glyph, width_of}

@@ -1,8 +1,7 @@
 -- A number is measured item by item.
-use Rattle.std.proofs.Common.{◌≡◌, ℕ, ◌+◌, ◌≤◌, List, [], ◌∷◌, length, take, drop, refl, sym, ap, subst, ◌∙◌, arith, length-drop, get_or-take}
-use Rattle.std.specs.Prelude.{Option, Some, None, slice_index, if◌then◌else◌}
+use Rattle.std.proofs.Common.{◌≡◌, ℕ, ◌+◌, ◌≤◌, List, [], ◌∷◌, length, take, drop, refl, sym, ap, subst, ◌∙◌, arith, length-drop, get_or-take, Option, Some, None, slice_index, if◌then◌else◌, drop-drop, length-take-le}
 use Rattle.std.specs.Option.{option_or}
-use Rattle.std.proofs.lemmas.List.{drop-drop, drop_all, length-take-le}
+use Rattle.std.proofs.lemmas.List.{drop_all}
 use Rattle.std.proofs.lemmas.List.Sums.{sum_by-cons}
 use Rattle.tbl_text.specs.Items.{Item, columns, is_ampersand, is_glyph, items}
 use Rattle.tbl_text.specs.Measuring.{len_of, number_measured, split_of, text_measured, width_of, without_ampersand}

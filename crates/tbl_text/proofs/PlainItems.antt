@@ -1,8 +1,7 @@
 -- Bytes that print themselves are an item each.
-use Rattle.std.proofs.Common.{◌≡◌, ◌==◌, ℕ, ◌<◌, Bool, true, false, not, ◌&&◌, ◌||◌, List, [], ◌∷◌, ◌++◌, length, drop, map, refl, ap, ◌∙◌, arith, if◌then◌else◌}
-use Rattle.std.specs.Prelude.{nat_lt}
+use Rattle.std.proofs.Common.{◌≡◌, ◌==◌, ℕ, ◌<◌, Bool, true, false, not, ◌&&◌, ◌||◌, List, [], ◌∷◌, ◌++◌, length, drop, map, refl, ap, ◌∙◌, arith, if◌then◌else◌, nat_lt, ne_eqb, ltb-true, le-ltb}
 use Rattle.std.specs.List.{list_all}
-use Rattle.std.proofs.lemmas.Bool.{ne_eqb, ltb-true, lt-leb, le-ltb}
+use Rattle.std.proofs.lemmas.Bool.{lt-leb}
 use Rattle.roff_num.specs.Widths.{byte_width}
 use Rattle.input_source.specs.Bytes.{blank, tab, newline, backslash, is_dropped, is_silent}
 use Rattle.tbl_text.specs.Items.{Item, items, first_items, item_read, whole, begun, byte_what}

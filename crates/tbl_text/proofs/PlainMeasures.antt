@@ -1,6 +1,5 @@
 -- What plain text measures, by its bytes.
-use Rattle.std.proofs.Common.{◌≡◌, ℕ, Bool, true, false, List, [], ◌∷◌, length, map, refl, ap, ◌∙◌}
-use Rattle.std.specs.Prelude.{◌==◌, None, not, sum_by, if◌then◌else◌}
+use Rattle.std.proofs.Common.{◌≡◌, ℕ, Bool, true, false, List, [], ◌∷◌, length, map, refl, ap, ◌∙◌, ◌==◌, None, not, sum_by, if◌then◌else◌}
 use Rattle.roff_num.specs.Widths.{byte_width}
 use Rattle.input_source.specs.Bytes.{blank, is_text_byte}
 use Rattle.tbl_text.specs.Items.{items}

@@ -1,19 +1,17 @@
 -- Bytes that print themselves: what their items are and measure.
-use Rattle.std.proofs.Common.{◌≡◌, ℕ, zero, suc, ◌+◌, ◌-◌, ◌<◌, ◌≤◌, Bool, true, false, List, [], ◌∷◌, ◌++◌, length, take, map, get_or, refl, sym, ap, ◌∙◌, arith}
-use Rattle.std.specs.Prelude.{◌==◌, ◌||◌, nat_le, not, is_some, sum_by, take_while, if◌then◌else◌}
+use Rattle.std.proofs.Common.{◌≡◌, ℕ, zero, suc, ◌+◌, ◌-◌, ◌<◌, ◌≤◌, Bool, true, false, List, [], ◌∷◌, ◌++◌, length, take, map, get_or, refl, sym, ap, ◌∙◌, arith, ◌==◌, ◌||◌, nat_le, not, is_some, sum_by, take_while, if◌then◌else◌, eqb-true, length-take-le}
 use Rattle.std.specs.Str.{IsAscii}
 use Rattle.std.proofs.lemmas.Bool.Decides.{nat_tests}
-use Rattle.std.proofs.lemmas.Bool.{eqb-true}
-use Rattle.std.proofs.lemmas.List.{length-take-le, map-append, take_more}
+use Rattle.std.proofs.lemmas.List.{map-append, take_more}
 use Rattle.std.proofs.lemmas.List.Folds.{length-prefix_len}
-use Rattle.std.proofs.lemmas.List.Sums.{sum_by-append, sum_by-cons}
+use Rattle.std.proofs.lemmas.List.Sums.{sum_by-cons}
 use Rattle.roff_num.specs.Widths.{byte_width}
 use Rattle.input_source.specs.Bytes.{blank, is_dropped, is_silent, is_text_byte, tab}
 use Rattle.input_source.proofs.PlainBytes.{take_while-plain}
 use Rattle.tbl_text.specs.Items.{Item, byte_what, columns, is_glyph, note}
 use Rattle.tbl_text.specs.Laws.{ArePlain, byte_item}
 use Rattle.tbl_text.specs.Measuring.{before_glyphs, has_notes, len_of, up_to_last_glyph, width_of}
-use Rattle.tbl_text.specs.MeasuredSoFar.{behind_glyphs, is_ascii_text}
+use Rattle.tbl_text.specs.MeasuredSoFar.{behind_glyphs}
 use Rattle.tbl_text.specs.declared.items.What.{What}
 use Rattle.tbl_text.specs.declared.items.What.TheVariants.{Blank, Byte, Dropped, NotMeasured, Nothing}
 use Rattle.tbl_text.specs.declared.measure.Measuring.{Measuring}
@@ -77,25 +75,11 @@ byte_width-below b below =
     let no : nat_le 128 b ≡ false = grind (arith, nat_tests) in
     rw no refl
 
-ascii-below : (b : ℕ) → is_ascii_text b ≡ true → b < 128
-ascii-below b ascii = grind (arith, nat_tests)
-
 -- and so bytes of ASCII are as wide as they are many
 pub all_ascii-width : (bytes : List ℕ) → IsAscii bytes → sum_by byte_width bytes ≡ length bytes
 all_ascii-width [] ascii = refl
 all_ascii-width (b ∷ bytes) ascii =
     omega (arith, sum_by-cons byte_width b bytes, byte_width-below b (ascii 0), all_ascii-width bytes (λ i. ascii (suc i)))
-
--- one more of them is one column more
-pub ascii-more : (bytes : List ℕ) (n : ℕ) → n < length bytes → sum_by byte_width (take n bytes) ≡ n → is_ascii_text (get_or bytes n 0) ≡ true
-    → sum_by byte_width (take (n + 1) bytes) ≡ n + 1
-ascii-more bytes n inside front ascii =
-    let b : ℕ = get_or bytes n 0 in
-    ap (sum_by byte_width) (take_more bytes n 0 inside)
-    ∙ omega (arith, sum_by-append byte_width (take n bytes) (b ∷ []), sum_by-cons byte_width b [], byte_width-below b (ascii-below b ascii), front)
-
-pub ascii-text : (b : ℕ) → is_ascii_text b ≡ true → is_text_byte b ≡ true
-ascii-text b ascii = grind (arith, nat_tests)
 
 -- how many bytes they have
 pub plain-len : (bytes : List ℕ) → len_of (map byte_item bytes) ≡ length bytes

@@ -1,6 +1,5 @@
 -- Where a number splits, item by item.
-use Rattle.std.proofs.Common.{◌≡◌, ℕ, ◌+◌, Bool, true, false, List, [], ◌∷◌, length, refl, sym, ap, ◌∙◌, arith, ne_eqb}
-use Rattle.std.specs.Prelude.{◌==◌, ◌&&◌, ◌||◌, cond, not, filter, Option, Some, None, option_map, slice_index, if◌then◌else◌}
+use Rattle.std.proofs.Common.{◌≡◌, ℕ, ◌+◌, Bool, true, false, List, [], ◌∷◌, length, refl, sym, ap, ◌∙◌, arith, ne_eqb, ◌==◌, ◌&&◌, ◌||◌, cond, not, filter, Option, Some, None, option_map, slice_index, if◌then◌else◌}
 use Rattle.std.specs.Option.{option_or}
 use Rattle.std.proofs.lemmas.Bool.Decides.{nat_tests}
 use Rattle.input_source.specs.Bytes.{dot, is_digit, is_dropped}

@@ -1,7 +1,6 @@
 -- Where a number splits lies within it.
-use Rattle.std.proofs.Common.{◌≡◌, ℕ, ◌+◌, ◌≤◌, Bool, true, false, List, [], ◌∷◌, length, flat_map, refl, sym, ap, ◌∙◌, arith, length-append}
+use Rattle.std.proofs.Common.{◌≡◌, ℕ, ◌+◌, ◌≤◌, Bool, true, false, List, [], ◌∷◌, length, flat_map, refl, sym, ap, ◌∙◌, arith, length-append, IfSome, Option, Some, None, option_map, if◌then◌else◌}
 use Rattle.std.proofs.lemmas.List.Sums.{sum_by-cons}
-use Rattle.std.specs.Prelude.{IfSome, Option, Some, None, option_map, if◌then◌else◌}
 use Rattle.std.specs.Option.{option_or}
 use Rattle.tbl_text.specs.Items.{Item, columns, is_ampersand, items}
 use Rattle.tbl_text.specs.Measuring.{Place, SplitLies, is_before_ampersand, is_before_digit, is_before_dot, leftmost, len_of, measured, place_if, rightmost, split_around, split_before, split_behind, split_of, width_of, without_ampersand}

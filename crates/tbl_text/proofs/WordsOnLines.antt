@@ -1,6 +1,5 @@
 -- What a word does that comes next on a line.
-use Rattle.std.proofs.Common.{◌≡◌, ℕ, ◌+◌, Bool, true, false, List, ◌∷◌, take, drop, Some, None, refl, sym, ap, ◌∙◌, if◌then◌else◌}
-use Rattle.std.specs.Prelude.{nat_le}
+use Rattle.std.proofs.Common.{◌≡◌, ℕ, ◌+◌, Bool, true, false, List, ◌∷◌, take, drop, Some, None, refl, sym, ap, ◌∙◌, if◌then◌else◌, nat_le}
 use Rattle.tbl_text.specs.BlockWords.{OneWord}
 use Rattle.tbl_text.specs.BlockLines.{behind_rest, rest_of_line}
 use Rattle.tbl_text.specs.BlockPlaces.{parts_at, word_at}

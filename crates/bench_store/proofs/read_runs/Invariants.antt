@@ -1,5 +1,4 @@
-use Rattle.std.proofs.Common.{◌≡◌, ℕ, List, IsSome}
-use Rattle.std.specs.Prelude.{Option}
+use Rattle.std.proofs.Common.{◌≡◌, ℕ, List, IsSome, Option}
 use Rattle.roff_store.specs.Texts.{lease_of, rest_of}
 use Rattle.bench_store.proofs.read_runs.Given as goal
 

@@ -8,7 +8,7 @@ use Rattle.page_model.specs.Places.{has_line_glyph, input_place}
 use Rattle.page_model.specs.TabStops.{way_to_next}
 use Rattle.page_model.specs.Fitting.{word_text, line_text, line_indent}
 use Rattle.page_model.specs.Words.{is_empty, has_open_word, last_word_glyphs, ends_sentence, blanks, open_word, words, temporary_indent}
-use Rattle.page_model.specs.Lines.{Finished, pending_line, pending_length, pending_length as length_plainly, finished_in}
+use Rattle.page_model.specs.Lines.{Finished, pending_line, pending_length, pending_length as length_plainly}
 use Rattle.page_model.specs.Fields.{Field, Told, field_text, field_told, so_far, tab_told, told_plainly}
 use Rattle.page_model.specs.Behind.{finished}
 use Rattle.roff_lines.specs.Env.Kept.{Kept, KeptField, with_field_left}
@@ -71,10 +71,6 @@ Stands line_cap h k = StandsFor line_cap (told_plainly h) k
 -- whatever plain history the old environment stands for, the new one stands for it with one event more
 abbrev pub StandsPlainBehind : Kept → Event → Kept → Type 0
 StandsPlainBehind old e new = (line_cap : ℕ) (h : History) → StandsPlain line_cap h old → StandsPlain line_cap (e ∷ h) new
-
--- whatever plain history the old environment stands for, the event finishes this line behind it
-abbrev pub FinishesPlain : Kept → Event → Option Finished → Type 0
-FinishesPlain old e line = (line_cap : ℕ) (h : History) → StandsPlain line_cap h old → line ≡ finished_in h e
 
 -- what is told behind a tab, where no field was open in front of it
 abbrev pub behind_tab : History → Told

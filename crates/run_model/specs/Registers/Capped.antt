@@ -1,7 +1,7 @@
 -- Registers of which so many may have a name, beside titles of so many bytes.
 use Rattle.std.specs.Prelude.{ℕ, Bool, length, nat_lt, Result, Ok, Err, if◌then◌else◌}
 use Rattle.roff_num.specs.declared.limit.Limit.{Limit}
-use Rattle.roff_num.specs.declared.limit.Limit.TheVariants.{Line, Names}
+use Rattle.roff_num.specs.declared.limit.Limit.TheVariants.{Names}
 use Rattle.run_model.specs.Registers.{AllRegisters, Change, changed_by}
 use Rattle.run_model.specs.TitleTexts.{title_length}
 
@@ -30,10 +30,6 @@ after_change change r = if is_past_cap (with_change change r) then r else with_c
 -- whether a title that is read has more bytes than it may
 abbrev pub is_title_past : Capped → Bool
 is_title_past r = nat_lt r.line (title_length r.all.title)
-
--- what a change of such a title answers: a limit where it would have more
-abbrev pub title_admitted : Change → Capped → Result (Unit {0}) Limit
-title_admitted change r = if is_title_past (with_change change r) then Err Line else Ok tt
 
 -- the registers once it is asked for: where it isn't admitted they stay
 abbrev pub title_after : Change → Capped → Capped

@@ -1,5 +1,4 @@
-use Rattle.std.proofs.Common.{◌∙◌, ap, map}
-use Rattle.std.specs.Prelude.{fold}
+use Rattle.std.proofs.Common.{◌∙◌, ap, map, fold}
 use Rattle.std.proofs.lemmas.Result.{IfOk-weaker}
 use Rattle.clap.specs.Words.{App, with_rule}
 use Rattle.cli_words.specs.CommandLine.{limit_option, nroff_app, option_limits, with_start}

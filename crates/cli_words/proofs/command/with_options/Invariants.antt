@@ -1,5 +1,4 @@
-use Rattle.std.proofs.Common.{◌≡◌, map, take}
-use Rattle.std.specs.Prelude.{fold}
+use Rattle.std.proofs.Common.{◌≡◌, map, take, fold}
 use Rattle.clap.specs.Words.{app_of, with_rule}
 use Rattle.cli_words.specs.CommandLine.{limit_option}
 use Rattle.cli_words.proofs.command.with_options.Given as goal

@@ -1,5 +1,4 @@
-use Rattle.std.proofs.Common.{◌≡◌, rules, true}
-use Rattle.std.specs.Prelude.{Err}
+use Rattle.std.proofs.Common.{◌≡◌, rules, true, Err}
 use Rattle.cli_words.specs.PagesAsked.{are_digits}
 use Rattle.cli_words.proofs.PageLists.{page-parsed}
 use Rattle.cli_words.proofs.pages.read_number.Goals as goal

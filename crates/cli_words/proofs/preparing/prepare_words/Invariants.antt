@@ -1,5 +1,4 @@
-use Rattle.std.proofs.Common.{◌≡◌, false, ◌++◌, map, length}
-use Rattle.std.specs.Prelude.{string_bytes}
+use Rattle.std.proofs.Common.{◌≡◌, false, ◌++◌, map, length, string_bytes}
 use Rattle.cli_words.specs.Preparing.{words_prepared}
 use Rattle.cli_words.proofs.preparing.prepare_words.Given as goal
 

@@ -1,5 +1,4 @@
-use Rattle.std.proofs.Common.{◌≡◌, map, take}
-use Rattle.std.specs.Prelude.{fold}
+use Rattle.std.proofs.Common.{◌≡◌, map, take, fold}
 use Rattle.clap.specs.Words.{found_of, rows_of}
 use Rattle.roff_num.specs.Clauses.{default_limits, limits_with}
 use Rattle.cli_words.specs.CommandLine.{set_by}

@@ -1,5 +1,4 @@
-use Rattle.std.proofs.Common.{◌≡◌, map, take}
-use Rattle.std.specs.Prelude.{fold}
+use Rattle.std.proofs.Common.{◌≡◌, map, take, fold}
 use Rattle.clap.specs.Words.{found_of, rows_of}
 use Rattle.tbl_format.specs.TblLimits.{default_tbl_limits, tbl_limits_with}
 use Rattle.cli_words.specs.CommandLine.{set_by}

@@ -1,7 +1,6 @@
 use Rattle.std.proofs.lemmas.Int.{ints}
 use Rattle.std.proofs.lemmas.Grind.{common_steps}
-use Rattle.std.proofs.Common.{◌≡◌, ◌<◌, ◌+◌, ◌^◌, ℕ, List, arith, sym, ◌∙◌, ◌∷◌, ◌++◌, [], length, refl}
-use Rattle.std.specs.Prelude.{reverse}
+use Rattle.std.proofs.Common.{◌≡◌, ◌<◌, ◌+◌, ◌^◌, ℕ, List, arith, sym, ◌∙◌, ◌∷◌, ◌++◌, [], length, refl, reverse}
 use Rattle.input_model.specs.Input.{ends_ahead}
 use Rattle.input_ahead.specs.PushedTexts.Standing.{standing, items_of}
 use Rattle.input_ahead.specs.declared.pushed_texts.MarkAt.{MarkAt}

@@ -1,5 +1,4 @@
-use Rattle.std.proofs.Common.{◌≡◌, ◌+◌, ℕ, List, [], ◌∷◌, ◌++◌, length, length-append, ap, ◌∙◌, arith, append_assoc}
-use Rattle.std.specs.Prelude.{reverse}
+use Rattle.std.proofs.Common.{◌≡◌, ◌+◌, ℕ, List, [], ◌∷◌, ◌++◌, length, length-append, ap, ◌∙◌, arith, append_assoc, reverse}
 use Rattle.std.proofs.lemmas.List.{reverse-append}
 use Rattle.input_ahead.proofs.pushed_texts.put_few.Goals as goal
 

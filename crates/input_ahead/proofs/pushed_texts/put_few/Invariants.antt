@@ -1,5 +1,4 @@
-use Rattle.std.proofs.Common.{◌≡◌, ◌≤◌, ◌+◌, ◌++◌, length}
-use Rattle.std.specs.Prelude.{reverse, vec_len, vec_capacity}
+use Rattle.std.proofs.Common.{◌≡◌, ◌≤◌, ◌+◌, ◌++◌, length, reverse, vec_len, vec_capacity}
 use Rattle.input_ahead.proofs.pushed_texts.put_few.Given as goal
 
 abbrev pub invariant-loop-byte : goal.invariant-loop-byte

@@ -1,5 +1,4 @@
-use Rattle.std.proofs.Common.{◌≡◌, ◌≤◌, ◌+◌, ◌++◌, length, map}
-use Rattle.std.specs.Prelude.{reverse, vec_len, vec_capacity}
+use Rattle.std.proofs.Common.{◌≡◌, ◌≤◌, ◌+◌, ◌++◌, length, map, reverse, vec_len, vec_capacity}
 use Rattle.input_model.specs.Input.{FreeAhead}
 use Rattle.input_ahead.specs.PushedTexts.Standing.{standing, IsStacked}
 use Rattle.input_ahead.proofs.pushed_texts.put_frees.Given as goal

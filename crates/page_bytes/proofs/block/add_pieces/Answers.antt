@@ -1,5 +1,5 @@
-use Rattle.std.proofs.Common.{◌≡◌, ◌+◌, ◌-◌, ◌++◌, [], List, ℕ, length, take, replicate, arith, append_assoc, append-nil, refl, sym, ap, ◌∙◌, rules, vec_len}
-use Rattle.std.proofs.lemmas.List.{take_all, length-append, length-replicate}
+use Rattle.std.proofs.Common.{◌≡◌, ◌+◌, ◌-◌, ◌++◌, [], List, ℕ, length, take, replicate, arith, append_assoc, append-nil, refl, sym, ap, ◌∙◌, rules, vec_len, take_all, length-append}
+use Rattle.std.proofs.lemmas.List.{length-replicate}
 use Rattle.page_bytes.specs.LineBytes.Fronts.{Moves}
 use Rattle.page_bytes.proofs.block.add_pieces.Goals as goal
 

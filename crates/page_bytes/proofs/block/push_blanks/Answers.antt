@@ -1,5 +1,5 @@
-use Rattle.std.proofs.Common.{◌≡◌, ◌+◌, ◌-◌, ◌≤◌, ◌++◌, [], List, ℕ, length, take, replicate, append_assoc, append-nil, refl, sym, ap, subst, ◌∙◌, arith, rules, vec_len, vec_capacity}
-use Rattle.std.proofs.lemmas.List.{take_all, length-append, length-replicate, replicate-append-replicate}
+use Rattle.std.proofs.Common.{◌≡◌, ◌+◌, ◌-◌, ◌≤◌, ◌++◌, [], List, ℕ, length, take, replicate, append_assoc, append-nil, refl, sym, ap, subst, ◌∙◌, arith, rules, vec_len, vec_capacity, take_all, length-append}
+use Rattle.std.proofs.lemmas.List.{length-replicate, replicate-append-replicate}
 use Rattle.std.proofs.lemmas.Result.{err_from_is_err_and}
 use Rattle.page_model.specs.Columns.{spaces}
 use Rattle.page_bytes.specs.Sinks.{Sunk, Writes, Fails, HoldsBack}

@@ -1,5 +1,5 @@
-use Rattle.std.proofs.Common.{ℕ, replicate, arith}
-use Rattle.std.proofs.lemmas.List.{length-append, length-replicate}
+use Rattle.std.proofs.Common.{ℕ, replicate, arith, length-append}
+use Rattle.std.proofs.lemmas.List.{length-replicate}
 use Rattle.page_model.specs.Columns.{finished_of, printed}
 use Rattle.page_model.specs.Diverted.{diverted}
 use Rattle.page_bytes.proofs.diverted_text.diverted_text_len.Goals as goal

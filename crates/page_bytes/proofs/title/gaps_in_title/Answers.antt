@@ -1,5 +1,4 @@
-use Rattle.std.proofs.Common.{◌≡◌, ◌+◌, ◌-◌, List, ◌++◌, ℕ, slice_index_or, ap, ◌∙◌, arith}
-use Rattle.std.specs.Prelude.{if◌then◌else◌}
+use Rattle.std.proofs.Common.{◌≡◌, ◌+◌, ◌-◌, List, ◌++◌, ℕ, slice_index_or, ap, ◌∙◌, arith, if◌then◌else◌}
 use Rattle.page_model.specs.Glyphs.{text_width}
 use Rattle.page_model.specs.Columns.{spaces}
 use Rattle.page_model.specs.TitleColumns.{centre_column, right_column}

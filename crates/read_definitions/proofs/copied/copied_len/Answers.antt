@@ -1,5 +1,4 @@
-use Rattle.std.proofs.Common.{◌≡◌, List, ap, arith, drop, length, subst, take, ℕ}
-use Rattle.std.proofs.lemmas.List.{length-drop}
+use Rattle.std.proofs.Common.{◌≡◌, List, ap, arith, drop, length, subst, take, ℕ, length-drop}
 use Rattle.read_definitions.specs.CopiedLines.{Copies, NoneCopied}
 use Rattle.read_definitions.proofs.CopiedLines.{copies-more}
 use Rattle.read_definitions.proofs.copied.copied_len.Goals as goal

@@ -1,6 +1,4 @@
-use Rattle.std.proofs.Common.{Bool, ap, subst, sym, ◌∙◌}
-use Rattle.std.specs.Prelude.{◌&&◌, ◌==◌}
-use Rattle.std.proofs.lemmas.Bool.{eq-eqb, ne_eqb}
+use Rattle.std.proofs.Common.{Bool, ap, subst, sym, ◌∙◌, ◌&&◌, ◌==◌, eq-eqb, ne_eqb}
 use Rattle.read_definitions.specs.CopiedLines.{CopiesSome}
 use Rattle.read_definitions.proofs.CopiedLines.{copies-backslash, copies-dot, copies-none, copies-space, copies-text}
 use Rattle.read_definitions.proofs.copied.part_len.Goals as goal

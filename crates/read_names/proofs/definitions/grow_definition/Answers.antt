@@ -1,5 +1,4 @@
-use Rattle.std.proofs.Common.{◌≡◌, ℕ, List, ◌++◌, true, rules, subst}
-use Rattle.std.specs.Prelude.{is_some}
+use Rattle.std.proofs.Common.{◌≡◌, ℕ, List, ◌++◌, true, rules, subst, is_some}
 use Rattle.input_escapes.specs.OpenEscape.{unit_bytes}
 use Rattle.input_model.specs.Input.Names.{adding}
 use Rattle.input_model.specs.Unread.{changing}

@@ -1,5 +1,4 @@
-use Rattle.std.proofs.Common.{◌≡◌, ◌∙◌, Some, None, Result, ap, arith, length, rules, sym}
-use Rattle.std.specs.Prelude.{slice_get}
+use Rattle.std.proofs.Common.{◌≡◌, ◌∙◌, Some, None, Result, ap, arith, length, rules, sym, slice_get}
 use Rattle.std.proofs.lemmas.Option.{slice_get-get_or}
 use Rattle.roff_num.specs.declared.limit.Limit.{Limit}
 use Rattle.run_model.specs.Reading.Items.{PageUnread}

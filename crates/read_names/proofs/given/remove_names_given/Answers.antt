@@ -1,5 +1,4 @@
-use Rattle.std.proofs.Common.{◌≡◌, ◌∙◌, ℕ, List, Some, None, ap, slice_get, sym, refl}
-use Rattle.std.specs.Prelude.{reverse}
+use Rattle.std.proofs.Common.{◌≡◌, ◌∙◌, ℕ, List, Some, None, ap, slice_get, sym, refl, reverse}
 use Rattle.read_names.specs.NamesGiven.{name_in}
 use Rattle.read_names.proofs.RemovedNames.{texts_stay, without_none, without_one}
 use Rattle.read_names.proofs.given.remove_names_given.Goals.{in-Some, in_default}

@@ -1,5 +1,4 @@
-use Rattle.std.proofs.Common.{◌≡◌, List, [], ℕ, rules, subst}
-use Rattle.std.specs.Prelude.{option_map}
+use Rattle.std.proofs.Common.{◌≡◌, List, [], ℕ, rules, subst, option_map}
 use Rattle.input_model.specs.Input.Names.{calling}
 use Rattle.input_model.specs.Unread.{changing}
 use Rattle.roff_store.specs.Named.{entry_of}

@@ -1,5 +1,4 @@
-use Rattle.std.proofs.Common.{◌∙◌, List, [], ◌∷◌, Ok, ap, refl, subst}
-use Rattle.std.specs.Prelude.{ℕ, pos, take}
+use Rattle.std.proofs.Common.{◌∙◌, List, [], ◌∷◌, Ok, ap, refl, subst, ℕ, pos, take}
 use Rattle.std.specs.Option.{option_to_list}
 use Rattle.read_registers.specs.declared.lasting.Change.TheVariants.{SetTo}
 use Rattle.read_requests.specs.declared.requests.effects.Changes.TheVariants.{One}

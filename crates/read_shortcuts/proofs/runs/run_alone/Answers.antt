@@ -1,5 +1,4 @@
-use Rattle.std.proofs.Common.{List, ◌∙◌, subst, sym}
-use Rattle.std.specs.Prelude.{IfSome}
+use Rattle.std.proofs.Common.{List, ◌∙◌, subst, sym, IfSome}
 use Rattle.input_escapes.specs.OpenEscape.{OpenEscape}
 use Rattle.run_model.specs.declared.line_state.LineState.{LineState}
 use Rattle.run_model.specs.declared.line_state.LineState.TheVariants.{Collecting}

@@ -1,6 +1,5 @@
-use Rattle.std.proofs.Common.{◌≡◌, ◌∙◌, true, false, Ok, ap, rules, sym}
+use Rattle.std.proofs.Common.{◌≡◌, ◌∙◌, true, false, Ok, ap, rules, sym, eq-eqb}
 use Rattle.run_model.specs.Events.Steps.{events_of, messages_of}
-use Rattle.std.proofs.lemmas.Bool.{eq-eqb}
 use Rattle.run_model.specs.Reading.{title_read, undropped_taking}
 use Rattle.run_model.specs.Reading.Beginnings.{first_taking}
 use Rattle.run_model.specs.Reading.Items.{meaning_events}

@@ -1,5 +1,4 @@
-use Rattle.std.proofs.Common.{◌∙◌, true, false, Ok, sym, subst}
-use Rattle.std.proofs.lemmas.Bool.{eq-eqb}
+use Rattle.std.proofs.Common.{◌∙◌, true, false, Ok, sym, subst, eq-eqb}
 use Rattle.input_escapes.specs.OpenEscapes.{byte_read}
 use Rattle.read_lines.specs.Reader.Taken.{TakesAs}
 use Rattle.run_model.specs.Reading.{title_read, undropped_taking}

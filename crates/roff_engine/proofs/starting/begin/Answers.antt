@@ -1,5 +1,4 @@
-use Rattle.std.proofs.Common.{List, subst}
-use Rattle.std.specs.Prelude.{ℕ}
+use Rattle.std.proofs.Common.{List, subst, ℕ}
 use Rattle.roff_num.specs.declared.num.Num.{Num}
 use Rattle.roff_engine.specs.Starting.{Begins, IsRefused}
 use Rattle.roff_engine.proofs.RegistersGiven.{begin_refused}

@@ -1,6 +1,5 @@
-use Rattle.std.proofs.Common.{◌≡◌, ℕ, zero, suc, ◌+◌, ◌-◌, ◌<◌, ◌≤◌, false, List, [], ◌∷◌, ◌++◌, length, take, replicate, slice_set, refl, sym, ap, subst, ◌∙◌, arith, append_assoc, ne_eqb}
-use Rattle.std.specs.Prelude.{◌==◌}
-use Rattle.std.proofs.lemmas.List.{length-set, take_more_set}
+use Rattle.std.proofs.Common.{◌≡◌, ℕ, zero, suc, ◌+◌, ◌-◌, ◌<◌, ◌≤◌, false, List, [], ◌∷◌, ◌++◌, length, take, replicate, slice_set, refl, sym, ap, subst, ◌∙◌, arith, append_assoc, ne_eqb, ◌==◌, length-set}
+use Rattle.std.proofs.lemmas.List.{take_more_set}
 use Rattle.roff_lines.specs.Clauses.{gap_text}
 use Rattle.roff_lines.proofs.copying.put_gap.Goals as goal
 

@@ -1,7 +1,6 @@
 use Rattle.std.proofs.lemmas.Grind.{common_steps}
 use Rattle.std.proofs.lemmas.Int.{ints}
-use Rattle.std.proofs.Common.{◌-◌, ◌^◌, ◌∷◌, ◌++◌, [], ap, sym, subst, ◌∙◌, min, arith}
-use Rattle.std.proofs.lemmas.List.{length-append}
+use Rattle.std.proofs.Common.{◌-◌, ◌^◌, ◌∷◌, ◌++◌, [], ap, sym, subst, ◌∙◌, min, arith, length-append}
 use Rattle.std.specs.Iterator.{Yields}
 use Rattle.roff_lines.proofs.FirstLine.{Yields-more, first_line_count-cut, first_line_count-all}
 use Rattle.roff_lines.proofs.fill.fill_words.Goals as goal

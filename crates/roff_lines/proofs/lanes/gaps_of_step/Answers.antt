@@ -1,7 +1,5 @@
-use Rattle.std.proofs.Common.{◌+◌, ℕ, drop, take, List, arith, ap, ◌∙◌, sym}
-use Rattle.std.proofs.lemmas.List.{length-take}
+use Rattle.std.proofs.Common.{◌+◌, ℕ, drop, take, List, arith, ap, ◌∙◌, sym, length-take, ◌==◌}
 use Rattle.std.proofs.lemmas.List.Sums.{count_by-le-length}
-use Rattle.std.specs.Prelude.{◌==◌}
 use Rattle.page_model.specs.Glyphs.{gap_blank, gaps_in}
 use Rattle.roff_lines.proofs.Steps.{gaps_in-take_add, ones-front}
 use Rattle.roff_lines.proofs.lanes.gaps_of_step.Goals as goal

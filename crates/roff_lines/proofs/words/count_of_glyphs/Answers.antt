@@ -1,9 +1,8 @@
 use Rattle.std.proofs.lemmas.Grind.{common_steps}
 use Rattle.std.proofs.lemmas.Int.{ints}
-use Rattle.std.proofs.Common.{◌<◌, length, arith}
+use Rattle.std.proofs.Common.{◌<◌, length, arith, nat_lt}
 use Rattle.std.proofs.lemmas.List.Sums.{prefix_len-le-length}
 use Rattle.std.proofs.lemmas.Simd.{length-chunk}
-use Rattle.std.specs.Prelude.{nat_lt}
 use Rattle.std.specs.Simd.Lanes.{chunk}
 use Rattle.roff_lines.proofs.GlyphsInFront.{glyphs_in_front-more, glyphs_in_front-step}
 use Rattle.roff_lines.proofs.words.count_of_glyphs.Goals as goal

@@ -1,7 +1,7 @@
 use Rattle.std.proofs.lemmas.Grind.{elements}
 use Rattle.std.proofs.lemmas.Int.{ints}
-use Rattle.std.proofs.Common.{arith, ◌≡◌, ◌^◌, ◌<◌, ◌≤◌, zero, min, take, length, ◌++◌, ap, ◌∙◌, refl}
-use Rattle.std.proofs.lemmas.List.{take_min, length-take}
+use Rattle.std.proofs.Common.{arith, ◌≡◌, ◌^◌, ◌<◌, ◌≤◌, zero, min, take, length, ◌++◌, ap, ◌∙◌, refl, length-take}
+use Rattle.std.proofs.lemmas.List.{take_min}
 use Rattle.std.specs.Str.Parse.{digits_value, digits_value_after}
 use Rattle.std.proofs.Math.Nat.{one-le-pow, mul-pos}
 use Rattle.roff_num.proofs.Digits.{digits_value-capped}

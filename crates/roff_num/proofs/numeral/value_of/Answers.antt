@@ -1,5 +1,4 @@
-use Rattle.std.proofs.Common.{arith, ℕ, ◌++◌, ◌^◌, ◌≤◌, ◌<◌, zero, min, take, length, ap, ◌∙◌}
-use Rattle.std.specs.Prelude.{pos}
+use Rattle.std.proofs.Common.{arith, ℕ, ◌++◌, ◌^◌, ◌≤◌, ◌<◌, zero, min, take, length, ap, ◌∙◌, pos}
 use Rattle.std.specs.Str.Parse.{digits_value}
 use Rattle.std.proofs.Math.Nat.{one-le-pow, pow-le-pow_right}
 use Rattle.roff_num.specs.Ranges.{in_range, signed}

@@ -1,5 +1,4 @@
-use Rattle.std.proofs.Common.{◌≡◌, length}
-use Rattle.std.specs.Prelude.{◌||◌}
+use Rattle.std.proofs.Common.{◌≡◌, length, ◌||◌}
 use Rattle.std.specs.List.{list_any}
 use Rattle.page_model.specs.Turning.{is_given}
 use Rattle.roff_pages.proofs.traps.is_any_given.Given as goal

@@ -1,5 +1,4 @@
-use Rattle.std.proofs.Common.{◌≡◌, ℕ, ℤ, List, [], ◌∷◌, ◌++◌, length, set, ap, ◌∙◌, arith, rules, w32, to_z, of_z}
-use Rattle.std.proofs.lemmas.List.{length-append, length-set}
+use Rattle.std.proofs.Common.{◌≡◌, ℕ, ℤ, List, [], ◌∷◌, ◌++◌, length, set, ap, ◌∙◌, arith, rules, w32, to_z, of_z, length-append, length-set}
 use Rattle.std.proofs.lemmas.Int.{ints}
 use Rattle.page_model.specs.declared.trap.Trap.{Trap}
 use Rattle.page_model.specs.Turning.{is_given, with_trap}

@@ -1,5 +1,4 @@
-use Rattle.std.proofs.Common.{Bool, not, ap, ◌∙◌}
-use Rattle.std.specs.Prelude.{if◌then◌else◌}
+use Rattle.std.proofs.Common.{Bool, not, ap, ◌∙◌, if◌then◌else◌}
 use Rattle.run_state.proofs.OddPages.{odd_as_asked}
 use Rattle.run_state.proofs.conditions.is_so.Goals as goal
 

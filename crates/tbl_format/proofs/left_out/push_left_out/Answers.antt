@@ -1,5 +1,5 @@
-use Rattle.std.proofs.Common.{◌≡◌, ◌+◌, ◌++◌, ℕ, Option, List, [], map, sym, ap, subst, take, drop, ◌∙◌, append-nil, arith}
-use Rattle.std.proofs.lemmas.List.{drop_all, length-take-le}
+use Rattle.std.proofs.Common.{◌≡◌, ◌+◌, ◌++◌, ℕ, Option, List, [], map, sym, ap, subst, take, drop, ◌∙◌, append-nil, arith, length-take-le}
+use Rattle.std.proofs.lemmas.List.{drop_all}
 use Rattle.tbl_format.specs.Format.{Format, format_read, if_letter, left_out_behind}
 use Rattle.tbl_format.specs.KeyCounts.{Counts, IsCount}
 use Rattle.tbl_options.specs.Notes.{left_out_note}

@@ -1,5 +1,4 @@
-use Rattle.std.proofs.Common.{◌≡◌, ◌++◌, ℕ, Bool, true, false, List, [], ◌∷◌, ap, subst, arith, ◌==◌, if◌then◌else◌}
-use Rattle.std.proofs.lemmas.Bool.{ne_eqb}
+use Rattle.std.proofs.Common.{◌≡◌, ◌++◌, ℕ, Bool, true, false, List, [], ◌∷◌, ap, subst, arith, ◌==◌, if◌then◌else◌, ne_eqb}
 use Rattle.tbl_format.specs.RowsServed.{all_rows}
 use Rattle.tbl_giving.proofs.CutsAtElements.{whole-can}
 use Rattle.tbl_giving.proofs.cuts.cut_on_frame.Goals as goal

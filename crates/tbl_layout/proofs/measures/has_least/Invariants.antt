@@ -1,5 +1,4 @@
-use Rattle.std.proofs.Common.{◌≡◌, drop}
-use Rattle.std.specs.Prelude.{is_some}
+use Rattle.std.proofs.Common.{◌≡◌, drop, is_some}
 use Rattle.std.specs.List.{list_any}
 use Rattle.tbl_format.specs.declared.format.Asked.{Asked}
 use Rattle.tbl_layout.proofs.measures.has_least.Given as goal

@@ -1,5 +1,4 @@
-use Rattle.std.proofs.Common.{◌≡◌, ℕ, suc, ◌-◌, ◌<◌, drop, length, sym, ap, ◌∙◌, arith}
-use Rattle.std.specs.Prelude.{is_some}
+use Rattle.std.proofs.Common.{◌≡◌, ℕ, suc, ◌-◌, ◌<◌, drop, length, sym, ap, ◌∙◌, arith, is_some}
 use Rattle.tbl_layout.specs.KeptEntries.{no_entry, said_by_key}
 use Rattle.tbl_layout.specs.RuleKeys.{under_keys}
 use Rattle.tbl_layout.proofs.UnderKeys.{filled-last, filled-none}

@@ -1,5 +1,4 @@
-use Rattle.std.proofs.Common.{◌≡◌, ◌+◌, ◌-◌, ◌++◌, false, length, replicate}
-use Rattle.std.specs.Prelude.{vec_capacity}
+use Rattle.std.proofs.Common.{◌≡◌, ◌+◌, ◌-◌, ◌++◌, false, length, replicate, vec_capacity}
 use Rattle.tbl_line_cells.proofs.running.fill_false.Given as goal
 
 abbrev pub invariant-loop-at : goal.invariant-loop-at

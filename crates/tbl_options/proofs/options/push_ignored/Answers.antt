@@ -1,5 +1,4 @@
-use Rattle.std.proofs.Common.{◌++◌, ℕ, List, false, map, sym, ap, ◌∙◌, arith}
-use Rattle.std.specs.Prelude.{slice_range}
+use Rattle.std.proofs.Common.{◌++◌, ℕ, List, false, map, sym, ap, ◌∙◌, arith, slice_range}
 use Rattle.tbl_options.specs.Notes.{ignored_message, told_at, told_of_all}
 use Rattle.tbl_options.specs.Options.{ignored_of, options_of, words_behind}
 use Rattle.tbl_options.proofs.Words.{empty-part, told-end, told-other, told-separator}

@@ -1,5 +1,4 @@
-use Rattle.std.proofs.Common.{◌≡◌, ◌+◌, ◌-◌, ◌≤◌, ◌++◌, length, map, vec_len, vec_capacity}
-use Rattle.std.specs.Prelude.{slice_range}
+use Rattle.std.proofs.Common.{◌≡◌, ◌+◌, ◌-◌, ◌≤◌, ◌++◌, length, map, vec_len, vec_capacity, slice_range}
 use Rattle.tbl_options.specs.Notes.{NotesWithin, ignored_message, told_at, told_of_all}
 use Rattle.tbl_options.specs.Options.{ignored_of, ignored_options, options_of, words_behind}
 use Rattle.tbl_options.specs.OptionWords.{IsHeld}

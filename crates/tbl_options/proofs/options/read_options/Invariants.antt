@@ -1,5 +1,4 @@
-use Rattle.std.proofs.Common.{◌≡◌, ◌≤◌, ◌++◌, length, drop, fold}
-use Rattle.std.specs.Prelude.{slice_range}
+use Rattle.std.proofs.Common.{◌≡◌, ◌≤◌, ◌++◌, length, drop, fold, slice_range}
 use Rattle.tbl_options.specs.Options.{options_of, options_read, with_said, words_behind}
 use Rattle.tbl_options.specs.OptionWords.{IsHeld}
 use Rattle.tbl_options.proofs.Words.{held_words}

@@ -1,5 +1,4 @@
-use Rattle.std.proofs.Common.{rules, ◌≡◌, ◌-◌, length}
-use Rattle.std.specs.Prelude.{slice_get, Some}
+use Rattle.std.proofs.Common.{rules, ◌≡◌, ◌-◌, length, slice_get, Some}
 use Rattle.tbl_kept.proofs.TextBlocks.{goes_on-get}
 use Rattle.tbl_table.proofs.table_steps.goes_on.Goals as goal
 

@@ -1,6 +1,5 @@
-use Rattle.std.proofs.Common.{◌≡◌, ℕ, ◌<◌, ◌≤◌, suc, false, ap, [], ◌∷◌, drop, length, List, sym, subst, ◌∙◌, arith, length-append}
+use Rattle.std.proofs.Common.{◌≡◌, ℕ, ◌<◌, ◌≤◌, suc, false, ap, [], ◌∷◌, drop, length, List, sym, subst, ◌∙◌, arith, length-append, Option, vec_capacity}
 use Rattle.std.specs.List.{AllByRecursion}
-use Rattle.std.specs.Prelude.{Option, vec_capacity}
 use Rattle.tbl_format.proofs.CellColumns.{cell-within}
 use Rattle.tbl_format.specs.Cells.{cell_count}
 use Rattle.tbl_format.specs.FormatRows.{AreWithin}

@@ -1,6 +1,4 @@
-use Rattle.std.proofs.Common.{◌≡◌, ℕ, ◌-◌, ◌==◌, Bool, length, ap, sym, ◌∙◌, arith}
-use Rattle.std.proofs.lemmas.Bool.{eq-eqb, ne_eqb}
-use Rattle.std.specs.Prelude.{if◌then◌else◌}
+use Rattle.std.proofs.Common.{◌≡◌, ℕ, ◌-◌, ◌==◌, Bool, length, ap, sym, ◌∙◌, arith, eq-eqb, ne_eqb, if◌then◌else◌}
 use Rattle.tbl_tall.proofs.KeysOf.{key-made, key-read}
 use Rattle.tbl_tall.proofs.next_cells.key_of.Goals as goal
 use Rattle.tbl_tall.proofs.next_cells.key_of.Goals.{else-cell-keys, then-cell-keys}

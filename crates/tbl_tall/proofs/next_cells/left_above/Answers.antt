@@ -1,6 +1,5 @@
-use Rattle.std.proofs.Common.{◌≡◌, ℕ, false, sym, ap, subst, ◌∙◌, Some}
+use Rattle.std.proofs.Common.{◌≡◌, ℕ, false, sym, ap, subst, ◌∙◌, Some, Option}
 use Rattle.std.specs.Option.{MatchOption}
-use Rattle.std.specs.Prelude.{Option}
 use Rattle.tbl_format.specs.RowsServed.{all_rows}
 use Rattle.tbl_kept.specs.KeptHeights.{field_kept}
 use Rattle.tbl_kept.specs.RowsLaying.{element_at, goes_on}

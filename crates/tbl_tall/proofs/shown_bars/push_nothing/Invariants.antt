@@ -1,5 +1,4 @@
-use Rattle.std.proofs.Common.{◌≡◌, ◌+◌, ◌-◌, ◌++◌, length, replicate}
-use Rattle.std.specs.Prelude.{vec_capacity}
+use Rattle.std.proofs.Common.{◌≡◌, ◌+◌, ◌-◌, ◌++◌, length, replicate, vec_capacity}
 use Rattle.tbl_tall.proofs.shown_bars.push_nothing.Given as goal
 
 abbrev pub invariant-loop-at : goal.invariant-loop-at

@@ -1,5 +1,4 @@
-use Rattle.std.proofs.Common.{◌≡◌, ◌++◌, List, drop, length, ℕ}
-use Rattle.std.specs.Prelude.{vec_capacity}
+use Rattle.std.proofs.Common.{◌≡◌, ◌++◌, List, drop, length, ℕ, vec_capacity}
 use Rattle.tbl_format.specs.Cells.{AreCells}
 use Rattle.tbl_format.specs.Format.{columns_of_keys}
 use Rattle.tbl_format.proofs.CellColumns.{columns_behind}

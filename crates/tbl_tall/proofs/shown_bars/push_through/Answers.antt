@@ -1,5 +1,4 @@
-use Rattle.std.proofs.Common.{◌≡◌, ℕ, ◌+◌, ◌-◌, ◌++◌, List, drop, get_or, length, replicate, Option, refl, sym, ap, ◌∙◌}
-use Rattle.std.specs.Prelude.{vec_capacity}
+use Rattle.std.proofs.Common.{◌≡◌, ℕ, ◌+◌, ◌-◌, ◌++◌, List, drop, get_or, length, replicate, Option, refl, sym, ap, ◌∙◌, vec_capacity}
 use Rattle.tbl_format.proofs.CellColumns.{columns_of-behind}
 use Rattle.tbl_line_cells.specs.LinesDrawn.{keys_in}
 use Rattle.tbl_tall.specs.ShownBars.{owner_of, owners}

@@ -1,5 +1,4 @@
-use Rattle.std.proofs.Common.{◌≡◌, ◌<◌, ◌-◌, suc, Bool, true, length, sym, ap, ◌∙◌, arith}
-use Rattle.std.specs.Prelude.{if◌then◌else◌}
+use Rattle.std.proofs.Common.{◌≡◌, ◌<◌, ◌-◌, suc, Bool, true, length, sym, ap, ◌∙◌, arith, if◌then◌else◌}
 use Rattle.tbl_tall.proofs.StopsSet.{start-is, used-is}
 use Rattle.tbl_tall.proofs.stops.first_from.Goals as goal
 use Rattle.tbl_tall.specs.StopsKept.{is_used_at, start_in}

@@ -1,6 +1,4 @@
-use Rattle.std.proofs.Common.{◌≡◌, ◌<◌, ◌-◌, ℕ, suc, drop, length, set, ap, subst, ◌∙◌, arith}
-use Rattle.std.proofs.lemmas.List.{length-set}
-use Rattle.std.specs.Prelude.{if◌then◌else◌}
+use Rattle.std.proofs.Common.{◌≡◌, ◌<◌, ◌-◌, ℕ, suc, drop, length, set, ap, subst, ◌∙◌, arith, length-set, if◌then◌else◌}
 use Rattle.tbl_format.proofs.CellColumns.{cell-within, columns_of-behind}
 use Rattle.tbl_format.specs.Cells.{cell_count}
 use Rattle.tbl_format.specs.RowsServed.{all_rows}

@@ -1,5 +1,4 @@
-use Rattle.std.proofs.Common.{◌≡◌, ◌+◌, ◌*◌, ◌≤◌, ◌||◌, length, max}
-use Rattle.std.specs.Prelude.{IfSome}
+use Rattle.std.proofs.Common.{◌≡◌, ◌+◌, ◌*◌, ◌≤◌, ◌||◌, length, max, IfSome}
 use Rattle.tbl_text.specs.BlockLines.{has_word, lines_of, widest}
 use Rattle.tbl_text.specs.BlockPlaces.{IsWithin, PartLies, parts_at, parts_with}
 use Rattle.tbl_text.specs.FilledLines.{left_with}

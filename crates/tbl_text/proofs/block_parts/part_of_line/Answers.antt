@@ -1,5 +1,4 @@
-use Rattle.std.proofs.Common.{◌∷◌, sym, ap, ◌∙◌}
-use Rattle.std.specs.Prelude.{Some, None}
+use Rattle.std.proofs.Common.{◌∷◌, sym, ap, ◌∙◌, Some, None}
 use Rattle.tbl_text.specs.BlockWords.{OneWord}
 use Rattle.tbl_text.specs.BlockPlaces.{parts_at, word_at}
 use Rattle.tbl_text.specs.declared.block_parts.BlockPlace.TheVariants.{Behind}

@@ -1,6 +1,4 @@
-use Rattle.std.proofs.Common.{◌≡◌, ℕ, ◌+◌, ◌-◌, true, false, List, ◌∷◌, map, sym, ap, ◌∙◌, arith}
-use Rattle.std.specs.Prelude.{nat_lt}
-use Rattle.std.proofs.lemmas.Bool.{le-ltb, lt-ltb}
+use Rattle.std.proofs.Common.{◌≡◌, ℕ, ◌+◌, ◌-◌, true, false, List, ◌∷◌, map, sym, ap, ◌∙◌, arith, nat_lt, le-ltb, lt-ltb}
 use Rattle.tbl_text.specs.BlockPlaces.{gap_in, parts_at, word_at}
 use Rattle.tbl_text.specs.BlockWords.{OneWord, Part}
 use Rattle.tbl_text.specs.FittedWords.{further_fitted, word_fitted}

@@ -1,5 +1,4 @@
-use Rattle.std.proofs.Common.{[], ◌+◌, ◌≤◌, length, arith, sym, ap, subst, ◌∙◌}
-use Rattle.std.proofs.Common.{length-drop}
+use Rattle.std.proofs.Common.{length-drop, [], ◌+◌, ◌≤◌, length, arith, sym, ap, subst, ◌∙◌}
 use Rattle.tbl_text.specs.Items.{is_blank}
 use Rattle.tbl_text.proofs.RunsOfBytes.{Reads, first_of, Reads-plain, Reads-item, Reads-blank, is_blank-other}
 use Rattle.tbl_text.proofs.block_words.next_word.Goals as goal

@@ -1,6 +1,4 @@
-use Rattle.std.proofs.Common.{◌≡◌, ◌∙◌, refl, true, false, arith}
-use Rattle.std.specs.Prelude.{nat_lt}
-use Rattle.std.proofs.lemmas.Bool.{le-ltb, lt-ltb}
+use Rattle.std.proofs.Common.{◌≡◌, ◌∙◌, refl, true, false, arith, nat_lt, le-ltb, lt-ltb}
 use Rattle.tbl_text.specs.Items.{columns}
 use Rattle.tbl_text.proofs.FittedSoFar.{fitted-all, fitted-more, fitted-over}
 use Rattle.tbl_text.proofs.fitted.fitting_len.Goals as goal

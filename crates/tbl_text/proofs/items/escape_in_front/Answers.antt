@@ -1,5 +1,4 @@
-use Rattle.std.proofs.Common.{◌≡◌, ◌-◌, ◌∷◌, ◌≤◌, List, ℕ, drop, take, length, ap, sym, subst, ◌∙◌, arith, length-drop}
-use Rattle.std.proofs.lemmas.List.{take_all}
+use Rattle.std.proofs.Common.{◌≡◌, ◌-◌, ◌∷◌, ◌≤◌, List, ℕ, drop, take, length, ap, sym, subst, ◌∙◌, arith, length-drop, take_all}
 use Rattle.tbl_text.specs.Items.{Reading, begun, columns, items, reading, whole}
 use Rattle.tbl_text.specs.declared.items.What.{What}
 use Rattle.tbl_text.proofs.Costs.{paid-whole, worth}

@@ -1,5 +1,4 @@
-use Rattle.std.proofs.Common.{◌≡◌, ◌+◌, ◌<◌, ◌∷◌, List, ℕ, drop, length, get_or, ap, sym, subst, ◌∙◌, add-one, drop-cons}
-use Rattle.std.specs.Prelude.{fold}
+use Rattle.std.proofs.Common.{◌≡◌, ◌+◌, ◌<◌, ◌∷◌, List, ℕ, drop, length, get_or, ap, sym, subst, ◌∙◌, add-one, drop-cons, fold}
 use Rattle.tbl_text.specs.Items.{Reading, met, reading}
 use Rattle.tbl_text.proofs.ItemsRead.{IsWithin, fold-whole, met-within, nothing-length}
 use Rattle.tbl_text.proofs.items.read_escape.Goals as goal

@@ -1,5 +1,4 @@
-use Rattle.std.proofs.Common.{◌≡◌, ◌+◌, drop}
-use Rattle.std.specs.Prelude.{fold}
+use Rattle.std.proofs.Common.{◌≡◌, ◌+◌, drop, fold}
 use Rattle.tbl_text.specs.Items.{begun, met, reading}
 use Rattle.tbl_text.proofs.ItemsRead.{IsWithin}
 use Rattle.tbl_text.proofs.items.read_escape.Given as goal

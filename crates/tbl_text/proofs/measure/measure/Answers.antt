@@ -1,5 +1,4 @@
-use Rattle.std.proofs.Common.{length, sym, subst, true}
-use Rattle.std.specs.Prelude.{IfSome}
+use Rattle.std.proofs.Common.{length, sym, subst, true, IfSome}
 use Rattle.tbl_text.specs.Measuring.{SplitLies}
 use Rattle.tbl_text.specs.declared.measure.Measured.{Measured}
 use Rattle.tbl_text.proofs.SplitsLie.{measured-split}

@@ -1,5 +1,4 @@
-use Rattle.std.proofs.Common.{List, ℕ, [], ap, refl, sym, subst, ◌∙◌, arith}
-use Rattle.std.specs.Prelude.{Option}
+use Rattle.std.proofs.Common.{List, ℕ, [], ap, refl, sym, subst, ◌∙◌, arith, Option}
 use Rattle.tbl_text.specs.MeasuredSoFar.{measured_behind, shown}
 use Rattle.tbl_text.specs.declared.measure.Measuring.{Measuring}
 use Rattle.tbl_text.specs.declared.measure.Split.{Split}

@@ -1,5 +1,4 @@
-use Rattle.std.proofs.Common.{◌≡◌, ◌≤◌, ◌-◌, length, take}
-use Rattle.std.specs.Prelude.{sum_by}
+use Rattle.std.proofs.Common.{◌≡◌, ◌≤◌, ◌-◌, length, take, sum_by}
 use Rattle.roff_num.specs.Widths.{byte_width}
 use Rattle.tbl_text.specs.Laws.{ArePlain}
 use Rattle.tbl_text.proofs.plain.ascii_in_front.Given as goal

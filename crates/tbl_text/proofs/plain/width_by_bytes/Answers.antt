@@ -1,6 +1,4 @@
-use Rattle.std.proofs.Common.{ap, ◌∙◌}
-use Rattle.std.specs.Prelude.{sum_by}
-use Rattle.std.proofs.lemmas.List.{take_all}
+use Rattle.std.proofs.Common.{ap, ◌∙◌, sum_by, take_all}
 use Rattle.roff_num.specs.Widths.{byte_width}
 use Rattle.tbl_text.proofs.plain.width_by_bytes.Goals as goal
 

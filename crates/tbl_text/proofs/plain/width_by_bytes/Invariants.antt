@@ -1,5 +1,4 @@
-use Rattle.std.proofs.Common.{◌≡◌, ◌≤◌, take}
-use Rattle.std.specs.Prelude.{sum_by}
+use Rattle.std.proofs.Common.{◌≡◌, ◌≤◌, take, sum_by}
 use Rattle.roff_num.specs.Widths.{byte_width}
 use Rattle.tbl_text.proofs.plain.width_by_bytes.Given as goal
 

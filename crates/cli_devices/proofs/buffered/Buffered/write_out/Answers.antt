@@ -1,6 +1,5 @@
-use Rattle.std.proofs.Common.{◌≡◌, ◌≤◌, [], drop, length, refl, rules, ◌∙◌}
+use Rattle.std.proofs.Common.{◌≡◌, ◌≤◌, [], drop, length, refl, rules, ◌∙◌, drop-drop}
 use Rattle.std.proofs.KnownBytes.{Keeps-refl, Keeps-trans}
-use Rattle.std.proofs.lemmas.List.{drop-drop}
 use Rattle.cli_devices.proofs.Holding.{held_over, held_still, written_out}
 use Rattle.cli_devices.proofs.buffered.Buffered.write_out.Goals as goal
 

@@ -1,5 +1,4 @@
-use Rattle.std.proofs.Common.{rules, sym}
-use Rattle.std.proofs.lemmas.List.{take-append-drop}
+use Rattle.std.proofs.Common.{rules, sym, take-append-drop}
 use Rattle.cli_devices.proofs.memory.MemSinkByteSink.put.Goals as goal
 
 pub returns-clause-puts : goal.returns-clause-puts

@@ -1,5 +1,4 @@
-use Rattle.std.proofs.Common.{◌≡◌, ◌-◌, ◌+◌, drop, length, arith, ap, ◌∙◌}
-use Rattle.std.proofs.lemmas.List.{drop-drop}
+use Rattle.std.proofs.Common.{◌≡◌, ◌-◌, ◌+◌, drop, length, arith, ap, ◌∙◌, drop-drop}
 use Rattle.input_ahead.specs.InputAhead.Kept.{AheadAndTexts}
 use Rattle.input_model.specs.Input.{leading}
 use Rattle.input_ahead.proofs.Leading.{leading-fewer}

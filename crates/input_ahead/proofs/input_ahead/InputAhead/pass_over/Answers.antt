@@ -1,5 +1,4 @@
-use Rattle.std.proofs.Common.{drop, take, arith, sym}
-use Rattle.std.proofs.lemmas.List.{length-take-le}
+use Rattle.std.proofs.Common.{drop, take, arith, sym, length-take-le}
 use Rattle.input_source.specs.Bytes.{is_passed}
 use Rattle.input_ahead.proofs.BodyTaken.{bytes-in-front, gives, with_body-first, IsSound-passed, taken-passed}
 use Rattle.input_source.proofs.PlainBytes.{take_while-plain}

@@ -1,5 +1,4 @@
-use Rattle.std.proofs.Common.{◌≡◌, ◌≤◌, drop, length, take, arith, sym}
-use Rattle.std.proofs.lemmas.List.{length-take-le, take-append-drop}
+use Rattle.std.proofs.Common.{◌≡◌, ◌≤◌, drop, length, take, arith, sym, length-take-le, take-append-drop}
 use Rattle.input_ahead.specs.InputAhead.Kept.{kept_by}
 use Rattle.input_ahead.proofs.Bodies.{rest_is}
 use Rattle.input_ahead.proofs.BodyTaken.{IsSound-gone, IsSound-passed, taken-gone, taken-passed, with_body-first, with_body-taken}

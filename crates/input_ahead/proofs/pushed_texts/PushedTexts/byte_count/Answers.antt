@@ -1,5 +1,4 @@
-use Rattle.std.proofs.Common.{sym, ap, ◌∙◌, arith}
-use Rattle.std.specs.Prelude.{reverse}
+use Rattle.std.proofs.Common.{sym, ap, ◌∙◌, arith, reverse}
 use Rattle.input_ahead.proofs.Counts.{bytes_ahead-standing}
 use Rattle.input_model.specs.Input.{bytes_ahead}
 use Rattle.input_ahead.specs.PushedTexts.Held.{Held}

@@ -1,6 +1,4 @@
-use Rattle.std.proofs.Common.{arith}
-use Rattle.std.specs.Prelude.{reverse}
-use Rattle.std.proofs.lemmas.Bool.{ltb-true, ltb-false}
+use Rattle.std.proofs.Common.{arith, reverse, ltb-true, ltb-false}
 use Rattle.std.proofs.lemmas.List.{length-reverse}
 use Rattle.input_ahead.proofs.Counts.{events_ahead-standing, length-pushed_texts}
 use Rattle.input_ahead.proofs.pushed_texts.PushedTexts.has_room.Goals as goal

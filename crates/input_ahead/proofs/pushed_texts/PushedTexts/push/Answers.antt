@@ -1,5 +1,4 @@
-use Rattle.std.proofs.Common.{◌<◌, ◌+◌, arith, ap, ◌∷◌, ◌++◌, length, map}
-use Rattle.std.specs.Prelude.{reverse}
+use Rattle.std.proofs.Common.{◌<◌, ◌+◌, arith, ap, ◌∷◌, ◌++◌, length, map, reverse}
 use Rattle.std.proofs.lemmas.List.{length-reverse}
 use Rattle.input_model.specs.Input.{ByteAhead, EndAhead}
 use Rattle.input_ahead.specs.PushedTexts.Held.{Held, held_by}

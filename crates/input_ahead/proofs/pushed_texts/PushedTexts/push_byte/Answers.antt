@@ -1,5 +1,4 @@
-use Rattle.std.proofs.Common.{◌<◌, ◌∷◌, length, arith, ap}
-use Rattle.std.specs.Prelude.{reverse}
+use Rattle.std.proofs.Common.{◌<◌, ◌∷◌, length, arith, ap, reverse}
 use Rattle.input_model.specs.Input.{ByteAhead}
 use Rattle.input_ahead.specs.PushedTexts.Held.{Held, held_by}
 use Rattle.input_ahead.proofs.Counts.{bytes_ahead-standing}

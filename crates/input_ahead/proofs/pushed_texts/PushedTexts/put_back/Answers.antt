@@ -1,5 +1,4 @@
-use Rattle.std.proofs.Common.{arith}
-use Rattle.std.specs.Prelude.{reverse}
+use Rattle.std.proofs.Common.{arith, reverse}
 use Rattle.std.proofs.lemmas.List.{length-reverse}
 use Rattle.input_ahead.proofs.Counts.{length-pushed_texts}
 use Rattle.input_ahead.proofs.pushed_texts.PushedTexts.put_back.Goals as goal

@@ -1,7 +1,6 @@
 use Rattle.std.proofs.lemmas.Int.{ints}
 use Rattle.std.proofs.lemmas.Grind.{common_steps}
-use Rattle.std.proofs.Common.{◌≡◌, ◌≤◌, ℕ, List, [], ◌∷◌, ◌++◌, length, refl, arith}
-use Rattle.std.specs.Prelude.{reverse}
+use Rattle.std.proofs.Common.{◌≡◌, ◌≤◌, ℕ, List, [], ◌∷◌, ◌++◌, length, refl, arith, reverse}
 use Rattle.input_ahead.specs.PushedTexts.Standing.{standing, IsStacked}
 use Rattle.input_model.specs.Input.{first_but_ends}
 use Rattle.input_ahead.specs.declared.pushed_texts.MarkAt.{MarkAt}

@@ -1,5 +1,4 @@
-use Rattle.std.proofs.Common.{◌≡◌, length}
-use Rattle.std.specs.Prelude.{reverse}
+use Rattle.std.proofs.Common.{◌≡◌, length, reverse}
 use Rattle.input_ahead.specs.PushedTexts.Standing.{standing, IsStacked}
 use Rattle.input_model.specs.Input.{first_but_ends}
 use Rattle.input_ahead.proofs.pushed_texts.PushedTexts.seen.Given as goal

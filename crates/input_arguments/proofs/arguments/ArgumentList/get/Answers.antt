@@ -1,5 +1,4 @@
-use Rattle.std.proofs.Common.{◌≡◌, ℕ, ◌<◌, ◌≤◌, List, ◌∙◌, ap, sym, get_or, Some}
-use Rattle.std.specs.Prelude.{length, take, slice_get}
+use Rattle.std.proofs.Common.{◌≡◌, ℕ, ◌<◌, ◌≤◌, List, ◌∙◌, ap, sym, get_or, Some, length, take, slice_get}
 use Rattle.std.proofs.lemmas.Option.{slice_get-get_or, slice_get_past}
 use Rattle.roff_num.specs.Lists.{last_end}
 use Rattle.input_arguments.specs.declared.arguments.ArgumentList.{ArgumentList}

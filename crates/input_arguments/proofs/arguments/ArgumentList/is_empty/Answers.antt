@@ -1,5 +1,4 @@
-use Rattle.std.proofs.Common.{◌∙◌, ap, sym}
-use Rattle.std.specs.Prelude.{◌==◌}
+use Rattle.std.proofs.Common.{◌∙◌, ap, sym, ◌==◌}
 use Rattle.input_arguments.proofs.Ends.{length-parts_ending}
 use Rattle.input_arguments.proofs.arguments.ArgumentList.is_empty.Goals as goal
 

@@ -1,5 +1,4 @@
-use Rattle.std.proofs.Common.{drop, length, ◌∙◌, ap, sym}
-use Rattle.std.specs.Prelude.{reverse}
+use Rattle.std.proofs.Common.{drop, length, ◌∙◌, ap, sym, reverse}
 use Rattle.std.proofs.lemmas.List.{reverse-reverse}
 use Rattle.roff_num.specs.Lists.{last_end}
 use Rattle.input_arguments.specs.ArgumentTexts.Kept.{KeptArguments}

@@ -1,5 +1,4 @@
-use Rattle.std.proofs.Common.{ℕ, List, ◌∙◌, ap, sym}
-use Rattle.std.specs.Prelude.{reverse}
+use Rattle.std.proofs.Common.{ℕ, List, ◌∙◌, ap, sym, reverse}
 use Rattle.std.proofs.lemmas.List.{reverse-reverse}
 use Rattle.input_model.specs.Arguments.{Arguments, kept}
 use Rattle.roff_num.specs.Lists.{parts_ending}

@@ -1,5 +1,4 @@
-use Rattle.std.proofs.Common.{sym, ◌∙◌}
-use Rattle.std.proofs.lemmas.List.{length-take-le}
+use Rattle.std.proofs.Common.{sym, ◌∙◌, length-take-le}
 use Rattle.input_arguments.proofs.HeldBytes.{TakesFront-more, room-more}
 use Rattle.input_arguments.proofs.arguments.ArgumentTexts.take_front.Goals as goal
 

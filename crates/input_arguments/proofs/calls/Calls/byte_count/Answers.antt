@@ -1,5 +1,4 @@
-use Rattle.std.proofs.Common.{◌∙◌, ap, sym}
-use Rattle.std.specs.Prelude.{reverse}
+use Rattle.std.proofs.Common.{◌∙◌, ap, sym, reverse}
 use Rattle.input_arguments.specs.Calls.Kept.{KeptCalls}
 use Rattle.input_model.specs.Arguments.{live_bytes}
 use Rattle.input_arguments.proofs.CallStack.{live_bytes-calls_in}

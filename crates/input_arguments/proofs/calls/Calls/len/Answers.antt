@@ -1,5 +1,4 @@
-use Rattle.std.proofs.Common.{◌∙◌, ap, sym}
-use Rattle.std.specs.Prelude.{length, reverse}
+use Rattle.std.proofs.Common.{◌∙◌, ap, sym, length, reverse}
 use Rattle.std.proofs.lemmas.List.{length-reverse}
 use Rattle.input_arguments.specs.Calls.Kept.{KeptCalls}
 use Rattle.input_arguments.proofs.CallStack.{length-calls_in}

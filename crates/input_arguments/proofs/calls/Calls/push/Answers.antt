@@ -1,5 +1,4 @@
-use Rattle.std.proofs.Common.{◌≡◌, ◌+◌, ◌≤◌, List, ℕ, ◌∷◌, ◌++◌, length, length-append, refl, ◌∙◌, ap, sym, arith}
-use Rattle.std.specs.Prelude.{reverse}
+use Rattle.std.proofs.Common.{◌≡◌, ◌+◌, ◌≤◌, List, ℕ, ◌∷◌, ◌++◌, length, length-append, refl, ◌∙◌, ap, sym, arith, reverse}
 use Rattle.std.proofs.lemmas.List.{length-reverse, reverse-append}
 use Rattle.input_model.specs.Arguments.{total_length}
 use Rattle.input_arguments.specs.ArgumentList.{listed}

@@ -1,5 +1,5 @@
-use Rattle.std.proofs.Common.{◌-◌, ◌∙◌, List, Some, length, reverse, sym, ap, subst, arith}
-use Rattle.std.proofs.lemmas.List.{length-reverse, length-take}
+use Rattle.std.proofs.Common.{◌-◌, ◌∙◌, List, Some, length, reverse, sym, ap, subst, arith, length-take}
+use Rattle.std.proofs.lemmas.List.{length-reverse}
 use Rattle.input_escapes.specs.OpenEscape.{OpenEscape}
 use Rattle.input_escapes.specs.EscapeTexts.{KeptEscapes, joined}
 use Rattle.input_escapes.specs.Nesting.{IsNested}

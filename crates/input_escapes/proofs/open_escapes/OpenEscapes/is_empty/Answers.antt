@@ -1,5 +1,4 @@
-use Rattle.std.proofs.Common.{◌∙◌, reverse, sym, ap}
-use Rattle.std.specs.Prelude.{◌==◌}
+use Rattle.std.proofs.Common.{◌∙◌, reverse, sym, ap, ◌==◌}
 use Rattle.std.proofs.lemmas.List.{length-reverse}
 use Rattle.input_escapes.proofs.EscapeTexts.{length-joined}
 use Rattle.input_escapes.proofs.open_escapes.OpenEscapes.is_empty.Goals as goal

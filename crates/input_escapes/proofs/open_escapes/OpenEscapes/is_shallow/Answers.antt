@@ -1,5 +1,4 @@
-use Rattle.std.proofs.Common.{◌∙◌, reverse, arith}
-use Rattle.std.proofs.lemmas.Bool.{leb-true}
+use Rattle.std.proofs.Common.{◌∙◌, reverse, arith, leb-true}
 use Rattle.std.proofs.lemmas.List.{length-reverse}
 use Rattle.input_escapes.proofs.EscapeTexts.{length-joined}
 use Rattle.input_escapes.proofs.open_escapes.OpenEscapes.is_shallow.Goals as goal

@@ -1,6 +1,4 @@
-use Rattle.std.proofs.Common.{◌≡◌, ◌∙◌, ◌∷◌, ℕ, Bool, false, Option, sym, ap}
-use Rattle.std.specs.Prelude.{◌==◌}
-use Rattle.std.proofs.lemmas.Bool.{ne_eqb}
+use Rattle.std.proofs.Common.{◌≡◌, ◌∙◌, ◌∷◌, ℕ, Bool, false, Option, sym, ap, ◌==◌, ne_eqb}
 use Rattle.input_escapes.specs.Conditions.{byte_or_backslash}
 use Rattle.input_escapes.specs.OpenEscape.{Condition}
 use Rattle.input_escapes.specs.EscapeTexts.{leaving}

@@ -1,6 +1,4 @@
-use Rattle.std.proofs.Common.{Bool, ap, refl, sym, true, ◌∙◌}
-use Rattle.std.specs.Prelude.{◌||◌}
-use Rattle.std.proofs.lemmas.Bool.{ne_eqb}
+use Rattle.std.proofs.Common.{Bool, ap, refl, sym, true, ◌∙◌, ◌||◌, ne_eqb}
 use Rattle.input_source.specs.Bytes.{is_argument_byte}
 use Rattle.input_escapes.proofs.EscapeFronts.{reads-comment}
 use Rattle.input_escapes.proofs.open_escapes.OpenEscapes.read_on_in_comment.Goals as goal

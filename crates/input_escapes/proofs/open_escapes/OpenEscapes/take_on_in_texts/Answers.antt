@@ -1,5 +1,4 @@
-use Rattle.std.proofs.Common.{sym, ◌∙◌}
-use Rattle.std.proofs.lemmas.Bool.{eq-eqb, ne_eqb}
+use Rattle.std.proofs.Common.{sym, ◌∙◌, eq-eqb, ne_eqb}
 use Rattle.input_escapes.specs.declared.open_escape.ConditionPart.TheVariants.{Compared}
 use Rattle.input_escapes.proofs.ConditionFronts.{takes-delimiter, takes-text}
 use Rattle.input_escapes.proofs.open_escapes.OpenEscapes.take_on_in_texts.Goals as goal

@@ -1,5 +1,5 @@
-use Rattle.std.proofs.Common.{◌≡◌, ◌≤◌, ◌+◌, ◌-◌, ◌*◌, ◌%◌, ◌++◌, [], List, ℕ, Err, length, take, replicate, arith, refl, ap, subst, rules, vec_len}
-use Rattle.std.proofs.lemmas.List.{replicate-append-replicate, take_all}
+use Rattle.std.proofs.Common.{◌≡◌, ◌≤◌, ◌+◌, ◌-◌, ◌*◌, ◌%◌, ◌++◌, [], List, ℕ, Err, length, take, replicate, arith, refl, ap, subst, rules, vec_len, take_all}
+use Rattle.std.proofs.lemmas.List.{replicate-append-replicate}
 use Rattle.std.proofs.lemmas.Result.{err_from_is_err_and}
 use Rattle.page_bytes.specs.Sinks.{Sunk, Writes, Fails, Puts}
 use Rattle.page_bytes.proofs.Appending.{Writes-nothing, Writes-append, Fails-front, Puts-behind}

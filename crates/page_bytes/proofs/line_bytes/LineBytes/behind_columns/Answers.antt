@@ -1,5 +1,4 @@
-use Rattle.std.proofs.Common.{◌≡◌, ℕ, ◌+◌, ◌*◌, List, [], ◌∷◌, ◌++◌, length, replicate, refl, sym, ap, ◌∙◌, append_assoc}
-use Rattle.std.specs.Prelude.{◌==◌, if◌then◌else◌}
+use Rattle.std.proofs.Common.{◌≡◌, ℕ, ◌+◌, ◌*◌, List, [], ◌∷◌, ◌++◌, length, replicate, refl, sym, ap, ◌∙◌, append_assoc, ◌==◌, if◌then◌else◌}
 use Rattle.std.proofs.lemmas.List.{replicate-append-replicate}
 use Rattle.page_model.specs.Columns.{spaces, spread, trimmed}
 use Rattle.page_bytes.specs.LineBytes.Fronts.{without_blanks}

@@ -1,5 +1,4 @@
-use Rattle.std.proofs.Common.{◌≡◌, ℕ, false, List, [], ◌∷◌, take, replicate, refl, sym, ap, ◌∙◌, arith, ne_eqb}
-use Rattle.std.specs.Prelude.{◌==◌}
+use Rattle.std.proofs.Common.{◌≡◌, ℕ, false, List, [], ◌∷◌, take, replicate, refl, sym, ap, ◌∙◌, arith, ne_eqb, ◌==◌}
 use Rattle.page_model.specs.Diverted.{escaped}
 use Rattle.page_bytes.specs.LineBytes.Fronts.{blanks_in_front}
 use Rattle.page_bytes.specs.LineBytes.Left.{spare_columns}

@@ -1,5 +1,5 @@
-use Rattle.std.proofs.Common.{◌≡◌, ℕ, ◌-◌, ◌≤◌, List, ◌++◌, length, take, ap, arith}
-use Rattle.std.proofs.lemmas.List.{drop_at, length-replicate, length-take}
+use Rattle.std.proofs.Common.{◌≡◌, ℕ, ◌-◌, ◌≤◌, List, ◌++◌, length, take, ap, arith, drop_at, length-take}
+use Rattle.std.proofs.lemmas.List.{length-replicate}
 use Rattle.page_model.specs.Columns.{spaces}
 use Rattle.roff_lines.specs.GlyphsInFront.{glyphs_in_front}
 use Rattle.page_bytes.specs.LineBytes.Fronts.{TakesPiece, blanks_in_front}

@@ -1,5 +1,5 @@
-use Rattle.std.proofs.Common.{◌≡◌, ◌+◌, ◌<◌, ◌++◌, ◌∷◌, ℕ, [], List, length, take, drop, slice_index_or, slice_set, sym, ap, subst, ◌∙◌, arith, append_assoc}
-use Rattle.std.proofs.lemmas.List.{get_or-drop, length-drop, length-set, take_more, take_more_set}
+use Rattle.std.proofs.Common.{◌≡◌, ◌+◌, ◌<◌, ◌++◌, ◌∷◌, ℕ, [], List, length, take, drop, slice_index_or, slice_set, sym, ap, subst, ◌∙◌, arith, append_assoc, get_or-drop, length-drop, length-set}
+use Rattle.std.proofs.lemmas.List.{take_more, take_more_set}
 use Rattle.roff_lines.proofs.GlyphsInFront.{glyphs_in_front-more}
 use Rattle.page_bytes.proofs.line_bytes.spreading.copy_last_glyphs.Goals as goal
 

@@ -1,5 +1,4 @@
-use Rattle.std.proofs.Common.{◌≡◌, ℕ, ◌+◌, ◌-◌, ◌*◌, ◌≤◌, length}
-use Rattle.std.specs.Prelude.{◌%◌}
+use Rattle.std.proofs.Common.{◌≡◌, ℕ, ◌+◌, ◌-◌, ◌*◌, ◌≤◌, length, ◌%◌}
 use Rattle.page_bytes.specs.LineBytes.Fronts.{SpreadsOver}
 use Rattle.page_bytes.proofs.line_bytes.spreading.spread_over.Given as goal
 

@@ -1,5 +1,4 @@
-use Rattle.std.proofs.Common.{◌++◌, take, append_assoc}
-use Rattle.std.proofs.lemmas.List.{take-append-drop}
+use Rattle.std.proofs.Common.{◌++◌, take, append_assoc, take-append-drop}
 use Rattle.page_bytes.proofs.Appending.{Writes-append}
 use Rattle.page_bytes.proofs.sink.WriteSinkByteSink.put.Goals as goal
 

@@ -1,5 +1,4 @@
-use Rattle.std.proofs.Common.{◌≡◌, ℕ, ◌+◌, List, ◌∷◌, ◌++◌, length, drop, false, sym, ap, subst, ◌∙◌, arith, ne_eqb}
-use Rattle.std.specs.Prelude.{◌==◌}
+use Rattle.std.proofs.Common.{◌≡◌, ℕ, ◌+◌, List, ◌∷◌, ◌++◌, length, drop, false, sym, ap, subst, ◌∙◌, arith, ne_eqb, ◌==◌}
 use Rattle.page_model.specs.Columns.{spaces}
 use Rattle.page_model.specs.Titles.{page_mark}
 use Rattle.page_bytes.specs.TitleParts.{HasNoBlank}

@@ -1,5 +1,4 @@
-use Rattle.std.proofs.Common.{◌≡◌, ◌-◌, ◌≤◌, ℕ, List, [], Ok, Err, ap, rules, arith, get_or, length, refl, subst, ◌∙◌}
-use Rattle.std.proofs.lemmas.Bool.{ltb-false, ltb-true}
+use Rattle.std.proofs.Common.{◌≡◌, ◌-◌, ◌≤◌, ℕ, List, [], Ok, Err, ap, rules, arith, get_or, length, refl, subst, ◌∙◌, ltb-false, ltb-true}
 use Rattle.input_model.specs.Input.{pushing}
 use Rattle.input_model.specs.Input.Calls.{argument_live, arguments_live}
 use Rattle.read_lines.specs.Reader.Taken.{TakesAs}

@@ -1,7 +1,6 @@
-use Rattle.std.proofs.Common.{arith}
 use Rattle.std.proofs.lemmas.Int.{ints}
 use Rattle.std.proofs.lemmas.Grind.{common_steps}
-use Rattle.std.proofs.Common.{Ok, refl, rules}
+use Rattle.std.proofs.Common.{Ok, refl, rules, arith}
 use Rattle.input_model.specs.Input.{without_arguments}
 use Rattle.input_model.specs.Input.Calls.{calling_body}
 use Rattle.input_model.specs.Input.Names.{body_named}

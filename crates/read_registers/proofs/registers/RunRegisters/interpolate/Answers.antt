@@ -1,5 +1,4 @@
-use Rattle.std.proofs.Common.{◌≡◌, [], ◌∷◌, Bool, false, true, Option, None, Some, sym, ap, ◌∙◌}
-use Rattle.std.specs.Prelude.{if◌then◌else◌}
+use Rattle.std.proofs.Common.{◌≡◌, [], ◌∷◌, Bool, false, true, Option, None, Some, sym, ap, ◌∙◌, if◌then◌else◌}
 use Rattle.roff_num.specs.declared.num.Num.{Num}
 use Rattle.roff_num.specs.Ranges.{is_in_range}
 use Rattle.run_model.specs.Registers.{Known, StepBy, is_page, known_behind, number_in_range, numbered, page_register, page_stepped, text_of_register}

@@ -1,5 +1,4 @@
-use Rattle.std.proofs.Common.{◌-◌, ◌≡◌, ◌≤◌}
-use Rattle.std.specs.Prelude.{map, take}
+use Rattle.std.proofs.Common.{◌-◌, ◌≡◌, ◌≤◌, map, take}
 use Rattle.std.specs.List.{AllByRecursion}
 use Rattle.read_registers.specs.Titles.Fronts.{IsPlain, kept_byte}
 use Rattle.run_model.specs.TitleTexts.{with_bytes}

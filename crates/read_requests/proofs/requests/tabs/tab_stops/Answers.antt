@@ -1,7 +1,5 @@
-use Rattle.std.proofs.Common.{◌≡◌, ◌<◌, ◌≤◌, ◌∷◌, ◌++◌, [], Some, None, Ok, length, rules, slice_get, sym, ap, ◌∙◌, w32, FitsSigned}
-use Rattle.std.specs.Prelude.{take}
+use Rattle.std.proofs.Common.{◌≡◌, ◌<◌, ◌≤◌, ◌∷◌, ◌++◌, [], Some, None, Ok, length, rules, slice_get, sym, ap, ◌∙◌, w32, FitsSigned, take, length-take}
 use Rattle.std.proofs.lemmas.Int.{to_z-of_z}
-use Rattle.std.proofs.lemmas.List.{length-take}
 use Rattle.std.proofs.lemmas.Option.{slice_get-get_or}
 use Rattle.input_arguments.specs.ArgumentList.{listed}
 use Rattle.run_model.specs.Numbers.{rounded_in_range}

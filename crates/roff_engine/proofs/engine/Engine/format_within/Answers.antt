@@ -1,5 +1,4 @@
-use Rattle.std.proofs.Common.{◌≡◌, ap, sym, subst, ◌∙◌}
-use Rattle.std.specs.Prelude.{IsSome}
+use Rattle.std.proofs.Common.{◌≡◌, ap, sym, subst, ◌∙◌, IsSome}
 use Rattle.run_items.specs.Outcome.{Runs, seen}
 use Rattle.roff_engine.specs.Engine.Setup.{Setup}
 use Rattle.run_turns.specs.Running.Turning.{HasCome}

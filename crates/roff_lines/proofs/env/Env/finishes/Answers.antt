@@ -1,5 +1,4 @@
-use Rattle.std.proofs.Common.{Option, sym, ap, ◌∙◌}
-use Rattle.std.specs.Prelude.{is_some}
+use Rattle.std.proofs.Common.{Option, sym, ap, ◌∙◌, is_some}
 use Rattle.page_model.specs.declared.event.Event.{Event}
 use Rattle.page_model.specs.Behind.{finished}
 use Rattle.page_model.specs.Lines.{Finished}

@@ -1,7 +1,6 @@
-use Rattle.std.proofs.lemmas.Bool.{true≢false}
 use Rattle.std.proofs.lemmas.Grind.{common_steps}
 use Rattle.std.proofs.lemmas.Int.{ints}
-use Rattle.std.proofs.Common.{◌≡◌, ◌≤◌, ◌∷◌, None, rules, sym, subst, arith, ◌∙◌}
+use Rattle.std.proofs.Common.{◌≡◌, ◌≤◌, ◌∷◌, None, rules, sym, subst, arith, ◌∙◌, true≢false}
 use Rattle.page_model.specs.declared.event.Event.TheVariants.{Print}
 use Rattle.page_model.specs.declared.glyph.Glyph.{Glyph}
 use Rattle.roff_lines.specs.Env.Kept.{Kept, length_with, with_glyph_told}

@@ -1,5 +1,4 @@
-use Rattle.std.proofs.Common.{◌≡◌, ℕ, List, length, take, drop, refl, sym, ap, ◌∙◌, arith}
-use Rattle.std.proofs.lemmas.List.{length-take, take-take}
+use Rattle.std.proofs.Common.{◌≡◌, ℕ, List, length, take, drop, refl, sym, ap, ◌∙◌, arith, length-take, take-take}
 use Rattle.roff_lines.specs.GlyphsInFront.{glyphs_in_front}
 use Rattle.roff_lines.proofs.TextFront.{few-counted, taken-counted}
 use Rattle.roff_lines.proofs.TextRuns.{above-counted, EndsGlyphs-none, TellsFront-glyphs, EndsGlyphs-glyphs}

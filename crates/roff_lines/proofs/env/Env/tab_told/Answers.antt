@@ -1,5 +1,4 @@
-use Rattle.std.proofs.Common.{◌≤◌, ◌<◌, ◌∷◌, ◌∙◌, refl, sym, ap, subst, arith}
-use Rattle.std.specs.Prelude.{option_map}
+use Rattle.std.proofs.Common.{◌≤◌, ◌<◌, ◌∷◌, ◌∙◌, refl, sym, ap, subst, arith, option_map}
 use Rattle.page_model.specs.declared.event.Event.TheVariants.{FieldEnd, Tab}
 use Rattle.page_model.specs.Fields.{tab_reached, told_plainly}
 use Rattle.page_model.specs.Behind.{pending_length}

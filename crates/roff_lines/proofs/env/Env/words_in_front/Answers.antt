@@ -1,5 +1,4 @@
-use Rattle.std.proofs.Common.{◌≡◌, ◌≤◌, ℕ, ◌-◌, true, false, List, [], take, drop, refl, rules, subst, sym, ap, ◌∙◌, arith}
-use Rattle.std.proofs.lemmas.List.{length-take, take-take}
+use Rattle.std.proofs.Common.{◌≡◌, ◌≤◌, ℕ, ◌-◌, true, false, List, [], take, drop, refl, rules, subst, sym, ap, ◌∙◌, arith, length-take, take-take}
 use Rattle.page_model.specs.Glyphs.{gaps_in, text_width}
 use Rattle.roff_lines.specs.Env.Kept.{with_words}
 use Rattle.roff_lines.specs.Env.Tells.{WholeWords}

@@ -1,7 +1,6 @@
-use Rattle.std.proofs.Common.{◌+◌, ◌≤◌, ℕ, List, length, take, subst, sym, arith}
+use Rattle.std.proofs.Common.{◌+◌, ◌≤◌, ℕ, List, length, take, subst, sym, arith, length-take}
 use Rattle.std.proofs.lemmas.Grind.{common_steps}
 use Rattle.std.proofs.lemmas.Int.{ints}
-use Rattle.std.proofs.lemmas.List.{length-take}
 use Rattle.roff_lines.specs.Stretch.Held.{Held}
 use Rattle.roff_lines.proofs.Widths.{text_width_le}
 use Rattle.roff_lines.proofs.stretch.Stretch.extend.Goals as goal

@@ -1,5 +1,4 @@
-use Rattle.std.proofs.Common.{◌≤◌, ℕ, List, take, subst, arith}
-use Rattle.std.proofs.lemmas.List.{length-take}
+use Rattle.std.proofs.Common.{◌≤◌, ℕ, List, take, subst, arith, length-take}
 use Rattle.roff_lines.specs.Stretch.Held.{Held}
 use Rattle.roff_lines.proofs.Widths.{text_width_le}
 use Rattle.roff_lines.proofs.stretch.Stretch.width.Goals as goal

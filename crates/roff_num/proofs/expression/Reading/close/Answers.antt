@@ -1,5 +1,4 @@
-use Rattle.std.proofs.Common.{◌≡◌, ◌-◌, suc, length, reverse, ap, sym, ◌∙◌, Ok, w32, w64, to_z, of_z, arith, rules, FitsSigned}
-use Rattle.std.specs.Prelude.{◌-ℤ◌}
+use Rattle.std.proofs.Common.{◌≡◌, ◌-◌, suc, length, reverse, ap, sym, ◌∙◌, Ok, w32, w64, to_z, of_z, arith, rules, FitsSigned, ◌-ℤ◌}
 use Rattle.std.proofs.lemmas.Int.{ints, to_z-of_z}
 use Rattle.roff_num.specs.declared.expression.Next.TheVariants.{Operand}
 use Rattle.roff_num.specs.Reading.Frames.{combined}

@@ -1,5 +1,4 @@
-use Rattle.std.proofs.Common.{◌≡◌, ◌≤◌, ◌<◌, ◌∙◌, false, true, Option, None, Ok, refl, ap, arith, sym, subst}
-use Rattle.std.specs.Prelude.{◌^◌}
+use Rattle.std.proofs.Common.{◌≡◌, ◌≤◌, ◌<◌, ◌∙◌, false, true, Option, None, Ok, refl, ap, arith, sym, subst, ◌^◌}
 use Rattle.roff_num.specs.declared.num.Num.{Num}
 use Rattle.page_model.specs.Happenings.{Does, ejecting}
 use Rattle.roff_pages.specs.Pages.Kept.{Kept}

@@ -1,5 +1,4 @@
-use Rattle.std.proofs.Common.{◌≡◌, ◌≤◌, ◌∙◌, not, ◌&&◌, ap, arith, false, subst, sym, true}
-use Rattle.std.specs.Prelude.{◌==◌}
+use Rattle.std.proofs.Common.{◌≡◌, ◌≤◌, ◌∙◌, not, ◌&&◌, ap, arith, false, subst, sym, true, ◌==◌}
 use Rattle.page_model.specs.Layout.{Layout, page_place}
 use Rattle.roff_pages.specs.Pages.Stands.{StandsAs}
 use Rattle.roff_pages.specs.Pages.Kept.{Kept}

@@ -1,6 +1,5 @@
-use Rattle.std.proofs.Common.{◌≡◌, ◌∙◌, ℕ, Bool, refl, ap}
+use Rattle.std.proofs.Common.{◌≡◌, ◌∙◌, ℕ, Bool, refl, ap, ◌&&◌, ◌==◌, nat_lt, if◌then◌else◌}
 use Rattle.roff_pages.specs.Pages.Kept.{Kept}
-use Rattle.std.specs.Prelude.{◌&&◌, ◌==◌, nat_lt, if◌then◌else◌}
 use Rattle.roff_pages.proofs.Blanking.{did_blank_as, need_puts}
 use Rattle.roff_pages.proofs.pages.Pages.need.Goals as goal
 

@@ -1,5 +1,4 @@
-use Rattle.std.proofs.Common.{◌≡◌, ◌+◌, ◌<◌, ◌≤◌, ◌++◌, ◌∙◌, ℕ, true, false, List, None, Ok, Err, ap, arith, length, refl, replicate, subst, sym}
-use Rattle.std.specs.Prelude.{◌^◌}
+use Rattle.std.proofs.Common.{◌≡◌, ◌+◌, ◌<◌, ◌≤◌, ◌++◌, ◌∙◌, ℕ, true, false, List, None, Ok, Err, ap, arith, length, refl, replicate, subst, sym, ◌^◌}
 use Rattle.page_model.specs.Columns.{device_line, finished_of, printed}
 use Rattle.page_model.specs.Lines.{Finished}
 use Rattle.page_bytes.specs.declared.page_fault.PageFault.TheVariants.{Sink}

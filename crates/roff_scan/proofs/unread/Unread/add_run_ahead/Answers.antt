@@ -1,7 +1,6 @@
 use Rattle.std.proofs.lemmas.Int.{ints}
 use Rattle.std.proofs.lemmas.Grind.{common_steps}
-use Rattle.std.proofs.Common.{◌≡◌, ◌+◌, ◌≤◌, length, take, ap, ◌∙◌, arith}
-use Rattle.std.proofs.lemmas.List.{length-take-le}
+use Rattle.std.proofs.Common.{◌≡◌, ◌+◌, ◌≤◌, length, take, ap, ◌∙◌, arith, length-take-le}
 use Rattle.input_model.specs.Input.Names.{stored}
 use Rattle.input_source.specs.Bytes.{is_text_byte}
 use Rattle.roff_scan.specs.Unread.Calls.{next_bytes}

@@ -1,5 +1,4 @@
-use Rattle.std.proofs.Common.{◌≡◌, ◌+◌, ◌≤◌, length, take, ap, sym, subst, ◌∙◌, arith, List, ℕ}
-use Rattle.std.proofs.lemmas.List.{length-take}
+use Rattle.std.proofs.Common.{◌≡◌, ◌+◌, ◌≤◌, length, take, ap, sym, subst, ◌∙◌, arith, List, ℕ, length-take}
 use Rattle.input_model.specs.Input.Names.{stored}
 use Rattle.roff_scan.specs.Unread.Calls.{front_bytes}
 use Rattle.roff_scan.specs.Unread.Copied.{CopiesFront}

@@ -1,5 +1,4 @@
-use Rattle.std.proofs.Common.{◌≡◌, ◌+◌, ℕ, Some, refl, sym, ◌∙◌, ap}
-use Rattle.std.specs.Prelude.{Option}
+use Rattle.std.proofs.Common.{◌≡◌, ◌+◌, ℕ, Some, refl, sym, ◌∙◌, ap, Option}
 use Rattle.input_model.specs.Input.Names.{calling_on, open_numbered}
 use Rattle.input_model.specs.Unread.{changing, texts_within}
 use Rattle.roff_scan.specs.Unread.Kept.{kept_by}

@@ -1,5 +1,4 @@
-use Rattle.std.proofs.Common.{◌+◌, ◌≤◌, length, take, refl, arith}
-use Rattle.std.proofs.lemmas.List.{length-take-le}
+use Rattle.std.proofs.Common.{◌+◌, ◌≤◌, length, take, refl, arith, length-take-le}
 use Rattle.input_model.specs.Arguments.{bytes_held}
 use Rattle.input_model.specs.Input.{pushed}
 use Rattle.roff_scan.specs.Unread.Kept.{kept_by}

@@ -1,7 +1,6 @@
-use Rattle.std.proofs.Common.{arith}
 use Rattle.std.proofs.lemmas.Int.{ints}
 use Rattle.std.proofs.lemmas.Grind.{common_steps}
-use Rattle.std.proofs.Common.{◌≡◌, true, length, ap, sym, subst, ◌∙◌, take}
+use Rattle.std.proofs.Common.{◌≡◌, true, length, ap, sym, subst, ◌∙◌, take, arith}
 use Rattle.input_model.specs.Input.{counting, is_none_ahead}
 use Rattle.input_model.specs.declared.looked.Looked.TheVariants.{Nothing}
 use Rattle.input_model.specs.Unread.{Unread}

@@ -1,6 +1,4 @@
-use Rattle.std.proofs.Common.{◌≡◌, ◌+◌, ◌<◌, false, arith, refl, rules, sym, ◌∙◌}
-use Rattle.std.specs.Prelude.{nat_lt}
-use Rattle.std.proofs.lemmas.Bool.{le-ltb}
+use Rattle.std.proofs.Common.{◌≡◌, ◌+◌, ◌<◌, false, arith, refl, rules, sym, ◌∙◌, nat_lt, le-ltb}
 use Rattle.input_source.specs.Tape.{Gives, OneByte}
 use Rattle.roff_scan.proofs.Asking.{takes_asked, takes_looked, takes_ready}
 use Rattle.roff_scan.proofs.unread.Unread.take_ready.Goals as goal

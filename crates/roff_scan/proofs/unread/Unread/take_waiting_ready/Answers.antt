@@ -1,6 +1,4 @@
-use Rattle.std.proofs.Common.{◌≡◌, ◌∙◌, ℕ, ◌+◌, List, false, true, arith, map, take, refl, subst, sym}
-use Rattle.std.specs.Prelude.{get_or, nat_lt}
-use Rattle.std.proofs.lemmas.Bool.{le-ltb}
+use Rattle.std.proofs.Common.{◌≡◌, ◌∙◌, ℕ, ◌+◌, List, false, true, arith, map, take, refl, subst, sym, get_or, nat_lt, le-ltb}
 use Rattle.input_model.specs.Input.{is_none_ahead}
 use Rattle.input_source.specs.Tape.{Gives, OneByte, Took}
 use Rattle.input_model.specs.declared.looked.Looked.TheVariants.{Nothing}

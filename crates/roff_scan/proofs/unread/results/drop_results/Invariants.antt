@@ -1,5 +1,4 @@
-use Rattle.std.proofs.Common.{◌≡◌, length}
-use Rattle.std.specs.Prelude.{reverse, vec_capacity}
+use Rattle.std.proofs.Common.{◌≡◌, length, reverse, vec_capacity}
 use Rattle.input_model.specs.Input.{results_below}
 use Rattle.roff_scan.proofs.unread.results.drop_results.Given as goal
 

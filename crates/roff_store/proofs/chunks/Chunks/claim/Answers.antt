@@ -1,7 +1,6 @@
 use Rattle.std.proofs.lemmas.Int.{ints}
 use Rattle.std.proofs.lemmas.Grind.{common_steps}
-use Rattle.std.proofs.Common.{◌≡◌, ◌∙◌, ◌+◌, ◌<◌, ◌++◌, ◌∷◌, [], sym, ap, arith, sum, set, subst}
-use Rattle.std.proofs.lemmas.List.{length-set}
+use Rattle.std.proofs.Common.{◌≡◌, ◌∙◌, ◌+◌, ◌<◌, ◌++◌, ◌∷◌, [], sym, ap, arith, sum, set, subst, length-set}
 use Rattle.std.specs.Vec.{vec_len}
 use Rattle.roff_store.specs.Chains.{Chunks, shares_in}
 use Rattle.roff_store.specs.Chunks.Kept.{kept_by}

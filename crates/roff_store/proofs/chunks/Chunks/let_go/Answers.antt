@@ -1,7 +1,6 @@
 use Rattle.std.proofs.lemmas.Int.{ints}
 use Rattle.std.proofs.lemmas.Grind.{common_steps}
-use Rattle.std.proofs.Common.{◌∙◌, set, arith}
-use Rattle.std.proofs.lemmas.List.{length-set}
+use Rattle.std.proofs.Common.{◌∙◌, set, arith, length-set}
 use Rattle.roff_store.proofs.Free.{AreFree, AreFree-let_go, free_kept, last_share, room_for_free, sum-set}
 use Rattle.roff_store.proofs.chunks.Chunks.let_go.Goals as goal
 

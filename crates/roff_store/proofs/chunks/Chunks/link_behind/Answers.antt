@@ -1,7 +1,7 @@
 use Rattle.std.proofs.lemmas.Int.{ints}
 use Rattle.std.proofs.lemmas.Grind.{common_steps}
-use Rattle.std.proofs.Common.{◌≡◌, [], ◌++◌, set, get_or, refl, sym, ap, ◌∙◌, subst, arith}
-use Rattle.std.proofs.lemmas.List.{get_or_read, get_or-set_other, get_or-set_same}
+use Rattle.std.proofs.Common.{◌≡◌, [], ◌++◌, set, get_or, refl, sym, ap, ◌∙◌, subst, arith, get_or-set_other, get_or-set_same}
+use Rattle.std.proofs.lemmas.List.{get_or_read}
 use Rattle.roff_store.specs.Chains.{content}
 use Rattle.roff_store.specs.Chunks.Kept.{kept_by}
 use Rattle.roff_store.proofs.Extending.{last-claimed, link-extended, link-first}

@@ -1,5 +1,4 @@
-use Rattle.std.proofs.Common.{Some, sym, ap, ◌∙◌}
-use Rattle.std.specs.Prelude.{option_map}
+use Rattle.std.proofs.Common.{Some, sym, ap, ◌∙◌, option_map}
 use Rattle.roff_store.specs.Texts.{kind_given}
 use Rattle.roff_store.proofs.Naming.{kind_in, kind-of-entry}
 use Rattle.roff_store.proofs.text_store.TextStore.get.Goals as goal

@@ -1,5 +1,4 @@
-use Rattle.std.proofs.Common.{◌∙◌, ◌≡◌, ap, rules, sym}
-use Rattle.std.specs.Prelude.{is_some}
+use Rattle.std.proofs.Common.{◌∙◌, ◌≡◌, ap, rules, sym, is_some}
 use Rattle.page_model.specs.Behind.{finished}
 use Rattle.page_model.specs.declared.event.Event.TheVariants.{Break}
 use Rattle.run_model.specs.Output.{layout_of, text_of}

@@ -1,5 +1,4 @@
-use Rattle.std.proofs.Common.{◌∙◌, subst, sym}
-use Rattle.std.specs.Prelude.{◌<◌, ℕ, List, length}
+use Rattle.std.proofs.Common.{◌∙◌, subst, sym, ◌<◌, ℕ, List, length}
 use Rattle.page_bytes.specs.TitleParts.{HasNoBlank}
 use Rattle.run_events.proofs.Titling.{title_here}
 use Rattle.run_events.proofs.formatter.Formatter.place_title_here.Goals as goal

@@ -1,5 +1,4 @@
-use Rattle.std.proofs.Common.{◌∙◌, ◌≡◌, ap, refl, rules, sym}
-use Rattle.std.specs.Prelude.{option_map}
+use Rattle.std.proofs.Common.{◌∙◌, ◌≡◌, ap, refl, rules, sym, option_map}
 use Rattle.roff_num.specs.declared.limit.Limit.TheVariants.{Line}
 use Rattle.page_model.specs.Behind.{length_reached}
 use Rattle.page_model.specs.Happenings.{Places}

@@ -1,6 +1,5 @@
-use Rattle.std.proofs.Common.{refl, rules}
 use Rattle.std.proofs.lemmas.Int.{to_z-of_z}
-use Rattle.std.proofs.Common.{rules, w32}
+use Rattle.std.proofs.Common.{rules, w32, refl}
 use Rattle.page_model.specs.declared.layout_event.LayoutEvent.TheVariants.{Uproot, MoveTrap, RemoveTrap, DiversionTrap, NoDiversionTrap}
 use Rattle.run_events.proofs.Quiet.{plants_within, sets_quietly}
 use Rattle.run_events.proofs.formatter.paging.set_trap.Goals as goal

@@ -1,5 +1,4 @@
-use Rattle.std.proofs.Common.{ap, refl, subst, sym}
-use Rattle.std.specs.Prelude.{◌≡◌}
+use Rattle.std.proofs.Common.{ap, refl, subst, sym, ◌≡◌}
 use Rattle.roff_num.specs.declared.limits.Limits.{Limits}
 use Rattle.run_state.specs.Composer.Standing.{StandFor}
 use Rattle.run_model.specs.Output.{PageHistory}

@@ -1,5 +1,4 @@
-use Rattle.std.proofs.Common.{◌≡◌, Option, ap, sym, ◌∙◌}
-use Rattle.std.specs.Prelude.{is_some}
+use Rattle.std.proofs.Common.{◌≡◌, Option, ap, sym, ◌∙◌, is_some}
 use Rattle.run_model.specs.Environments.{interrupted_line}
 use Rattle.run_model.specs.Reading.Ends.{is_left}
 use Rattle.run_model.specs.Run.{known_at}

@@ -1,5 +1,4 @@
-use Rattle.std.proofs.Common.{◌≡◌, ℕ, Bool, true, false, [], ◌∷◌, List, Ok, None, refl, rules, ap, ◌∙◌, arith}
-use Rattle.std.specs.Prelude.{drop, if◌then◌else◌}
+use Rattle.std.proofs.Common.{◌≡◌, ℕ, Bool, true, false, [], ◌∷◌, List, Ok, None, refl, rules, ap, ◌∙◌, arith, drop, if◌then◌else◌}
 use Rattle.page_model.specs.declared.event.Event.TheVariants.{Set}
 use Rattle.run_model.specs.PageEvents.{PageEvent}
 use Rattle.run_model.specs.Requests.Effects.{behind_break}

@@ -1,5 +1,4 @@
-use Rattle.std.proofs.Common.{◌≡◌, ◌++◌, [], ◌∷◌, List, Ok, Some, None, refl, rules, ap, arith}
-use Rattle.std.specs.Prelude.{drop}
+use Rattle.std.proofs.Common.{◌≡◌, ◌++◌, [], ◌∷◌, List, Ok, Some, None, refl, rules, ap, arith, drop}
 use Rattle.page_model.specs.declared.event.Event.TheVariants.{Break, WordEnd}
 use Rattle.run_model.specs.Environments.{interrupted_line}
 use Rattle.run_model.specs.PageEvents.{PageEvent}

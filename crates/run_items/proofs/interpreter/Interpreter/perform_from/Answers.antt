@@ -1,5 +1,4 @@
-use Rattle.std.proofs.Common.{◌≡◌, ◌≤◌, ◌+◌, ◌++◌, [], ◌∷◌, Ok, Some, None, Option, Result, refl, rules, ap, arith, subst, sym, ◌∙◌}
-use Rattle.std.specs.Prelude.{drop, slice_get}
+use Rattle.std.proofs.Common.{◌≡◌, ◌≤◌, ◌+◌, ◌++◌, [], ◌∷◌, Ok, Some, None, Option, Result, refl, rules, ap, arith, subst, sym, ◌∙◌, drop, slice_get}
 use Rattle.read_lines.specs.Reader.State.{ReaderState}
 use Rattle.run_events.specs.Formatter.Performing.{behind_event}
 use Rattle.run_events.proofs.EventsLeft.{drop-at, drop-past}

@@ -1,5 +1,4 @@
-use Rattle.std.proofs.Common.{◌≡◌, ◌≤◌, ℕ, ◌-◌, List}
-use Rattle.std.specs.Prelude.{drop}
+use Rattle.std.proofs.Common.{◌≡◌, ◌≤◌, ℕ, ◌-◌, List, drop}
 use Rattle.roff_num.specs.declared.limits.Limits.{Limits}
 use Rattle.run_items.specs.Outcome.{Beginning, Seen, seen}
 use Rattle.run_items.specs.Performing.{CameSoFar}

@@ -1,5 +1,4 @@
-use Rattle.std.proofs.Common.{◌≤◌, ℕ, List, length, refl, subst, sym}
-use Rattle.std.specs.Prelude.{min}
+use Rattle.std.proofs.Common.{◌≤◌, ℕ, List, length, refl, subst, sym, min}
 use Rattle.run_items.proofs.TextsAdded.{allowed_most}
 use Rattle.run_items.proofs.interpreter.diverting.add_line.Goals as goal
 

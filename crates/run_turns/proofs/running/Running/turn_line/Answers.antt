@@ -1,5 +1,4 @@
-use Rattle.std.proofs.Common.{Bool, ap, ◌∙◌}
-use Rattle.std.specs.Prelude.{if◌then◌else◌}
+use Rattle.std.proofs.Common.{Bool, ap, ◌∙◌, if◌then◌else◌}
 use Rattle.input_escapes.specs.declared.open_escape.Waiting.{Waiting}
 use Rattle.input_escapes.specs.declared.open_escape.Waiting.TheVariants.{Takes, Waits}
 use Rattle.run_model.specs.Run.{read_waiting}

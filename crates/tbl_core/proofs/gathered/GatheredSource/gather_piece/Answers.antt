@@ -1,5 +1,4 @@
-use Rattle.std.proofs.Common.{◌≡◌, ◌≤◌, ℕ, List, ap, arith, length, refl, rules, ◌∙◌}
-use Rattle.std.proofs.lemmas.List.{length-append, length-take}
+use Rattle.std.proofs.Common.{◌≡◌, ◌≤◌, ℕ, List, ap, arith, length, refl, rules, ◌∙◌, length-append, length-take}
 use Rattle.tbl_core.proofs.GatheredBytes.{none_of_items, piece_kept}
 use Rattle.tbl_core.proofs.Given.{front-pending, front_some}
 use Rattle.tbl_core.proofs.gathered.GatheredSource.gather_piece.Goals as goal

@@ -1,5 +1,5 @@
-use Rattle.std.proofs.Common.{◌≡◌, ◌<◌, ◌∙◌, ℕ, List, drop, get_or, length, rules, subst, sym}
-use Rattle.std.proofs.lemmas.List.{drop-drop, get_or_default}
+use Rattle.std.proofs.Common.{◌≡◌, ◌<◌, ◌∙◌, ℕ, List, drop, get_or, length, rules, subst, sym, drop-drop}
+use Rattle.std.proofs.lemmas.List.{get_or_default}
 use Rattle.input_source.specs.Tape.{StaysReady}
 use Rattle.tbl_core.specs.Gathered.{left_of}
 use Rattle.tbl_core.specs.Source.{source_ready}

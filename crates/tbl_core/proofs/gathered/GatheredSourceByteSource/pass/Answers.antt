@@ -1,5 +1,4 @@
-use Rattle.std.proofs.Common.{◌≡◌, ◌<◌, ◌≤◌, ℕ, List, arith, drop, length, refl, rules, subst, sym, vec_len}
-use Rattle.std.proofs.lemmas.List.{drop-drop}
+use Rattle.std.proofs.Common.{◌≡◌, ◌<◌, ◌≤◌, ℕ, List, arith, drop, length, refl, rules, subst, sym, vec_len, drop-drop}
 use Rattle.input_source.specs.Tape.{StaysReady}
 use Rattle.tbl_core.specs.Gathered.{left_of}
 use Rattle.tbl_core.specs.Source.{source_ready}

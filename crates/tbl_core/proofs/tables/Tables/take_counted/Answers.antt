@@ -1,7 +1,6 @@
-use Rattle.std.proofs.Common.{arith}
 use Rattle.std.proofs.lemmas.Int.{ints}
 use Rattle.std.proofs.lemmas.Grind.{common_steps}
-use Rattle.std.proofs.Common.{rules, ◌≡◌, ◌==◌, ◌&&◌, false, Some, sym, ap, ◌∙◌, []}
+use Rattle.std.proofs.Common.{rules, ◌≡◌, ◌==◌, ◌&&◌, false, Some, sym, ap, ◌∙◌, [], arith}
 use Rattle.input_source.specs.Bytes.{newline}
 use Rattle.tbl_core.specs.declared.place.Position.{Position}
 use Rattle.tbl_core.specs.Lines.{ends_name, is_name}

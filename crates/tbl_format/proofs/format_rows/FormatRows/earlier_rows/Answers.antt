@@ -1,5 +1,4 @@
-use Rattle.std.proofs.Common.{sym, arith}
-use Rattle.std.proofs.lemmas.List.{length-take-le}
+use Rattle.std.proofs.Common.{sym, arith, length-take-le}
 use Rattle.tbl_format.specs.FormatRows.{rows_kept}
 use Rattle.tbl_format.proofs.FormatBlocks.{length-rows}
 use Rattle.tbl_format.proofs.format_rows.FormatRows.earlier_rows.Goals as goal

@@ -1,5 +1,4 @@
-use Rattle.std.proofs.Common.{◌+◌, ℕ, sym, ap, subst, take, arith}
-use Rattle.std.proofs.lemmas.List.{length-take-le}
+use Rattle.std.proofs.Common.{◌+◌, ℕ, sym, ap, subst, take, arith, length-take-le}
 use Rattle.tbl_format.specs.Format.{Format, format_read}
 use Rattle.tbl_format.specs.KeyCounts.{Counts, IsCount}
 use Rattle.tbl_format.proofs.FormatReading.{read-more}

@@ -1,5 +1,4 @@
-use Rattle.std.proofs.Common.{ℕ, ◌<◌, List, length, refl, ap, ◌∙◌, arith}
-use Rattle.std.proofs.lemmas.List.{length-take}
+use Rattle.std.proofs.Common.{ℕ, ◌<◌, List, length, refl, ap, ◌∙◌, arith, length-take}
 use Rattle.tbl_pieces.specs.declared.pieces.Piece.TheVariants.{Frame}
 use Rattle.tbl_kept.specs.TableText.{block_of}
 use Rattle.tbl_giving.specs.Giving.{KeptGiving}

@@ -1,5 +1,4 @@
-use Rattle.std.proofs.Common.{◌≡◌, ℕ, ◌+◌, ◌-◌, List, drop, length, ap, refl, ◌∙◌, arith, length-drop}
-use Rattle.std.proofs.lemmas.List.{drop-drop}
+use Rattle.std.proofs.Common.{◌≡◌, ℕ, ◌+◌, ◌-◌, List, drop, length, ap, refl, ◌∙◌, arith, length-drop, drop-drop}
 use Rattle.tbl_giving.specs.Giving.{coming}
 use Rattle.tbl_giving.proofs.giving.Giving.pass.Goals as goal
 

@@ -1,7 +1,6 @@
-use Rattle.std.proofs.Common.{arith}
 use Rattle.std.proofs.lemmas.Int.{ints}
 use Rattle.std.proofs.lemmas.Grind.{common_steps}
-use Rattle.std.proofs.Common.{sym}
+use Rattle.std.proofs.Common.{sym, arith}
 use Rattle.tbl_kept.specs.TableText.{block_of}
 use Rattle.tbl_giving.proofs.GivingLeft.{IsLast-some}
 use Rattle.tbl_giving.proofs.giving.Giving.pass_some.Goals as goal

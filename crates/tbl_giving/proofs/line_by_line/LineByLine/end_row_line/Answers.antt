@@ -1,8 +1,7 @@
-use Rattle.std.proofs.Common.{◌≡◌, ◌+◌, ◌≤◌, ◌<◌, ℕ, suc, refl, sym, ap, subst, ◌∙◌, arith}
+use Rattle.std.proofs.Common.{◌≡◌, ◌+◌, ◌≤◌, ◌<◌, ℕ, suc, refl, sym, ap, subst, ◌∙◌, arith, ltb-false, ltb-true}
 use Rattle.tbl_format.specs.RowsServed.{all_rows}
 use Rattle.tbl_giving.specs.LinesWalked.{HasCome, KeptLineByLine, LineGone, coming, kept_by, sheet_by}
 use Rattle.tbl_giving.specs.declared.line_by_line.Place.TheVariants.{AtElement, OnRow}
-use Rattle.std.proofs.lemmas.Bool.{ltb-false, ltb-true}
 use Rattle.tbl_giving.proofs.LayNext.{row-places}
 use Rattle.tbl_giving.proofs.RowLinesEnded.{another-gone, last-gone, line-another, line-last, row-within}
 use Rattle.tbl_giving.proofs.StepsOnLines.{come-at, on-row-next}

@@ -1,9 +1,8 @@
-use Rattle.std.proofs.Common.{◌≡◌, false, Some, refl, ap, ◌∙◌, arith, ◌==◌}
+use Rattle.std.proofs.Common.{◌≡◌, false, Some, refl, ap, ◌∙◌, arith, ◌==◌, ne_eqb}
 use Rattle.tbl_format.specs.RowsServed.{all_rows}
 use Rattle.tbl_giving.specs.LinesWalked.{KeptLineByLine}
 use Rattle.tbl_giving.specs.declared.line_by_line.Place.TheVariants.{AtElement}
 use Rattle.tbl_giving.specs.declared.line_by_line.RuleAt.TheVariants.{InFront}
-use Rattle.std.proofs.lemmas.Bool.{ne_eqb}
 use Rattle.tbl_tall.specs.Bands.{wholes_left}
 use Rattle.tbl_layout.specs.declared.data_lines.RuleSign.TheVariants.{Single}
 use Rattle.tbl_giving.proofs.StepsOffLines.{rule-step, whole-at}

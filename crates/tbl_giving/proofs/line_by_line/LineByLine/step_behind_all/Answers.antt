@@ -1,9 +1,8 @@
-use Rattle.std.proofs.Common.{◌≡◌, ℕ, true, false, Some, refl, sym, ap, subst, ◌∙◌, ◌==◌}
+use Rattle.std.proofs.Common.{◌≡◌, ℕ, true, false, Some, refl, sym, ap, subst, ◌∙◌, ◌==◌, ne_eqb}
 use Rattle.tbl_format.specs.RowsServed.{all_rows}
 use Rattle.tbl_giving.specs.LinesWalked.{KeptLineByLine, SignTold}
 use Rattle.tbl_giving.specs.declared.line_by_line.Place.TheVariants.{AtElement, OnRule}
 use Rattle.tbl_giving.specs.declared.line_by_line.RuleAt.TheVariants.{End as OfEnd}
-use Rattle.std.proofs.lemmas.Bool.{ne_eqb}
 use Rattle.tbl_layout.specs.declared.data_lines.RuleSign.{RuleSign}
 use Rattle.tbl_lines.specs.PictureLines.{frame_sign}
 use Rattle.tbl_giving.proofs.StepsOffLines.{end-at, none-at, rule-step}

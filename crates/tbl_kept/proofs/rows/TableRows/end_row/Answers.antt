@@ -1,5 +1,5 @@
-use Rattle.std.proofs.Common.{◌≡◌, ◌-◌, List, length, drop, refl, sym, ap, ◌∙◌, arith, length-drop}
-use Rattle.std.proofs.lemmas.List.{take_all, with_items_is}
+use Rattle.std.proofs.Common.{◌≡◌, ◌-◌, List, length, drop, refl, sym, ap, ◌∙◌, arith, length-drop, take_all}
+use Rattle.std.proofs.lemmas.List.{with_items_is}
 use Rattle.tbl_kept.specs.Rows.{holding}
 use Rattle.tbl_layout.specs.declared.entry.Entry.{Entry}
 use Rattle.tbl_kept.proofs.RowPlaces.{LieBetween-row}

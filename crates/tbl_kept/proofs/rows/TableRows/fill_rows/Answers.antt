@@ -1,5 +1,5 @@
-use Rattle.std.proofs.Common.{◌≡◌, ℕ, ◌+◌, ◌<◌, List, length, map, drop, set, sym, subst, ap, ◌∙◌, arith}
-use Rattle.std.proofs.lemmas.List.{drop-set-lt, drop_more, length-set}
+use Rattle.std.proofs.Common.{◌≡◌, ℕ, ◌+◌, ◌<◌, List, length, map, drop, set, sym, subst, ap, ◌∙◌, arith, drop-set-lt, length-set}
+use Rattle.std.proofs.lemmas.List.{drop_more}
 use Rattle.tbl_format.specs.RowsServed.{all_rows}
 use Rattle.tbl_kept.specs.Rows.{Command, ElementKept, KeptElement, KeptRows}
 use Rattle.tbl_kept.specs.RowsLaying.{all_held, blocks_held, element_at, laid_element}

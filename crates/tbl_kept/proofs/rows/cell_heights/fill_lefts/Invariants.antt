@@ -1,5 +1,4 @@
-use Rattle.std.proofs.Common.{◌≡◌, ℕ, ◌-◌, ◌++◌, List, length}
-use Rattle.std.specs.Prelude.{vec_capacity}
+use Rattle.std.proofs.Common.{◌≡◌, ℕ, ◌-◌, ◌++◌, List, length, vec_capacity}
 use Rattle.tbl_layout.specs.Heights.{lefts_from}
 use Rattle.tbl_kept.specs.KeptHeights.{cells_of}
 use Rattle.tbl_kept.specs.Rows.{AreLaid}

@@ -1,6 +1,4 @@
-use Rattle.std.proofs.Common.{rules, ◌<◌, ℕ, max, length, ap, ◌∙◌}
-use Rattle.std.specs.Prelude.{if◌then◌else◌, is_some}
-use Rattle.std.proofs.Common.{not, drop, ◌+◌}
+use Rattle.std.proofs.Common.{not, drop, ◌+◌, rules, ◌<◌, ℕ, max, length, ap, ◌∙◌, if◌then◌else◌, is_some}
 use Rattle.tbl_layout.specs.Columns.{greatest}
 use Rattle.tbl_layout.specs.Heights.{ending_from}
 use Rattle.tbl_kept.specs.KeptHeights.{seen}

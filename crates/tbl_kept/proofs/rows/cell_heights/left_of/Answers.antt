@@ -1,5 +1,4 @@
-use Rattle.std.proofs.Common.{ℕ, ◌-◌, [], ◌∷◌, sym, ap, ◌∙◌}
-use Rattle.std.specs.Prelude.{Option}
+use Rattle.std.proofs.Common.{ℕ, ◌-◌, [], ◌∷◌, sym, ap, ◌∙◌, Option}
 use Rattle.tbl_layout.specs.Entries.{field_at, key_at}
 use Rattle.tbl_layout.specs.Heights.{left_of_cell, lines_in}
 use Rattle.tbl_kept.specs.KeptHeights.{cells_of}

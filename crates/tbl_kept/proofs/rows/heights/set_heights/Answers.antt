@@ -1,7 +1,7 @@
-use Rattle.std.proofs.Common.{rules, ◌≤◌, List, ◌++◌, length, map, take, sym, subst, ap, ◌∙◌}
+use Rattle.std.proofs.Common.{rules, ◌≤◌, List, ◌++◌, length, map, take, sym, subst, ap, ◌∙◌, append-nil, take_all}
 use Rattle.std.specs.List.{AllByRecursion}
 use Rattle.std.proofs.lemmas.Grind.{drop_more_same}
-use Rattle.std.proofs.lemmas.List.{append-nil, drop_all, take_all}
+use Rattle.std.proofs.lemmas.List.{drop_all}
 use Rattle.tbl_format.specs.RowsServed.{all_rows}
 use Rattle.tbl_kept.specs.KeptHeights.{raised_behind}
 use Rattle.tbl_kept.specs.Rows.{ElementLaid, KeptElement}

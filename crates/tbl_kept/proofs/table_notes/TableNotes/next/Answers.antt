@@ -1,5 +1,4 @@
-use Rattle.std.proofs.Common.{rules, ◌≡◌, ◌-◌, suc, ◌++◌, List, [], ◌∷◌, get_or, take, drop, replicate, sym, ap, ◌∙◌, arith, ℕ}
-use Rattle.std.specs.Prelude.{slice_range}
+use Rattle.std.proofs.Common.{rules, ◌≡◌, ◌-◌, suc, ◌++◌, List, [], ◌∷◌, get_or, take, drop, replicate, sym, ap, ◌∙◌, arith, ℕ, slice_range}
 use Rattle.tbl_kept.specs.TableNotes.{KeptNotes}
 use Rattle.tbl_options.specs.Notes.{cut_note}
 use Rattle.tbl_options.specs.declared.notes.KeptNote.{KeptNote}

@@ -1,6 +1,5 @@
-use Rattle.std.proofs.Common.{ap, ◌∙◌, ℕ}
+use Rattle.std.proofs.Common.{ap, ◌∙◌, ℕ, nat_lt}
 use Rattle.std.specs.List.{slice_range}
-use Rattle.std.specs.Prelude.{nat_lt}
 use Rattle.tbl_kept.proofs.TextBlocks.{pending-some}
 use Rattle.tbl_kept.proofs.table_text.TableText.is_open.Goals as goal
 

@@ -1,5 +1,4 @@
-use Rattle.std.proofs.Common.{List, ℕ, length, drop, sym, ap, ◌∙◌, arith}
-use Rattle.std.proofs.lemmas.List.{length-take-le}
+use Rattle.std.proofs.Common.{List, ℕ, length, drop, sym, ap, ◌∙◌, arith, length-take-le}
 use Rattle.tbl_kept.proofs.TextBlocks.{block-is, closed-is}
 use Rattle.tbl_kept.proofs.table_text.TableText.line_start.Goals as goal
 

@@ -1,5 +1,4 @@
-use Rattle.std.proofs.Common.{sym, ap, ◌∙◌, arith, Some, None}
-use Rattle.std.specs.Prelude.{Bool, if◌then◌else◌}
+use Rattle.std.proofs.Common.{sym, ap, ◌∙◌, arith, Some, None, Bool, if◌then◌else◌}
 use Rattle.tbl_layout.specs.declared.entry.EntryKind.{EntryKind}
 use Rattle.tbl_lines.specs.RowsLeft.{joined_kinds}
 use Rattle.tbl_line_cells.proofs.CellsKept.{joined-before, joined-behind, joined-kept, no-ruled}

@@ -1,5 +1,4 @@
-use Rattle.std.proofs.Common.{◌-◌, ◌≡◌, ◌≤◌, List, ◌∷◌, ◌++◌, length}
-use Rattle.std.specs.Prelude.{vec_capacity}
+use Rattle.std.proofs.Common.{◌-◌, ◌≡◌, ◌≤◌, List, ◌∷◌, ◌++◌, length, vec_capacity}
 use Rattle.std.specs.List.{insert}
 use Rattle.tbl_line_cells.specs.declared.laid_cells.LaidCell.{LaidCell}
 use Rattle.tbl_line_cells.proofs.line_cells.LineCells.bring_forward.Given as goal

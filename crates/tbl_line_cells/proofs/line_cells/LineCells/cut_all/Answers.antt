@@ -1,5 +1,4 @@
-use Rattle.std.proofs.Common.{rules, ◌≡◌, Bool, false, ℕ, zero, suc, ◌+◌, ◌-◌, ◌<◌, ◌≤◌, not, ◌&&◌, List, [], ◌∷◌, drop, get_or, length, take, Some, refl, sym, ap, subst, ◌∙◌, arith, if◌then◌else◌}
-use Rattle.std.specs.Prelude.{vec_capacity}
+use Rattle.std.proofs.Common.{rules, ◌≡◌, Bool, false, ℕ, zero, suc, ◌+◌, ◌-◌, ◌<◌, ◌≤◌, not, ◌&&◌, List, [], ◌∷◌, drop, get_or, length, take, Some, refl, sym, ap, subst, ◌∙◌, arith, if◌then◌else◌, vec_capacity}
 use Rattle.std.specs.List.{AllByRecursion}
 use Rattle.tbl_lines.specs.LinesLeft.{Shown, all_cut, is_there, next_drawn}
 use Rattle.tbl_lines.specs.PictureLines.{Cell, Sheet, nothing_there}

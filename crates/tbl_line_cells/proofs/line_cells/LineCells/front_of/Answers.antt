@@ -1,5 +1,4 @@
-use Rattle.std.proofs.Common.{rules, ◌≡◌, ◌+◌, true, false, get_or, refl, ap, subst, ◌∙◌, arith}
-use Rattle.std.specs.Prelude.{nat_lt, None}
+use Rattle.std.proofs.Common.{rules, ◌≡◌, ◌+◌, true, false, get_or, refl, ap, subst, ◌∙◌, arith, nat_lt, None}
 use Rattle.tbl_layout.specs.Columns.{bars_begin, bars_end}
 use Rattle.tbl_layout.specs.declared.columns.Column.{Column}
 use Rattle.tbl_lines.specs.PictureLines.{Cell}

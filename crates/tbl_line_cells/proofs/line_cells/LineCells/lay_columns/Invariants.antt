@@ -1,5 +1,4 @@
-use Rattle.std.proofs.Common.{◌≡◌, ℕ, suc, ◌≤◌, ◌<◌, List, [], ◌∷◌, length}
-use Rattle.std.specs.Prelude.{vec_capacity}
+use Rattle.std.proofs.Common.{◌≡◌, ℕ, suc, ◌≤◌, ◌<◌, List, [], ◌∷◌, length, vec_capacity}
 use Rattle.tbl_layout.specs.declared.bars.Bars.{Bars}
 use Rattle.tbl_lines.specs.CellsLeft.{Left}
 use Rattle.tbl_lines.specs.LinesLeft.{Beside}

@@ -1,5 +1,4 @@
-use Rattle.std.proofs.Common.{◌≡◌, ℕ, List, length}
-use Rattle.std.specs.Prelude.{vec_capacity}
+use Rattle.std.proofs.Common.{◌≡◌, ℕ, List, length, vec_capacity}
 use Rattle.tbl_lines.specs.LinesLeft.{Shown}
 use Rattle.tbl_lines.specs.PictureLines.{Cell}
 use Rattle.tbl_line_cells.specs.LinesDrawn.{CutSoFar, kept_line}

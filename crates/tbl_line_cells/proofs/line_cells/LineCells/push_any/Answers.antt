@@ -1,5 +1,4 @@
-use Rattle.std.proofs.Common.{rules, ◌≡◌, ◌||◌, refl}
-use Rattle.std.specs.Prelude.{is_some}
+use Rattle.std.proofs.Common.{rules, ◌≡◌, ◌||◌, refl, is_some}
 use Rattle.tbl_lines.specs.LinesLeft.{shown}
 use Rattle.tbl_line_cells.specs.LinesDrawn.{kept_line}
 use Rattle.tbl_line_cells.proofs.LineLaid.{cell-so-far}

@@ -1,5 +1,4 @@
-use Rattle.std.proofs.Common.{◌≡◌, ◌-◌, ◌++◌, get_or, refl, sym, subst, ◌∙◌}
-use Rattle.std.specs.Prelude.{None, Option, Some}
+use Rattle.std.proofs.Common.{◌≡◌, ◌-◌, ◌++◌, get_or, refl, sym, subst, ◌∙◌, None, Option, Some}
 use Rattle.tbl_layout.specs.DataLines.{sign_byte}
 use Rattle.tbl_layout.specs.declared.data_lines.RuleSign.{RuleSign}
 use Rattle.tbl_lines.specs.LinesLeft.{drawn_at, if_drawn}

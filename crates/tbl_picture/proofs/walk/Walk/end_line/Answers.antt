@@ -1,5 +1,4 @@
-use Rattle.std.proofs.Common.{◌≡◌, List, refl, sym, ap, subst, ◌∙◌, ◌∷◌, [], ◌+◌, length, arith}
-use Rattle.std.specs.Prelude.{nat_eq}
+use Rattle.std.proofs.Common.{◌≡◌, List, refl, sym, ap, subst, ◌∙◌, ◌∷◌, [], ◌+◌, length, arith, nat_eq}
 use Rattle.input_source.specs.Bytes.{newline}
 use Rattle.tbl_picture.specs.Walks.{InLine, KeptWalk, RowEndsOrGoesOn, kept_by, lent_row}
 use Rattle.tbl_picture.specs.Nexts.{AtLine}

@@ -1,5 +1,4 @@
-use Rattle.std.proofs.Common.{rules, ◌≡◌, ◌<◌, ℕ, suc, List, [], ◌∷◌, length, drop, refl, None, sym, ap, subst, ◌∙◌, arith}
-use Rattle.std.proofs.lemmas.Bool.{eqb-true}
+use Rattle.std.proofs.Common.{rules, ◌≡◌, ◌<◌, ℕ, suc, List, [], ◌∷◌, length, drop, refl, None, sym, ap, subst, ◌∙◌, arith, eqb-true}
 use Rattle.tbl_format.specs.Format.{FormatRow}
 use Rattle.tbl_format.specs.FormatRows.{AreWithin}
 use Rattle.tbl_format.specs.RowsServed.{all_rows, row_at}

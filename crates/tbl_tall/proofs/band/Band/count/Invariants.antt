@@ -1,5 +1,4 @@
-use Rattle.std.proofs.Common.{◌≡◌, ◌+◌, ◌<◌, get_or, length, List, ℕ}
-use Rattle.std.specs.Prelude.{vec_capacity}
+use Rattle.std.proofs.Common.{◌≡◌, ◌+◌, ◌<◌, get_or, length, List, ℕ, vec_capacity}
 use Rattle.tbl_format.specs.RowsServed.{all_rows}
 use Rattle.tbl_lines.specs.LinesLeft.{Beside, Over, bars_met}
 use Rattle.tbl_tall.specs.Bands.{BandStands, band_line, kept_band, lines_behind}

@@ -1,5 +1,4 @@
-use Rattle.std.proofs.Common.{◌≡◌, ℕ, ◌+◌, ◌≤◌, List, drop}
-use Rattle.std.specs.Prelude.{is_some}
+use Rattle.std.proofs.Common.{◌≡◌, ℕ, ◌+◌, ◌≤◌, List, drop, is_some}
 use Rattle.tbl_format.specs.RowsServed.{all_rows}
 use Rattle.tbl_layout.specs.Entries.{Element}
 use Rattle.tbl_tall.proofs.tall_row.TallRow.come_to_row.Given as goal

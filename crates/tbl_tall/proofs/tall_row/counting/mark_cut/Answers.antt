@@ -1,6 +1,5 @@
-use Rattle.std.proofs.Common.{◌≡◌, ◌+◌, ◌<◌, ◌≤◌, ℕ, suc, Bool, List, length, map, set, sym, ap, subst, ◌∙◌, arith}
+use Rattle.std.proofs.Common.{◌≡◌, ◌+◌, ◌<◌, ◌≤◌, ℕ, suc, Bool, List, length, map, set, sym, ap, subst, ◌∙◌, arith, length-set}
 use Rattle.std.proofs.lemmas.Bool.Decides.{nat_tests}
-use Rattle.std.proofs.lemmas.List.{length-set}
 use Rattle.tbl_tall.proofs.CellsNext.{all-at}
 use Rattle.tbl_tall.proofs.CutsMarked.{mark-end, mark-free, mark-next, marked-is, no-flags}
 use Rattle.tbl_tall.proofs.RowsPassed.{all-set}

@@ -1,5 +1,4 @@
-use Rattle.std.proofs.Common.{◌≡◌, ℕ, ◌<◌, List, length, get_or, None}
-use Rattle.std.specs.Prelude.{vec_capacity}
+use Rattle.std.proofs.Common.{◌≡◌, ℕ, ◌<◌, List, length, get_or, None, vec_capacity}
 use Rattle.tbl_format.specs.RowsServed.{all_rows}
 use Rattle.tbl_lines.specs.LinesLeft.{Over, over_at, sign_at}
 use Rattle.tbl_tall.proofs.tall_row.passing.fill_signs.Given as goal

@@ -1,5 +1,4 @@
-use Rattle.std.proofs.Common.{◌≡◌, ◌+◌, ◌<◌, ◌≤◌, ℕ, suc, length, set, sym, subst, ◌∙◌, arith}
-use Rattle.std.proofs.lemmas.List.{length-set}
+use Rattle.std.proofs.Common.{◌≡◌, ◌+◌, ◌<◌, ◌≤◌, ℕ, suc, length, set, sym, subst, ◌∙◌, arith, length-set}
 use Rattle.tbl_tall.proofs.CellsNext.{all-at}
 use Rattle.tbl_tall.proofs.RowsPassed.{all-set, kept-at, passed-end, passed-next}
 use Rattle.tbl_tall.proofs.tall_row.passing.pass_cells.Goals as goal
