@@ -1,14 +1,10 @@
 -- What readers give one behind another.
 use Rattle.std.proofs.Common.{◌≡◌, ◌<◌, List, [], ◌∷◌, get_or, length, refl, arith}
 use Rattle.input_source.specs.BlockRead.{SomeTape}
-use Rattle.input_source.specs.Tape.{Tape, Ended, Failed, only}
+use Rattle.input_source.specs.Tape.{Tape, Failed, only}
 use Rattle.cli_devices.specs.declared.inputs.Part.{Part}
 use Rattle.cli_devices.specs.Inputs.Part.{part_gives}
 use Rattle.cli_devices.specs.Inputs.Giving.{GivesJoined, inputs_give, some_input}
-
--- the first one is at its end
-pub behind_end : (first second : Tape → Type 0) → first (only Ended) → (t : Tape) → second t → GivesJoined first second t
-behind_end first second ended t given = record { front = only Ended; given = ended; back = t; given_behind = given; is = refl }
 
 -- the first one fails
 pub failed_first : (first second : Tape → Type 0) → first (only Failed) → SomeTape second → GivesJoined first second (only Failed)

@@ -5,10 +5,8 @@ use Rattle.std.proofs.lemmas.Bool.{cases_Bool}
 use Rattle.std.proofs.lemmas.Bool.Decides.{nat_tests}
 use Rattle.std.proofs.lemmas.List.{drop-append-le, drop_all, length-reverse, reverse-reverse, reverse-append}
 use Rattle.input_model.specs.Arguments.{Arguments, with_byte, with_whole, total_length, held, has_byte, kept_by_place, kept, only_kept}
-use Rattle.roff_num.specs.Lists.{last_end}
+use Rattle.roff_num.specs.Lists.{last_end, EndInOrder, parts_ending}
 use Rattle.input_arguments.specs.ArgumentTexts.Ends.{is_kept}
-use Rattle.roff_num.specs.Lists.{EndInOrder}
-use Rattle.roff_num.specs.Lists.{parts_ending}
 use Rattle.input_model.specs.declared.place.Place.{Place}
 use Rattle.input_model.specs.declared.place.Place.TheVariants.{Between}
 use Rattle.roff_num.proofs.Lists.{last_end-append}

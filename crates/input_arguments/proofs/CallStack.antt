@@ -1,9 +1,7 @@
 -- Arguments of calls, stacked in one block.
 use Rattle.std.proofs.Common.{◌≡◌, ℕ, ◌+◌, ◌*◌, ◌≤◌, List, [], ◌∷◌, ◌++◌, append-nil, length, length-append, length-drop, take, drop, suc, refl, sym, subst, ap, arith, take_at, drop_at, length-take-le}
-use Rattle.input_model.specs.Arguments.{total_length}
-use Rattle.input_model.specs.Arguments.{live_bytes}
-use Rattle.roff_num.specs.Lists.{EndInOrder}
-use Rattle.roff_num.specs.Lists.{parts_ending}
+use Rattle.input_model.specs.Arguments.{total_length, live_bytes}
+use Rattle.roff_num.specs.Lists.{EndInOrder, parts_ending}
 use Rattle.input_arguments.specs.Calls.Kept.{calls_in, IsOnTop, AreStacked}
 use Rattle.input_arguments.specs.declared.calls.CallStart.{CallStart}
 use Rattle.input_arguments.proofs.Ends.{total_length-parts_ending}

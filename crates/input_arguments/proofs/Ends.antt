@@ -3,9 +3,7 @@ use Rattle.std.proofs.Common.{◌≡◌, ℕ, ◌+◌, ◌-◌, ◌≤◌, List,
 use Rattle.std.specs.List.{slice_range}
 use Rattle.std.proofs.lemmas.List.{take-append-le, drop-append-le, take_rest}
 use Rattle.input_model.specs.Arguments.{total_length}
-use Rattle.roff_num.specs.Lists.{last_end}
-use Rattle.roff_num.specs.Lists.{EndInOrder}
-use Rattle.roff_num.specs.Lists.{parts_ending}
+use Rattle.roff_num.specs.Lists.{last_end, EndInOrder, parts_ending}
 
 -- the first begins within the block, and so does what lies behind the last
 pub EndInOrder-first : (len from : ℕ) (ends : List ℕ) → EndInOrder len from ends → from ≤ len

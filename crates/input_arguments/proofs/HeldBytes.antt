@@ -2,10 +2,9 @@
 use Rattle.std.proofs.Common.{◌≡◌, ℕ, suc, ◌+◌, ◌≤◌, ◌<◌, Bool, true, false, if◌then◌else◌, List, [], ◌∷◌, ◌++◌, length, take, get_or, Option, refl, sym, ap, subst, ◌∙◌, arith}
 use Rattle.std.specs.List.{AllByRecursion}
 use Rattle.std.proofs.Math.Seq.{take-suc}
-use Rattle.input_model.specs.Arguments.{AreFewer, Arguments, HeldFewer, bytes_held, held, only_kept, with_argument_byte}
+use Rattle.input_model.specs.Arguments.{AreFewer, Arguments, HeldFewer, bytes_held, held, only_kept, with_argument_byte, is_held}
 use Rattle.input_source.specs.Bytes.{is_argument_byte}
 use Rattle.input_arguments.specs.ArgumentTexts.Kept.{KeptArguments, HoldsFront, keeping}
-use Rattle.input_model.specs.Arguments.{is_held}
 use Rattle.input_model.proofs.KeptArguments.{held-only_kept, held-with_argument_byte}
 
 -- of each byte one more is held at the most

@@ -3,12 +3,11 @@ use Rattle.std.proofs.Common.{◌≡◌, ℕ, suc, ◌+◌, ◌<◌, Bool, true,
 use Rattle.std.proofs.Math.Seq.{take-suc}
 use Rattle.input_source.specs.Bytes.{backslash, is_argument_byte, is_dropped, newline}
 use Rattle.input_escapes.specs.OpenEscape.{Backslash, Comment, OpenEscape, texts_held}
-use Rattle.input_escapes.specs.EscapeTexts.{IsOnTop}
+use Rattle.input_escapes.specs.EscapeTexts.{IsOnTop, KeptEscapes, leaving}
 use Rattle.input_escapes.specs.Nesting.{IsNested}
 use Rattle.input_escapes.specs.Waiting.{takes_backslash_alone}
 use Rattle.input_escapes.specs.declared.open_escape.HeldEscape.TheVariants.{Backslash as BackslashRead, Comment as CommentRead}
 use Rattle.input_escapes.specs.EscapeFronts.{ByteRead, HalvesRead, NothingRead, ReadsByte, ReadsFront, ReadsOn}
-use Rattle.input_escapes.specs.EscapeTexts.{KeptEscapes, leaving}
 use Rattle.input_escapes.specs.OpenEscapes.{byte_read}
 use Rattle.input_escapes.specs.declared.open_escape.Found.{Found}
 use Rattle.input_escapes.specs.declared.open_escape.Found.TheVariants.{GoesOn}

@@ -1,8 +1,7 @@
 -- Bytes of a condition that change only what is half read: those its expression holds, and the fronts of names in it (manual,
 -- sections 7.2 and 16).
 use Rattle.std.specs.Prelude.{◌≡◌, ℕ, ◌+◌, ◌≤◌, Bool, true, false, ◌&&◌, ◌||◌, not, List, [], ◌∷◌, length, take, Some, ◌==◌}
-use Rattle.input_source.specs.Bytes.{is_argument_byte}
-use Rattle.input_source.specs.Bytes.{blank, is_dropped, newline, tab}
+use Rattle.input_source.specs.Bytes.{is_argument_byte, blank, is_dropped, newline, tab}
 use Rattle.input_escapes.specs.OpenEscape.{OpenEscape, text_held, texts_held}
 use Rattle.input_escapes.specs.EscapeFronts.{ReadsOn}
 use Rattle.input_escapes.specs.EscapeTexts.{KeptEscapes}

@@ -36,12 +36,6 @@ module _ {E : Type 0} where
   few-called room [] back items few = few
   few-called room (b ∷ text) back items few = few-called 0 text back items few
 
-  -- bytes stand in front again
-  pub few-free : (room : ℕ) (bytes : List ℕ) (items : List (Ahead E)) → AreFewFrom 0 items
-      → AreFewFrom room (map FreeAhead bytes ++ items)
-  few-free room [] items few = few-more 0 room items (omega arith) few
-  few-free room (b ∷ bytes) items few = few-free 0 bytes items few
-
   -- events are put back
   pub few-back : (room : ℕ) (events : List E) (items : List (Ahead E)) → AreFewFrom room items
       → AreFewFrom (length events + room) (map DoAhead events ++ items)

@@ -17,16 +17,16 @@ use Rattle.input_escapes.specs.declared.open_escape.Surroundings.TheVariants.{Ar
 use Rattle.input_model.specs.Input.{choosing}
 use Rattle.input_model.specs.Input.Calls.{arguments_given}
 use Rattle.input_escapes.specs.OpenEscape.{unit_bytes}
-use Rattle.run_model.specs.Reading.Arguments.{arguments_ended, line_ended, unit_found, reading_behind}
+use Rattle.run_model.specs.Reading.Arguments.{arguments_ended, line_ended, unit_found, reading_behind, calling_all}
 use Rattle.run_model.specs.Reading.Beginnings.{at_start}
 use Rattle.run_model.specs.Reading.Branches.{branch_of, branch_taking, condition_begun, condition_found, decided, is_so, skipping_taking, with_result_if}
 use Rattle.run_model.specs.Reading.Collecting.{collected, unit_taking}
-use Rattle.run_model.specs.Reading.Calls.{call_unit}
+use Rattle.run_model.specs.Reading.Calls.{call_unit, holding_call}
 use Rattle.run_model.specs.Reading.ControlLines.{dropped_taking}
 use Rattle.run_model.specs.Reading.Definitions.{definition_named, lines_begun}
 use Rattle.run_model.specs.Reading.Items.{PageInput, Taking, going_on}
 use Rattle.run_model.specs.Reading.Messages.{message_unit}
-use Rattle.run_model.specs.Reading.Strings.{name_read, string_line_ended, string_name_behind, string_name_or_text, string_name_unit, string_unit, string_begun}
+use Rattle.run_model.specs.Reading.Strings.{name_read, string_line_ended, string_name_behind, string_name_or_text, string_name_unit, string_unit, string_begun, string_emptied}
 use Rattle.run_model.specs.Reading.Units.{holding, interrupted, settling}
 use Rattle.run_model.specs.Registers.{Known}
 use Rattle.run_model.specs.Requests.{request_effect, row_of, PageEvent}
@@ -40,9 +40,6 @@ use Rattle.run_model.specs.declared.request.LinesFor.{LinesFor}
 use Rattle.run_model.specs.declared.request.LinesFor.TheVariants.{Macro, Nobody}
 use Rattle.run_model.specs.declared.request.Request.{Request}
 use Rattle.run_model.proofs.Collected.{of-collected}
-use Rattle.run_model.specs.Reading.Arguments.{calling_all}
-use Rattle.run_model.specs.Reading.Calls.{holding_call}
-use Rattle.run_model.specs.Reading.Strings.{string_emptied}
 use Rattle.roff_store.specs.TextCalls.{Call, Append, DropOpen, Enter, Lease, Open, PushOpen, Release, Remove, Rename, Set, Take}
 use Rattle.input_model.specs.Input.Names.{calling}
 use Rattle.law_diversions.specs.DivertedTexts.{IsAbove, NoneAbove, OneAbove, is_making}

@@ -6,7 +6,7 @@ use Rattle.roff_num.specs.declared.limits.Limits.{Limits}
 use Rattle.roff_num.specs.declared.short_name.ShortName.{ShortName}
 use Rattle.roff_num.specs.ShortNames.{name_bytes}
 use Rattle.input_model.specs.Arguments.{Arguments, held, no_arguments}
-use Rattle.input_source.specs.Bytes.{blank, newline}
+use Rattle.input_source.specs.Bytes.{blank, newline, behind_blanks}
 use Rattle.roff_store.specs.Named.{Named}
 use Rattle.roff_store.specs.Texts.{Entry}
 use Rattle.input_model.specs.Input.Calls.{arguments_live}
@@ -19,7 +19,6 @@ use Rattle.law_reading.proofs.InterpolatedNames.{escapes_read_as_texts}
 use Rattle.law_reading.specs.CallLaws.{BeginsLine}
 use Rattle.law_reading.specs.InterpolationLaws.{IsEscapeOf, Short, Long, ShortString, LongString, OfArgument, StandsForItself, stepped, text_named, with_text_ahead}
 use Rattle.law_reading.specs.MessageLaws.{HasMessage}
-use Rattle.input_source.specs.Bytes.{behind_blanks}
 use Rattle.law_escapes.specs.MessageLines.{MessagesTellWhatIsRead, message_line, steps}
 use Rattle.run_model.proofs.ItemsTaken.{Fits-IsWithin, FromAhead, Origin, made-Fits, step-reads, taken_as-going_on}
 use Rattle.run_model.proofs.Leads.{after-add}

@@ -2,10 +2,10 @@
 use Rattle.std.proofs.Common.{◌≡◌, ℕ, ◌+◌, ◌≤◌, Bool, true, false, List, [], ◌∷◌, ◌++◌, length, Option, Some, None, refl, ap, sym, subst, ◌∙◌, arith, All, decimal, is_some, map, not, ◌&&◌, ◌||◌, if◌then◌else◌, ◌==◌, le-ltb, append-nil}
 use Rattle.std.proofs.lemmas.List.Elements.{All-append, All-cons, All-head, All-nil, All-tail, All-weaker}
 use Rattle.roff_num.specs.declared.direction.Direction.{Direction}
-use Rattle.input_escapes.specs.OpenEscape.{names_in}
-use Rattle.input_source.specs.Bytes.{is_dropped}
+use Rattle.input_escapes.specs.OpenEscape.{names_in, OpenEscape}
+use Rattle.input_source.specs.Bytes.{is_dropped, newline}
 use Rattle.roff_store.proofs.Calls.{length-with_entry_same}
-use Rattle.roff_store.specs.Named.{entry_of, with_entry}
+use Rattle.roff_store.specs.Named.{entry_of, with_entry, Named}
 use Rattle.roff_store.specs.Registers.{Registers, next_value, register_of, with_step}
 use Rattle.roff_store.specs.declared.register.Register.{Register as ARegister}
 use Rattle.roff_num.specs.Ranges.{is_in_range}
@@ -13,7 +13,7 @@ use Rattle.input_escapes.specs.declared.escapes.NameUse.TheVariants.{Register}
 use Rattle.law_reading.proofs.WidthLaws.{measured_texts_of_the_source_read_as_digits, measured_texts_read_as_digits}
 use Rattle.law_reading.specs.WidthLaws.{IsPlain, MayDelimit, measures_texts, text_units, width_escape, with_width_ahead}
 use Rattle.run_model.specs.Reading.Units.{settled_for}
-use Rattle.run_model.proofs.ItemsTaken.{not-second}
+use Rattle.run_model.proofs.ItemsTaken.{not-second, Fits-IsWithin, FromAhead, FromSource, Origin, ahead_at, made-Fits, step-reads, tape_at}
 use Rattle.run_model.specs.Messages.{message_lines}
 use Rattle.run_model.specs.Registers.{AllRegisters, Known, StepBy, changed_by, is_page, is_read_only, is_step_out_of_range, number_in_range, page_register}
 use Rattle.run_model.specs.Requests.Effects.{page_numbered}
@@ -23,12 +23,9 @@ use Rattle.roff_num.specs.declared.direction.Direction.TheVariants.{Down, Up}
 use Rattle.roff_num.specs.declared.limit.Limit.TheVariants.{Bytes}
 use Rattle.roff_num.specs.declared.limits.Limits.{Limits}
 use Rattle.input_model.specs.Arguments.{Arguments}
-use Rattle.input_source.specs.Bytes.{newline}
 use Rattle.input_source.specs.Tape.{Ended, Ends, OneByte, Tape, front, items_then}
-use Rattle.roff_store.specs.Named.{Named}
 use Rattle.roff_store.specs.Texts.{Entry}
 use Rattle.input_escapes.specs.EscapeLaws.{sign}
-use Rattle.input_escapes.specs.OpenEscape.{OpenEscape}
 use Rattle.input_escapes.specs.Waiting.{decides, is_ended_by}
 use Rattle.input_escapes.specs.declared.escapes.NameUse.{NameUse}
 use Rattle.input_escapes.specs.declared.open_escape.Waiting.{Waiting}
@@ -40,7 +37,6 @@ use Rattle.law_reading.proofs.Interpolation.{ReadsEscapes, ReadsEscapes-reads_es
 use Rattle.law_escapes.proofs.MessageLines.{same-text, split-ahead}
 use Rattle.law_reading.specs.InterpolationLaws.{IsEscapeOf, Long, LongString, OfArgument, Short, ShortString, StandsForItself, reads_above, reads_escapes, stepped, text_named, with_source_behind, with_text_ahead}
 use Rattle.law_escapes.specs.Parts.{Escape, Measured, Part, Written, bytes_of_part, cost_of_texts, known_behind_part, registers_behind_part, registers_stepped, rewritten_part, steps_quietly}
-use Rattle.run_model.proofs.ItemsTaken.{Fits-IsWithin, FromAhead, FromSource, Origin, ahead_at, made-Fits, step-reads, tape_at}
 use Rattle.run_model.proofs.NameBytes.{stage}
 use Rattle.run_model.proofs.PlainRuns.{behind_bytes, behind_bytes-ahead, run_at}
 use Rattle.run_model.proofs.Waiting.{undecided}

@@ -5,7 +5,7 @@ use Rattle.roff_num.specs.declared.limits.Limits.{Limits}
 use Rattle.roff_num.specs.declared.short_name.ShortName.{ShortName}
 use Rattle.roff_num.specs.ShortNames.{name_bytes}
 use Rattle.input_model.specs.Arguments.{Arguments, held, live_bytes, no_arguments}
-use Rattle.input_source.specs.Bytes.{blank, newline}
+use Rattle.input_source.specs.Bytes.{blank, newline, behind_blanks}
 use Rattle.roff_store.specs.Named.{Named}
 use Rattle.roff_store.specs.Texts.{Entry}
 use Rattle.input_escapes.specs.OpenEscape.{OpenEscape}
@@ -24,7 +24,6 @@ use Rattle.law_reading.proofs.MessageLaws.{held-fold, tell, told-front}
 use Rattle.law_escapes.proofs.MessageLines.{step-told}
 use Rattle.law_reading.specs.CallLaws.{BeginsLine}
 use Rattle.law_reading.specs.InterpolationLaws.{text_named}
-use Rattle.input_source.specs.Bytes.{behind_blanks}
 use Rattle.law_reading.specs.WordCalls.{call_with}
 use Rattle.run_model.proofs.ItemsTaken.{Fits-IsWithin, FromAhead, FromSource, Origin, ahead_at, made-Fits, tape_at, taken_as-going_on}
 use Rattle.run_model.proofs.Leads.{after-add}

@@ -3,14 +3,13 @@ use Rattle.std.specs.Prelude.{◌≡◌, ℕ, ◌+◌, ◌≤◌, Bool, true, fa
 use Rattle.roff_num.specs.declared.limits.Limits.{Limits}
 use Rattle.roff_num.specs.declared.short_name.ShortName.{ShortName}
 use Rattle.roff_num.specs.ShortNames.{name_bytes}
-use Rattle.input_source.specs.Bytes.{blank, newline}
+use Rattle.input_source.specs.Bytes.{blank, newline, behind_blanks}
 use Rattle.input_model.specs.Input.{Ahead, ByteAhead, depth, pushed}
 use Rattle.input_escapes.specs.declared.escapes.NameUse.{NameUse}
 use Rattle.input_escapes.specs.declared.escapes.NameUse.TheVariants.{Register}
 use Rattle.law_reading.specs.CallLaws.{BeginsLine}
 use Rattle.law_reading.specs.InterpolationLaws.{IsEscapeOf, StandsForItself, text_named}
 use Rattle.law_reading.specs.MessageLaws.{HasMessage}
-use Rattle.input_source.specs.Bytes.{behind_blanks}
 use Rattle.run_model.specs.Messages.{told_line}
 use Rattle.run_model.specs.Run.{State, after, known}
 use Rattle.run_model.specs.Within.{IsWithin}

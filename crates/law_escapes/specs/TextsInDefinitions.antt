@@ -9,8 +9,7 @@ use Rattle.input_model.specs.Input.{Ahead, ByteAhead, lines_taken}
 use Rattle.input_model.specs.Input.Names.{stored}
 use Rattle.law_escapes.specs.Parts.{AreParts, IsCopiedPart, Part, bytes_of, cost_of_texts, known_behind, registers_behind, rewritten}
 use Rattle.law_escapes.specs.TextsInCalls.{HasRoomForTexts}
-use Rattle.law_reading.specs.DefinitionLaws.{BeginsDefinition, bytes_of_lines, is_end}
-use Rattle.law_reading.specs.DefinitionLaws.{text_of_lines, with_definition}
+use Rattle.law_reading.specs.DefinitionLaws.{BeginsDefinition, bytes_of_lines, is_end, text_of_lines, with_definition}
 use Rattle.law_reading.specs.InterpolationLaws.{StandsForItself}
 use Rattle.run_model.specs.Definitions.{end_mark}
 use Rattle.run_model.specs.Reading.DefinedLines.{behind_definition}

@@ -8,9 +8,8 @@ use Rattle.roff_store.specs.Texts.{Entry}
 use Rattle.run_model.proofs.ItemsTaken.{not-first, not-second}
 use Rattle.run_model.proofs.PlainRuns.{Here, Most, Onward, Path}
 use Rattle.law_reading.specs.CallLaws.{IsApostrophe, IsControl, IsDot}
-use Rattle.run_model.specs.Reading.ControlLines.{BelongsToName}
+use Rattle.run_model.specs.Reading.ControlLines.{BelongsToName, behind_called, called_taking, ends_name, name_ended_taking, name_whole_taking}
 use Rattle.run_model.specs.Reading.{undropped_taking, byte_taking}
-use Rattle.run_model.specs.Reading.ControlLines.{behind_called, called_taking, ends_name, name_ended_taking, name_whole_taking}
 use Rattle.run_model.specs.Reading.Ends.{due}
 use Rattle.run_model.specs.Reading.Items.{PageInput, going_on}
 use Rattle.run_model.specs.Registers.{Known}

@@ -6,13 +6,12 @@ use Rattle.roff_num.specs.declared.short_name.ShortName.{ShortName}
 use Rattle.roff_num.specs.ShortNames.{name_bytes}
 use Rattle.input_model.specs.Arguments.{Arguments, held, no_arguments, with_byte}
 use Rattle.input_model.specs.declared.place.Place.TheVariants.{InPlain}
-use Rattle.input_source.specs.Bytes.{blank, newline, backslash, is_dropped}
+use Rattle.input_source.specs.Bytes.{blank, newline, backslash, is_dropped, behind_blanks}
 use Rattle.roff_store.specs.Named.{Named}
 use Rattle.roff_store.specs.Texts.{Entry}
 use Rattle.law_reading.proofs.LineNames.{Allows, ReadsAs, ReadsName, onward, reads-name}
 use Rattle.law_reading.specs.InterpolationLaws.{StandsForItself}
 use Rattle.law_reading.specs.MessageLaws.{HasMessage, MessagesAreTheirTexts, TellsText}
-use Rattle.input_source.specs.Bytes.{behind_blanks}
 use Rattle.run_model.proofs.NameBytes.{stage}
 use Rattle.run_model.proofs.PlainRuns.{Here, Onward, Path, Path-append}
 use Rattle.run_model.specs.Reading.ControlLines.{behind_name, line_taking}

@@ -5,8 +5,7 @@ use Rattle.std.proofs.Math.Seq.{take-append_seam}
 use Rattle.std.proofs.lemmas.Bool.Decides.{nat_tests}
 use Rattle.std.proofs.lemmas.List.{length-reverse, reverse-append}
 use Rattle.input_model.proofs.KeptArguments.{held-finished, held-only_kept, held-settled, held-with_argument_byte, total_length-reverse}
-use Rattle.input_model.specs.Arguments.{Arguments, arguments_read, between, finished, held, only_kept, settled, total_length, with_argument_byte, with_whole}
-use Rattle.input_model.specs.Arguments.{is_held}
+use Rattle.input_model.specs.Arguments.{Arguments, arguments_read, between, finished, held, only_kept, settled, total_length, with_argument_byte, with_whole, is_held}
 use Rattle.input_model.specs.declared.place.Place.{Place}
 use Rattle.input_model.specs.declared.place.Place.TheVariants.{Between, InPlain, InQuotes, BehindQuote}
 use Rattle.law_reading.proofs.CalledArguments.{arguments_at, call_byte, call_byte-full, hold, hold-few, only_kept-few, same-if}

@@ -7,7 +7,7 @@ use Rattle.page_model.specs.declared.layout_event.LayoutEvent.TheVariants.{Diver
 use Rattle.page_model.specs.declared.settings.Param.TheVariants.{Filling}
 use Rattle.run_model.proofs.ItemsTaken.{Fits-IsWithin}
 use Rattle.run_model.specs.PageEvents.{PageEvent}
-use Rattle.run_model.specs.Run.{after, blank_state, first_input}
+use Rattle.run_model.specs.Run.{after, blank_state, first_input, State}
 use Rattle.run_model.specs.Run.Counts.{first_passed}
 use Rattle.run_model.specs.declared.event.PageEvent.TheVariants.{Page, Text}
 use Rattle.law_reading_again.proofs.Events.{IsQuiet, event-step, text-step}
@@ -15,7 +15,6 @@ use Rattle.roff_num.specs.declared.limits.Limits.{Limits}
 use Rattle.roff_num.specs.declared.short_name.ShortName.{ShortName}
 use Rattle.input_model.specs.Input.Names.{names_added, stored}
 use Rattle.page_model.specs.Layout.{Box, first_layout}
-use Rattle.run_model.specs.Run.{State}
 use Rattle.run_model.specs.Within.{IsWithin}
 use Rattle.input_source.specs.Tape.{Tape, OneByte, items_then}
 use Rattle.law_reading_again.specs.Again.{DiversionsBegin, ReadsAgain, Suffices, again_start, again_text}

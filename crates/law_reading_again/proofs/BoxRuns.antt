@@ -6,7 +6,7 @@ use Rattle.input_model.specs.Input.Names.{calling_on}
 use Rattle.roff_store.specs.TextCalls.{PushOpen}
 use Rattle.page_model.specs.DueTexts.{Gets}
 use Rattle.run_model.specs.Following.{text_changed}
-use Rattle.run_model.proofs.ItemsTaken.{Fits}
+use Rattle.run_model.proofs.ItemsTaken.{Fits, Origin}
 use Rattle.law_reading_again.proofs.DivertedBoxes.{outer}
 use Rattle.page_model.specs.Diverted.{diverted, escaped, escaped_byte}
 use Rattle.page_model.specs.DivertedText.{diverted_line, diverted_lines}
@@ -15,7 +15,6 @@ use Rattle.page_model.specs.Layout.{Box, Lined, Empty}
 use Rattle.page_model.specs.Words.{is_empty}
 use Rattle.page_model.specs.declared.glyph.Glyph.{Glyph}
 use Rattle.page_model.specs.declared.glyph.Glyph.TheVariants.{Blanks, Printed}
-use Rattle.run_model.proofs.ItemsTaken.{Origin}
 use Rattle.run_model.proofs.PlainRuns.{behind_byte, behind_bytes}
 use Rattle.run_model.specs.declared.event.PageEvent.TheVariants.{Text}
 use Rattle.run_model.specs.Reading.Items.{PageInput}

@@ -9,10 +9,9 @@ use Rattle.input_model.specs.Input.{with_arguments}
 use Rattle.run_model.specs.Definitions.{end_mark, front_of}
 use Rattle.read_lines.specs.Reader.State.{ReaderState}
 use Rattle.read_lines.specs.Reader.Taken.{TakesAs}
-use Rattle.run_model.specs.Reading.Items.{PageUnread}
+use Rattle.run_model.specs.Reading.Items.{PageUnread, PageInput, Taking}
 use Rattle.run_model.specs.Reading.Arguments.{arguments_ended, line_ended}
 use Rattle.run_model.specs.Reading.Definitions.{definition_begun}
-use Rattle.run_model.specs.Reading.Items.{PageInput, Taking}
 use Rattle.run_model.specs.Registers.{Known}
 use Rattle.roff_num.specs.ShortNames.{name_or_none}
 use Rattle.run_model.specs.declared.step.Step.{Step}

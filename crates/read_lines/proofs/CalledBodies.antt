@@ -8,10 +8,9 @@ use Rattle.input_escapes.specs.declared.open_escape.CopyUnit.{CopyUnit}
 use Rattle.input_escapes.specs.declared.open_escape.CopyUnit.TheVariants.{Byte, Kept}
 use Rattle.read_lines.specs.Reader.State.{ReaderState}
 use Rattle.read_lines.specs.Reader.Taken.{TakesAs}
-use Rattle.run_model.specs.Reading.Items.{PageUnread}
+use Rattle.run_model.specs.Reading.Items.{PageUnread, PageInput, going_on}
 use Rattle.run_model.specs.Reading.Calls.{call_unit, holding_call}
 use Rattle.run_model.specs.Reading.Escapes.{argument_named}
-use Rattle.run_model.specs.Reading.Items.{PageInput, going_on}
 use Rattle.run_model.specs.Reading.Units.{holding, settling}
 use Rattle.run_model.specs.declared.step.Step.{Step}
 use Rattle.run_model.specs.declared.step.Step.TheVariants.{Nothing}

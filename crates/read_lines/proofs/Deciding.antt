@@ -24,10 +24,9 @@ use Rattle.input_escapes.specs.declared.open_escape.Found.TheVariants.{GoesOn, U
 use Rattle.read_lines.specs.Reader.State.{ReaderState}
 use Rattle.read_lines.specs.Reader.Taken.{TakesAs, Took}
 use Rattle.run_model.specs.Environments.{PageHistory}
-use Rattle.run_model.specs.Reading.Items.{PageUnread}
+use Rattle.run_model.specs.Reading.Items.{PageUnread, PageInput, Taking, behind_events}
 use Rattle.run_model.specs.Reading.Beginnings.{at_start, beginning_found, first_escape, first_taking, going_on_told, line_begun, line_begun_as}
 use Rattle.run_model.specs.Reading.Branches.{condition_found, decided, is_so, with_result_if, skipping_taking}
-use Rattle.run_model.specs.Reading.Items.{PageInput, Taking, behind_events}
 use Rattle.run_model.specs.Reading.TextLines.{character_printed, escape_meant, escape_taking, text_taking}
 use Rattle.run_model.specs.Reading.Units.{no_unit_found}
 use Rattle.run_model.specs.Registers.{AllRegisters, Known, changed_by_all}

@@ -7,10 +7,9 @@ use Rattle.run_state.specs.declared.composer.Composer.{Composer as ComposerOf}
 use Rattle.roff_num.specs.declared.limit.Limit.{Limit}
 use Rattle.roff_num.specs.declared.limit.Limit.TheVariants.{Stack, Depth, Diversions, Store, Names, Conditions}
 use Rattle.roff_num.specs.declared.limits.Limits.{Limits}
-use Rattle.input_model.specs.Arguments.{Arguments, held, no_arguments, settled_at, with_byte_at, with_unit, with_whole}
+use Rattle.input_model.specs.Arguments.{Arguments, held, no_arguments, settled_at, with_byte_at, with_unit, with_whole, live_bytes}
 use Rattle.input_escapes.specs.OpenEscape.{texts_held, unit_bytes}
 use Rattle.input_model.specs.Input.{bytes_ahead, depth, pushed, result_count}
-use Rattle.input_model.specs.Arguments.{live_bytes}
 use Rattle.input_model.specs.Input.Names.{adding, calling, calling_on, names_added, stored}
 use Rattle.input_model.specs.Unread.{input_refusal}
 use Rattle.input_model.specs.declared.place.Place.{Place}
@@ -24,9 +23,8 @@ use Rattle.read_names.specs.FirstUnits.{first_text}
 use Rattle.read_lines.specs.Reader.State.{ReaderState}
 use Rattle.read_names.specs.Inputs.{InputCameTo}
 use Rattle.read_lines.specs.Reader.Taken.{TakesAs}
-use Rattle.run_model.specs.Reading.Items.{PageUnread}
+use Rattle.run_model.specs.Reading.Items.{PageUnread, PageInput, going_on}
 use Rattle.roff_num.specs.ShortNames.{name_at}
-use Rattle.run_model.specs.Reading.Items.{PageInput, going_on}
 use Rattle.run_model.specs.Reading.Strings.{name_read, string_begun, string_grown, string_name_behind, string_unit}
 use Rattle.run_model.specs.Reading.Units.{holding}
 use Rattle.run_model.specs.declared.line_state.LineState.TheVariants.{Collecting}

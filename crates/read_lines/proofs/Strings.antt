@@ -11,8 +11,7 @@ use Rattle.run_model.specs.Events.Steps.{events_of, messages_of}
 use Rattle.read_lines.specs.Reader.State.{ReaderState}
 use Rattle.read_names.specs.Inputs.{InputCameTo}
 use Rattle.read_lines.specs.Reader.Taken.{IsReady, TakesAs}
-use Rattle.run_model.specs.Reading.Items.{PageUnread}
-use Rattle.run_model.specs.Reading.Items.{PageInput, Taking, going_on}
+use Rattle.run_model.specs.Reading.Items.{PageUnread, PageInput, Taking, going_on}
 use Rattle.run_model.specs.Reading.Messages.{message_unit}
 use Rattle.run_model.specs.Reading.Strings.{name_read, string_grown, string_name_or_text, string_name_unit, string_unit}
 use Rattle.run_model.specs.Reading.Units.{settling}

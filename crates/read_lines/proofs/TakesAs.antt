@@ -23,10 +23,9 @@ use Rattle.roff_store.specs.declared.register.Register.{Register}
 use Rattle.run_model.specs.Output.{PageHistory}
 use Rattle.read_lines.specs.Reader.State.{ReaderState}
 use Rattle.read_lines.specs.Reader.Taken.{IsReady, Takes, TakesAs, Took}
-use Rattle.run_model.specs.Reading.Items.{PageUnread}
+use Rattle.run_model.specs.Reading.Items.{PageUnread, PageInput, Taking, going_on}
 use Rattle.run_model.specs.Reading.ControlLines.{line_taking}
 use Rattle.run_model.specs.Reading.Escapes.{interpolating}
-use Rattle.run_model.specs.Reading.Items.{PageInput, Taking, going_on}
 use Rattle.run_model.specs.Reading.Units.{interrupted}
 use Rattle.run_model.specs.Registers.{AllRegisters, Known, changed_by_all, is_page, is_read_only, known_stepped, page_stepped, step_changes, step_messages, text_of_register}
 use Rattle.run_model.specs.Registers.Capped.{Capped}

@@ -9,8 +9,7 @@ use Rattle.input_model.specs.Unread.{changing, input_refusal, unless_passed}
 use Rattle.roff_store.specs.Named.{Named, with_entry}
 use Rattle.roff_store.specs.TextCalls.{Set}
 use Rattle.roff_store.specs.Texts.{Entry, Request as RequestEntry, bytes_in}
-use Rattle.run_model.specs.Reading.Items.{PageUnread}
-use Rattle.run_model.specs.Reading.Items.{PageInput}
+use Rattle.run_model.specs.Reading.Items.{PageUnread, PageInput}
 use Rattle.run_model.specs.Requests.{first_entries, requests, row_of}
 use Rattle.run_model.specs.declared.request.Request.{Request}
 

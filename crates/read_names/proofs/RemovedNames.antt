@@ -5,9 +5,8 @@ use Rattle.roff_num.specs.Names.{name_of}
 use Rattle.input_model.specs.Arguments.{Arguments}
 use Rattle.input_model.specs.Input.Names.{calling}
 use Rattle.roff_store.specs.TextCalls.{Call, Remove}
-use Rattle.run_model.specs.Reading.Items.{PageUnread}
+use Rattle.run_model.specs.Reading.Items.{PageUnread, PageInput}
 use Rattle.run_model.specs.Reading.Arguments.{calling_all}
-use Rattle.run_model.specs.Reading.Items.{PageInput}
 use Rattle.read_names.specs.NamesGiven.{name_in}
 use Rattle.run_model.specs.Requests.Naming.{removals}
 use Rattle.run_model.specs.Requests.Numbering.{name_given, names_given}

@@ -1,5 +1,5 @@
 -- Number registers that are set and removed, by the arguments that are given.
-use Rattle.std.proofs.Common.{◌≡◌, ℕ, ℤ, Bool, true, false, cond, List, [], ◌∷◌, drop, slice_get, IfSome, Some, Result, arith, ap, refl, sym, ◌∙◌, filter}
+use Rattle.std.proofs.Common.{◌≡◌, ℕ, ℤ, List, [], ◌∷◌, drop, slice_get, IfSome, Some, Result, arith, ap, sym, ◌∙◌}
 use Rattle.std.proofs.lemmas.Bool.Decides.{nat_tests}
 use Rattle.roff_num.specs.declared.num.Num.{Num}
 use Rattle.roff_num.specs.declared.num.NumFault.{NumFault}
@@ -41,16 +41,3 @@ set_register-named k ((c ∷ d ∷ rest) ∷ second ∷ others) name text in_for
     let in_force_now : Num = (value_in_force k (c ∷ d ∷ [])) in
     if_named-some c (d ∷ rest) (setting_beside in_force_now (c ∷ d ∷ []) second (increment_given others))
     ∙ setting_beside-same in_force in_force_now name (c ∷ d ∷ []) text second (increment_given others) known (cc) (cc)
-
--- an element in front of a filtered list, filtered by the same test
-filter-cond : (p : List ℕ → Bool) (x : List ℕ) (xs : List (List ℕ)) (passes : Bool) → p x ≡ passes
-    → filter p (cond passes (x ∷ xs) xs) ≡ cond passes (x ∷ filter p xs) (filter p xs)
-filter-cond p x xs true is = rw is refl
-filter-cond p x xs false is = refl
-
--- a list filtered twice
-filter-filter : (p : List ℕ → Bool) (xs : List (List ℕ)) → filter p (filter p xs) ≡ filter p xs
-filter-filter p [] = refl
-filter-filter p (x ∷ xs) =
-    filter-cond p x (filter p xs) (p x) refl
-    ∙ ap (λ (ys : List (List ℕ)). cond (p x) (x ∷ ys) ys) (filter-filter p xs)

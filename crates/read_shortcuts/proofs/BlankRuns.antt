@@ -18,16 +18,16 @@ use Rattle.read_shortcuts.proofs.AddedRuns.{turned-same}
 use Rattle.read_shortcuts.proofs.RunsRead.{reads-taken, turned-behind}
 use Rattle.read_lines.proofs.TextTaken.{plain-found}
 use Rattle.read_lines.specs.Reader.State.{ReaderState}
-use Rattle.run_model.specs.Reading.Items.{PageUnread}
 use Rattle.run_model.specs.Reading.{byte_taking}
 use Rattle.run_model.specs.Reading.Beginnings.{at_start}
 use Rattle.run_model.specs.Reading.Ends.{due}
 use Rattle.run_model.specs.Reading.Found.{read_in}
-use Rattle.run_model.specs.Reading.Items.{PageInput, going_on, meaning_events}
+use Rattle.run_model.specs.Reading.Items.{PageInput, PageUnread, going_on, meaning_events}
 use Rattle.run_model.specs.Reading.TextLines.{most_leading}
 use Rattle.run_model.specs.Registers.{Known}
 use Rattle.run_model.specs.declared.event.PageEvent.TheVariants.{Text}
-use Rattle.run_model.specs.Stages.{Here, Ignores, Onward, Stage, Turned, blanks_counted, counts_blanks, input_at, stage_of}
+use Rattle.run_model.specs.Stages.{Here, Ignores, Onward, Stage, Turned, input_at, stage_of}
+use Rattle.read_shortcuts.specs.Runs.{blanks_counted, counts_blanks}
 use Rattle.read_shortcuts.specs.Stages.{ReadsPast}
 use Rattle.run_model.specs.declared.line_state.LineState.{LineState}
 use Rattle.run_model.specs.declared.line_state.LineState.TheVariants.{Branch, Text as InText}

@@ -1,12 +1,11 @@
 -- Bytes that stood in front were taken: more were taken of the input than before.
-use Rattle.std.proofs.Common.{ℕ, ◌<◌, ◌≤◌, List, [], ◌∷◌, ◌++◌, length, ap, arith, length-append, length-take-le}
+use Rattle.std.proofs.Common.{ℕ, Bool, true, false, ◌<◌, ◌≤◌, List, [], ◌∷◌, ◌++◌, length, ap, arith, length-append, if◌then◌else◌, length-take-le}
 use Rattle.input_model.specs.Arguments.{Arguments, bytes_held}
 use Rattle.input_source.specs.Bytes.{newline}
 use Rattle.input_source.specs.Tape.{Tape}
 use Rattle.roff_scan.specs.Unread.Calls.{IsFront, PassesFront, front_bytes}
-use Rattle.roff_scan.specs.Unread.Lines.{ended_by, with_held}
+use Rattle.roff_scan.specs.Unread.Lines.{ended_by, is_ended, with_held}
 use Rattle.roff_scan.specs.declared.unread.lines.BehindHeld.{BehindHeld}
-use Rattle.roff_scan.specs.declared.unread.lines.BehindHeld.TheVariants.{Newline, Named as AtName, Other}
 use Rattle.run_model.specs.Reading.Items.{PageUnread}
 use Rattle.read_shortcuts.specs.ControlFronts.{StandsReady}
 use Rattle.read_shortcuts.specs.Stages.{ReadsLine}
@@ -45,12 +44,13 @@ held-taken gave gives first held ready a b before after stands some passes =
     let charge = passed-charge gave gives (ended_by b (front_bytes (length first) ready before ++ held)) (with_held (bytes_held held a) before) after passes in
     let first_is = length-take-le (length first) _ stands.front.among in
     let both = length-append (front_bytes (length first) ready before) held in
-    omega (arith, charge, first_is, both, some, more b (front_bytes (length first) ready before ++ held))
+    let bytes : List ℕ = front_bytes (length first) ready before ++ held in
+    let longer : length bytes ≤ length (ended_by b bytes) = more (is_ended b) bytes in
+    omega (arith, charge, first_is, both, some, longer)
   where
-    more : (b : BehindHeld) (bytes : List ℕ) → length bytes ≤ length (ended_by b bytes)
-    more Newline bytes = let all = length-append bytes (newline ∷ []) in omega (arith, all)
-    more AtName bytes = omega arith
-    more Other bytes = omega arith
+    more : (ended : Bool) (bytes : List ℕ) → length bytes ≤ length (if ended then bytes ++ newline ∷ [] else bytes)
+    more true bytes = let all = length-append bytes (newline ∷ []) in omega (arith, all)
+    more false bytes = omega arith
 
 -- a text was counted, and bytes were taken behind it
 pub counted_taken : (gave gives : Tape → Type 0) (len more : ℕ) (bytes : List ℕ) (before counted after : PageUnread) → CountsText len more before counted

@@ -13,17 +13,15 @@ use Rattle.roff_store.specs.Texts.{Entry}
 use Rattle.run_model.proofs.NameBytes.{turns-first}
 use Rattle.read_shortcuts.proofs.RunsRead.{reads-run}
 use Rattle.run_model.proofs.ItemsTaken.{not-first, not-second}
-use Rattle.run_model.specs.Reading.ControlLines.{BelongsToName}
+use Rattle.run_model.specs.Reading.ControlLines.{BelongsToName, behind_called, ends_name, name_ended_taking, name_whole_taking}
 use Rattle.read_names.specs.NamesRead.{LeadsTo, half_begun, input_begun, is_deciding}
 use Rattle.read_shortcuts.specs.ControlFronts.{BeginsControl, StandsReady, control_byte}
 use Rattle.read_lines.specs.Reader.State.{ReaderState}
-use Rattle.run_model.specs.Reading.Items.{PageUnread}
+use Rattle.run_model.specs.Reading.Items.{PageUnread, PageInput, going_on}
 use Rattle.run_model.specs.Reading.{undropped_taking}
 use Rattle.run_model.specs.Reading.Beginnings.{at_start}
-use Rattle.run_model.specs.Reading.ControlLines.{behind_called, ends_name, name_ended_taking, name_whole_taking}
 use Rattle.run_model.specs.Reading.Ends.{due}
 use Rattle.run_model.specs.Reading.Found.{read_in}
-use Rattle.run_model.specs.Reading.Items.{PageInput, going_on}
 use Rattle.run_model.specs.Requests.{called_by}
 use Rattle.run_model.specs.Stages.{Here, Onward, Stage, Turned, Turns, input_at}
 use Rattle.read_shortcuts.specs.Stages.{ReadsPast}

@@ -4,8 +4,7 @@ use Rattle.std.specs.List.{AllByRecursion}
 use Rattle.input_model.proofs.KeptArguments.{held-only_kept, held-with_argument_byte}
 use Rattle.input_arguments.proofs.HeldBytes.{held-byte}
 use Rattle.input_model.specs.Arguments.{Arguments, HeldFewer, bytes_held, held, only_kept, with_argument_byte}
-use Rattle.input_source.specs.Bytes.{is_argument_byte}
-use Rattle.input_source.specs.Bytes.{backslash, is_dropped, newline}
+use Rattle.input_source.specs.Bytes.{is_argument_byte, backslash, is_dropped, newline}
 use Rattle.input_escapes.specs.OpenEscape.{OpenEscape}
 use Rattle.input_escapes.specs.Waiting.{is_ended_by}
 use Rattle.roff_store.specs.Named.{Named}

@@ -1,5 +1,5 @@
 -- Control lines that are read at once with their arguments, some of them up to their newlines.
-use Rattle.std.proofs.Common.{◌≡◌, ◌==◌, ◌||◌, ◌+◌, ◌≤◌, ℕ, Bool, true, false, List, [], ◌∷◌, ◌++◌, Option, None, append-nil, length, take, refl, sym, ap, subst, ◌∙◌, arith, eqb-true, length-append, take-take}
+use Rattle.std.proofs.Common.{◌≡◌, ◌==◌, ◌||◌, ◌+◌, ◌≤◌, ℕ, Bool, true, false, List, [], ◌∷◌, ◌++◌, Option, None, append-nil, length, take, refl, sym, ap, subst, ◌∙◌, arith, eqb-true, length-append, take-take, if◌then◌else◌}
 use Rattle.std.specs.List.{AllByRecursion}
 use Rattle.input_escapes.specs.OpenEscape.{OpenEscape}
 use Rattle.input_model.specs.Arguments.{Arguments, bytes_held}
@@ -15,7 +15,6 @@ use Rattle.roff_scan.proofs.Staged.{passes-staged, stage-behind, staged}
 use Rattle.roff_scan.specs.Unread.Calls.{IsFront, NoNewline, PassesFront, front_bytes, next_bytes}
 use Rattle.roff_scan.specs.Unread.Lines.{HoldsLine, StandsNewline, begins_with_newline, ended_by, is_ended, with_held}
 use Rattle.roff_scan.specs.declared.unread.lines.BehindHeld.{BehindHeld}
-use Rattle.roff_scan.specs.declared.unread.lines.BehindHeld.TheVariants.{Newline, Named as AtName, Other}
 use Rattle.run_model.proofs.ItemsTaken.{not-second}
 use Rattle.roff_scan.specs.Unread.Runs.{with_stage_of}
 use Rattle.run_model.specs.Reading.ControlLines.{BelongsToName, ends_name}
@@ -168,17 +167,17 @@ module _ (gave gives : Tape → Type 0) (r new : ReaderState) (there : LineState
   turned : Turned before.input.names (stage_with there [] begun before.input.open_texts) line.held (stage_with there [] (bytes_held line.held begun) before.input.open_texts)
   turned = turned-held most before.input.names there [] before.input.open_texts begun line.held refl leads.none_due each line.are_held line.fewer
 
+  -- what was taken, by whether it ended
+  abbrev Passes : Bool → Type 0
+  Passes ended =
+      let bytes : List ℕ = front_bytes (length first) ready before ++ line.held in
+      PassesFront gave gives (if ended then bytes ++ newline ∷ [] else bytes) (with_held (bytes_held line.held begun) before) after
+
   -- past its bytes
   pub held-past : is_ended behind ≡ false → IsWithin after → ReadsPast gave gives r new before after
   held-past left within =
       subst (λ (n : ReaderState). ReadsPast gave gives r n before after) (sym is)
-      (reads-held gave gives r there first ready before begun line.held leads line.are_held turned after (past behind left line.passes) within)
-    where
-      past : (b : BehindHeld) → is_ended b ≡ false → PassesFront gave gives (ended_by b (front_bytes (length first) ready before ++ line.held)) (with_held (bytes_held line.held begun) before) after
-          → PassesFront gave gives (front_bytes (length first) ready before ++ line.held) (with_held (bytes_held line.held begun) before) after
-      past Newline left passes = absurd (cc)
-      past AtName left passes = passes
-      past Other left passes = passes
+      (reads-held gave gives r there first ready before begun line.held leads line.are_held turned after (subst Passes left line.passes) within)
 
   -- where nothing is half read
   pub held-half : after.input.escapes ≡ []
@@ -191,13 +190,7 @@ module _ (gave gives : Tape → Type 0) (r new : ReaderState) (there : LineState
   pub held-line : is_ended behind ≡ true → ReadsLine gave gives r new before after
   held-line ended =
       subst (λ (n : ReaderState). ReadsLine gave gives r n before after) (sym is)
-      (reads-line gave gives r there first ready before begun line.held leads line.are_held turned after line.within (past behind ended line.passes))
-    where
-      past : (b : BehindHeld) → is_ended b ≡ true → PassesFront gave gives (ended_by b (front_bytes (length first) ready before ++ line.held)) (with_held (bytes_held line.held begun) before) after
-          → PassesFront gave gives (front_bytes (length first) ready before ++ line.held ++ newline ∷ []) (with_held (bytes_held line.held begun) before) after
-      past Newline ended passes = passes
-      past AtName ended passes = absurd (cc)
-      past Other ended passes = absurd (cc)
+      (reads-line gave gives r there first ready before begun line.held leads line.are_held turned after line.within (subst Passes ended line.passes))
 
 -- a line of which nothing was held
 pub bare-line : (gave gives : Tape → Type 0) (r new : ReaderState) (there : LineState) (first ready : List ℕ) (before after : PageUnread)

@@ -2,10 +2,9 @@
 use Rattle.std.specs.Prelude.{◌≡◌, ◌==◌, ◌||◌, ◌&&◌, not, nat_lt, ℕ, Bool, true, false, if◌then◌else◌, List, [], ◌∷◌, length, Some, None}
 use Rattle.input_source.specs.Bytes.{apostrophe, backslash, blank, dot, newline}
 use Rattle.roff_scan.specs.Unread.Calls.{IsFront, front_bytes}
-use Rattle.roff_scan.specs.Unread.Lines.{StandsNewline, begins_with_newline}
-use Rattle.run_model.specs.Reading.Items.{PageUnread}
+use Rattle.roff_scan.specs.Unread.Lines.{StandsNewline, begins_with_newline, is_ended}
+use Rattle.run_model.specs.Reading.Items.{PageUnread, PageInput, going_on}
 use Rattle.run_model.specs.Reading.{byte_taking}
-use Rattle.run_model.specs.Reading.Items.{PageInput, going_on}
 use Rattle.input_model.specs.declared.place.Place.{Place}
 use Rattle.read_names.specs.NamesRead.{LeadsTo, is_deciding}
 use Rattle.roff_scan.specs.declared.unread.lines.BehindHeld.{BehindHeld}
@@ -17,7 +16,7 @@ use Rattle.run_model.specs.Reading.Waiting.{line_waits}
 use Rattle.run_model.specs.Registers.{Known}
 use Rattle.read_shortcuts.specs.declared.control.ControlFront.{ControlFront}
 use Rattle.read_shortcuts.specs.declared.control.ControlRead.{ControlRead}
-use Rattle.read_shortcuts.specs.declared.control.ControlRead.TheVariants.{Nothing, Escape, Short, Front, Dropped, Condition, Decided, Held, HeldToEscape, HeldForCall, HeldToEnd}
+use Rattle.read_shortcuts.specs.declared.control.ControlRead.TheVariants.{Nothing, Escape, Short, Front, Dropped, Condition, Decided, Held, HeldForCall, HeldToEnd}
 use Rattle.run_model.specs.declared.line_state.LineState.{LineState}
 use Rattle.run_model.specs.declared.line_state.LineState.TheVariants.{Control}
 
@@ -55,9 +54,8 @@ is_read Front = true
 is_read Dropped = true
 is_read Condition = true
 is_read Decided = true
-is_read Held = true
-is_read HeldToEscape = true
-is_read HeldForCall = true
+is_read (Held behind) = true
+is_read (HeldForCall behind) = true
 is_read HeldToEnd = true
 
 -- whether its bytes were read past: no newline that isn't read yet was taken behind them, and no condition decided
@@ -69,22 +67,17 @@ is_past Front = true
 is_past Dropped = true
 is_past Condition = true
 is_past Decided = false
-is_past Held = true
-is_past HeldToEscape = true
-is_past HeldForCall = true
+is_past (Held behind) = true
+is_past (HeldForCall behind) = true
 is_past HeldToEnd = false
 
 -- what was read of one, by what stands behind the bytes that were held in its arguments
 abbrev pub read_to : BehindHeld → ControlRead
-read_to BehindHeld.Newline = HeldToEnd
-read_to BehindHeld.Named = HeldToEscape
-read_to BehindHeld.Other = Held
+read_to behind = if is_ended behind then HeldToEnd else Held behind
 
 -- the same of a line that calls a body
 abbrev pub read_for_call : BehindHeld → ControlRead
-read_for_call BehindHeld.Newline = HeldToEnd
-read_for_call BehindHeld.Named = HeldForCall
-read_for_call BehindHeld.Other = Held
+read_for_call behind = if is_ended behind then HeldToEnd else HeldForCall behind
 
 -- what was read of a line that is dropped, by whether its newline was taken
 abbrev pub read_dropped : Bool → ControlRead

@@ -10,7 +10,8 @@ use Rattle.read_shortcuts.specs.DroppedLines.{LineBegun}
 use Rattle.read_shortcuts.specs.Runs.{IsRun}
 use Rattle.read_shortcuts.specs.Stages.{ReadsLine, ReadsPast}
 use Rattle.read_shortcuts.specs.declared.control.ControlRead.{ControlRead}
-use Rattle.read_shortcuts.specs.declared.control.ControlRead.TheVariants.{Condition, Decided, Dropped, HeldForCall, HeldToEnd, HeldToEscape}
+use Rattle.read_shortcuts.specs.declared.control.ControlRead.TheVariants.{Condition, Decided, Dropped, Held, HeldForCall, HeldToEnd}
+use Rattle.roff_scan.specs.declared.unread.lines.BehindHeld.{BehindHeld}
 use Rattle.roff_scan.specs.declared.run_kind.RunKind.TheVariants.{Arguments, CallArguments, Condition as ConditionRun}
 
 -- This was read of a control line, over a source that was at one state and is at another: its bytes were read past, or up to its newline,
@@ -19,8 +20,8 @@ use Rattle.roff_scan.specs.declared.run_kind.RunKind.TheVariants.{Arguments, Cal
 pub record ReadsControl {S : Type 0} (g : byte_source.Ghosts S) (was is : S) (es : ComposerOf) (old new : ReaderState) (before after : PageUnread) (result : ControlRead) : Type 0 where
   pub past : is_past result ≡ true → ReadsPast (g.gives was) (g.gives is) old new before after
   pub line : result ≡ HeldToEnd → ReadsLine (g.gives was) (g.gives is) old new before after
-  pub escape : result ≡ HeldToEscape → IsRun Arguments new.reading after.input.escapes
-  pub call : result ≡ HeldForCall → IsRun (CallArguments 8) new.reading after.input.escapes
+  pub held : (behind : BehindHeld) → result ≡ Held behind → IsRun Arguments new.reading after.input.escapes
+  pub call : (behind : BehindHeld) → result ≡ HeldForCall behind → IsRun (CallArguments 8) new.reading after.input.escapes
   pub condition : result ≡ Condition → IsRun ConditionRun new.reading after.input.escapes
   pub decides : result ≡ Decided → DecidesAtOnce es (g.gives was) (g.gives is) old new before after
   pub dropped : result ≡ Dropped → LineBegun new before after

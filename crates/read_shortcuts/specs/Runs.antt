@@ -1,19 +1,29 @@
 -- Runs: bytes that do alike where something is read.
-use Rattle.std.specs.Prelude.{◌≡◌, ℕ, ◌+◌, ◌-◌, ◌==◌, Bool, true, false, List, [], length, take, take_while, None, Option, Some}
+use Rattle.std.specs.Prelude.{◌≡◌, ℕ, ◌+◌, ◌-◌, ◌==◌, ◌&&◌, Bool, true, false, if◌then◌else◌, not, nat_lt, min, List, [], length, take, take_while, None, Option, Some}
 use Rattle.input_model.specs.Unread.{asks_to_take}
 use Rattle.run_model.specs.Reading.Items.{PageUnread}
 use Rattle.input_source.specs.Bytes.{blank, is_argument_byte, is_passed, is_text_byte}
 use Rattle.input_escapes.specs.OpenEscape.{OpenEscape}
 use Rattle.run_model.specs.Reading.{Passes}
 use Rattle.run_model.specs.Reading.Ends.{due}
-use Rattle.run_model.specs.Stages.{Adds, EndsByNewline, Holds, HoldsIfFewer, Ignores, ReadsHalves, TakesHalf, counts_blanks}
+use Rattle.run_model.specs.Reading.TextLines.{most_leading}
+use Rattle.run_model.specs.Stages.{Adds, EndsByNewline, Holds, HoldsIfFewer, Ignores, ReadsHalves, TakesHalf}
 use Rattle.run_model.specs.Telling.{Prints}
 use Rattle.run_model.specs.declared.line_state.LineState.{LineState}
-use Rattle.run_model.specs.declared.line_state.LineState.TheVariants.{Branch, Title, Collecting}
+use Rattle.run_model.specs.declared.line_state.LineState.TheVariants.{Branch, Text as InText, Title, Collecting}
 use Rattle.run_model.specs.declared.purpose.Purpose.TheVariants.{Defining, StringName, StringText}
 use Rattle.read_lines.specs.Reader.State.{ReaderState}
 use Rattle.roff_scan.specs.declared.run_kind.RunKind.{RunKind}
 use Rattle.roff_scan.specs.declared.run_kind.RunKind.TheVariants.{Text, Blanks, Arguments, CallArguments, Name, Condition, Definition, Ignored, Dropped}
+
+-- blanks only count where this is read and nothing is half read: in front of the first glyph of a text line, behind another blank
+abbrev pub counts_blanks : LineState → Bool
+counts_blanks (InText line) = not line.has_glyph && nat_lt 0 line.leading
+counts_blanks (_) = false
+
+-- how many leading blanks so many more make
+abbrev pub blanks_counted : ℕ → ℕ → ℕ
+blanks_counted count leading = if count == 0 then leading else min (leading + count) most_leading
 
 -- bytes of a run of this kind do this where this is read
 abbrev pub Does : RunKind → LineState → Type 0

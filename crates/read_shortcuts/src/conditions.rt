@@ -13,8 +13,8 @@ ghost use Rattle.read_shortcuts.specs.Stages.{ReadsPast};
 ghost use Rattle.read_shortcuts.specs.declared.conditions.BehindName.TheVariants.{Constant};
 ghost use Rattle.read_shortcuts.specs.declared.control.ControlRead.TheVariants.{Condition, Decided};
 ghost use Rattle.read_shortcuts.specs.declared.control.ControlRead.TheVariants.{Dropped, HeldToEnd};
-ghost use Rattle.read_shortcuts.specs.declared.control.ControlRead.TheVariants.{HeldForCall};
-ghost use Rattle.read_shortcuts.specs.declared.control.ControlRead.TheVariants.{HeldToEscape};
+ghost use Rattle.read_shortcuts.specs.declared.control.ControlRead.TheVariants.{Held, HeldForCall};
+ghost use Rattle.roff_scan.specs.declared.unread.lines.BehindHeld.{BehindHeld};
 ghost use Rattle.roff_scan.specs.declared.run_kind.RunKind.TheVariants.{Condition as ConditionRun};
 
 use crate::answered::decide_register;
@@ -59,8 +59,8 @@ pub(super) fn read_condition<S: ByteSource>(
     ensures decides { result ≡ Decided → DecidesAtOnce composer.now (S.gives source.old)
         (S.gives source.new) reader.old reader.new unread.old unread.new }
     ensures line { result ≡ HeldToEnd → ⊥ }
-    ensures escape { result ≡ HeldToEscape → ⊥ }
-    ensures call { result ≡ HeldForCall → ⊥ }
+    ensures held { (behind : BehindHeld) → result ≡ Held behind → ⊥ }
+    ensures call { (behind : BehindHeld) → result ≡ HeldForCall behind → ⊥ }
     ensures dropped { result ≡ Dropped → ⊥ }
     ensures read { is_read result ≡ true }
     ensures taken { unread.old.input.charge < unread.new.input.charge }

@@ -23,7 +23,7 @@ use crate::other_branch::take_other;
 use read_lines::{CALL_ARGUMENTS, Reader};
 use read_names::{begin_deciding, behind_called, called_by};
 use roff_num::ShortName;
-use roff_scan::{BehindHeld, ByteSource, Unread, begins_named};
+use roff_scan::{BehindHeld, ByteSource, Unread, standing_at};
 use run_model::{LineState, PageEvent, Purpose};
 use run_state::Composer;
 
@@ -55,15 +55,12 @@ pub enum ControlRead {
     Condition,
     /// A condition too, and it decided; or the other branch of one: a branch begins, or is skipped.
     Decided,
-    /// The bytes up to its name's end, and bytes behind it that are held in its arguments.
-    Held,
-    /// The bytes up to its name's end, and bytes behind it that are held in its arguments. The
-    /// escape of a register, a string or an argument may stand behind them.
-    HeldToEscape,
+    /// The bytes up to the name's end of a request, and bytes behind it that are held in its
+    /// arguments: what stands behind them.
+    Held(BehindHeld),
     /// The bytes up to the name's end of a line that calls a body, and bytes behind it that are
-    /// held in its arguments. The escape of a register, a string or an argument may stand behind
-    /// them.
-    HeldForCall,
+    /// held in its arguments: what stands behind them.
+    HeldForCall(BehindHeld),
     /// The bytes up to its name's end, and those behind it up to its newline, which are held in its
     /// arguments. The newline was taken too, and isn't read yet.
     HeldToEnd,
@@ -164,10 +161,9 @@ fn unread_front(bytes: &[u8]) -> ControlRead
     ensures unread { is_read result ≡ false }
     ensures past { is_past result ≡ false }
 {
-    if begins_named(bytes, 0) {
-        ControlRead::Escape
-    } else {
-        ControlRead::Nothing
+    match standing_at(bytes, 0) {
+        BehindHeld::Named => ControlRead::Escape,
+        _ => ControlRead::Nothing,
     }
 }
 
@@ -270,8 +266,7 @@ pub(super) fn held_to(behind: BehindHeld) -> ControlRead
 {
     match behind {
         BehindHeld::Newline => ControlRead::HeldToEnd,
-        BehindHeld::Named => ControlRead::HeldToEscape,
-        BehindHeld::Other => ControlRead::Held,
+        _ => ControlRead::Held(behind),
     }
 }
 
@@ -282,8 +277,7 @@ pub(super) fn held_for_call(behind: BehindHeld) -> ControlRead
 {
     match behind {
         BehindHeld::Newline => ControlRead::HeldToEnd,
-        BehindHeld::Named => ControlRead::HeldForCall,
-        BehindHeld::Other => ControlRead::Held,
+        _ => ControlRead::HeldForCall(behind),
     }
 }
 

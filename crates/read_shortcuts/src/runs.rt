@@ -4,15 +4,17 @@ ghost use Rattle.std.specs.Prelude.{◌≡◌, ◌≤◌, IfSome, List, []};
 ghost use Rattle.input_escapes.specs.OpenEscape.{OpenEscape};
 ghost use Rattle.run_model.specs.declared.line_state.LineState.TheVariants.{Collecting};
 ghost use Rattle.run_model.specs.declared.line_state.LineState.TheVariants.{Text as InText};
-ghost use Rattle.read_shortcuts.specs.Runs.{IsRun, KeepsReader, TakesReady};
-ghost use Rattle.read_shortcuts.specs.Runs.{branch_blanks, ready_allowed, run_holding};
+ghost use Rattle.read_shortcuts.specs.Runs.{IsRun, KeepsReader, TakesReady, blanks_counted};
+ghost use Rattle.read_shortcuts.specs.Runs.{branch_blanks, counts_blanks, ready_allowed, run_holding};
 ghost use Rattle.read_shortcuts.specs.Stages.{ReadsPast};
-ghost use Rattle.roff_scan.specs.declared.run_kind.RunKind.TheVariants.{Blanks};
-ghost use Rattle.roff_scan.specs.declared.run_kind.RunKind.TheVariants.{Condition};
+ghost use Rattle.roff_scan.specs.declared.run_kind.RunKind.TheVariants.{Blanks, Condition};
 
 use read_lines::{CALL_ARGUMENTS, Reader};
-use roff_scan::{ByteSource, RunKind, Unread};
+use roff_scan::{BehindHeld, ByteSource, RunKind, Unread};
 use run_model::{LineState, PageEvent, Purpose, TextLine};
+
+/// A count of leading blanks above this reads as this.
+const MOST_LEADING: usize = 2_147_483_647;
 
 /// What the bytes in front do, as far as some can be taken together: by what is being read, and
 /// whether something is half read.
@@ -147,15 +149,14 @@ fn take_staying<S: ByteSource>(
 }
 
 /// Takes bytes in front that are held in arguments, as long as fewer than so many are whole, where
-/// there is a bound. Returns whether the escape of a register, a string or an argument may stand
-/// behind them.
+/// there is a bound. Returns what stands behind them.
 #[inline(always)]
 pub fn take_arguments<S: ByteSource>(
     reader: &Reader,
     most: Option<usize>,
     unread: &mut Unread<PageEvent>,
     source: &mut S,
-) -> bool
+) -> BehindHeld
     requires { IsRun (run_holding most) reader.now.reading unread.old.input.escapes }
     ensures past { ReadsPast (S.gives source.old) (S.gives source.new)
         reader.now reader.now unread.old unread.new }
@@ -165,14 +166,14 @@ pub fn take_arguments<S: ByteSource>(
 {
     match most {
         None => {
-            let (_, meets_name) = unread.take_arguments(source);
+            let (_, behind) = unread.take_arguments(source);
             unread.stays_within();
-            meets_name
+            behind
         }
         Some(most) => {
-            let (_, meets_name) = unread.take_call_arguments(most, source);
+            let (_, behind) = unread.take_call_arguments(most, source);
             unread.stays_within();
-            meets_name
+            behind
         }
     }
 }
@@ -190,10 +191,24 @@ fn take_blanks<S: ByteSource>(reader: &mut Reader, unread: &mut Unread<PageEvent
         LineState::Text(line) => {
             let count = unread.take_run(RunKind::Blanks, source);
             unread.stays_within();
-            reader.go_on(LineState::Text(line.behind_blanks(count)));
+            reader.go_on(LineState::Text(behind_blanks(line, count)));
         }
         _ => unread.stays_within(),
     }
+}
+
+/// A text line behind so many leading blanks more. Beyond 2147483647 they don't count.
+#[inline(always)]
+fn behind_blanks(line: TextLine, count: usize) -> TextLine
+    ensures { result ≡ record line { leading = blanks_counted count line.leading } }
+{
+    if count == 0 {
+        return line;
+    }
+    let counted = (line.leading as usize).saturating_add(count);
+    let mut behind = line;
+    behind.leading = counted.min(MOST_LEADING) as u32;
+    behind
 }
 
 /// Takes blanks together that stand in front where a branch begins, and nothing is half read.
@@ -245,8 +260,16 @@ fn run_of_text(line: TextLine) -> Option<RunKind>
     if line.prints() {
         return Some(RunKind::Text);
     }
-    if line.counts_blanks() {
+    if only_counts_blanks(line) {
         return Some(RunKind::Blanks);
     }
     None
+}
+
+/// Whether blanks only count: in front of the first glyph, behind another blank.
+#[inline(always)]
+fn only_counts_blanks(line: TextLine) -> bool
+    ensures { result ≡ counts_blanks (InText line) }
+{
+    !line.has_glyph && line.leading > 0
 }

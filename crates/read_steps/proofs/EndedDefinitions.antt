@@ -17,10 +17,9 @@ use Rattle.run_model.specs.Output.{PageHistory}
 use Rattle.read_lines.specs.Reader.State.{ReaderState}
 use Rattle.read_names.specs.Inputs.{InputCameTo}
 use Rattle.read_lines.specs.Reader.Taken.{Takes, TakesAs}
-use Rattle.run_model.specs.Reading.Items.{PageUnread}
+use Rattle.run_model.specs.Reading.Items.{PageUnread, PageInput, Taking, going_on}
 use Rattle.run_model.specs.Reading.DefinedLines.{behind_definition, definition_line, definition_unit}
 use Rattle.run_model.specs.Reading.Definitions.{definition_cut, definition_dropped, definition_grown}
-use Rattle.run_model.specs.Reading.Items.{PageInput, Taking, going_on}
 use Rattle.run_model.specs.Reading.Strings.{string_entered}
 use Rattle.roff_num.specs.ShortNames.{name_bytes}
 use Rattle.run_model.specs.Registers.{AllRegisters, Known, changed_by_all}

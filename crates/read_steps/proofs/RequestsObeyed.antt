@@ -13,9 +13,8 @@ use Rattle.read_obeying.specs.Acting.{Acts, CameToEffect, Kept, Refused, behind_
 use Rattle.read_meaning.specs.Meaning.{MeaningKept}
 use Rattle.read_lines.specs.Reader.State.{ReaderState}
 use Rattle.read_lines.specs.Reader.Taken.{TakesAs}
-use Rattle.run_model.specs.Reading.Items.{PageUnread}
+use Rattle.run_model.specs.Reading.Items.{PageUnread, PageInput}
 use Rattle.run_model.specs.Reading.Arguments.{calling_all, line_ended, reading_behind}
-use Rattle.run_model.specs.Reading.Items.{PageInput}
 use Rattle.run_model.specs.Registers.{AllRegisters, Change, changed_by, changed_by_all, is_page, is_read_only}
 use Rattle.run_model.specs.Registers.Capped.{Capped, is_past_cap}
 use Rattle.read_registers.specs.Registers.Coded.{change_of}

@@ -5,11 +5,10 @@ use Rattle.std.proofs.Math.Seq.{drop-cons, take-nil}
 use Rattle.std.proofs.lemmas.Bool.{cases_Bool, cases_lt}
 use Rattle.page_model.specs.Events.{History}
 use Rattle.page_model.specs.Telling.{bytes_told}
-use Rattle.roff_lines.specs.Env.Tells.{PlainlyTold}
+use Rattle.roff_lines.specs.Env.Tells.{PlainlyTold, TellsFront, TellsOf, EndsGlyphs, EndsBlanks}
 use Rattle.roff_lines.specs.GlyphsInFront.{glyphs_in_front}
 use Rattle.roff_lines.specs.Env.Kept.{Kept, word_finishes}
 use Rattle.roff_lines.specs.Env.Stands.{StandsPlain}
-use Rattle.roff_lines.specs.Env.Tells.{TellsFront, TellsOf, EndsGlyphs, EndsBlanks}
 use Rattle.roff_lines.proofs.GlyphsInFront.{front-glyph, front-blank}
 use Rattle.roff_lines.proofs.Tells.{TellsFront-append}
 use Rattle.roff_lines.proofs.TextRuns.{QuietlyTold-told, Stands-told, most_told}

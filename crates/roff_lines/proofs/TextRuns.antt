@@ -6,12 +6,11 @@ use Rattle.std.proofs.lemmas.Bool.{cases_Bool}
 use Rattle.page_model.specs.declared.event.Event.TheVariants.{WordEnd, Gap}
 use Rattle.page_model.specs.Events.{History}
 use Rattle.page_model.specs.Telling.{bytes_told}
-use Rattle.roff_lines.specs.Env.Tells.{PlainlyTold}
+use Rattle.roff_lines.specs.Env.Tells.{PlainlyTold, TellsPlain, TellsFront, EndsGlyphs, EndsBlanks}
 use Rattle.page_model.specs.Lines.{pending_length}
 use Rattle.roff_lines.specs.GlyphsInFront.{glyphs_in_front}
 use Rattle.roff_lines.specs.Env.Kept.{Kept, glyph_room, with_glyphs, with_word_ended, word_finishes}
 use Rattle.roff_lines.specs.Env.Stands.{StandsPlain, StandsPlainBehind}
-use Rattle.roff_lines.specs.Env.Tells.{TellsPlain, TellsFront, EndsGlyphs, EndsBlanks}
 use Rattle.roff_lines.proofs.GlyphsInFront.{front-glyph, front-blank}
 use Rattle.roff_lines.proofs.WordEnd.{Stands-word_end, finished_by_word-stands}
 use Rattle.roff_lines.proofs.Tells.{QuietlyTold-behind, AllByRecursion-behind}

@@ -111,10 +111,6 @@ pub planted_last : (new : Trap) (traps : List Trap) (index : ℕ) → index ≡ 
     → traps ++ new ∷ [] ≡ with_trap new traps
 planted_last new traps index is behind = rw (found_none (is_given new.place) traps (omega arith)) refl
 
--- where none before the rest passes
-pub none_before : (is_it : Trap → Bool) (traps : List Trap) → NoneBefore is_it traps traps
-none_before is_it traps = record { front = []; is = refl; none = refl }
-
 pub none_before-more : (is_it : Trap → Bool) (traps rest front others : List Trap) (count : ℕ) → NoneBefore is_it traps rest → front ≡ take count rest → others ≡ drop count rest
     → list_any is_it front ≡ false → NoneBefore is_it traps others
 none_before-more is_it traps rest front others count before first behind none =

@@ -1,5 +1,5 @@
 -- A line that is taken up to its newline, and the newline behind it.
-use Rattle.std.proofs.Common.{◌≡◌, ◌==◌, ℕ, suc, zero, ◌+◌, ◌-◌, ◌≤◌, true, List, [], ◌∷◌, ◌++◌, count_by, drop, length, map, Option, take, refl, sym, ap, subst, ◌∙◌, arith, cond, eqb-true, length-drop, length-take-le, take-take}
+use Rattle.std.proofs.Common.{◌≡◌, ◌==◌, ℕ, suc, zero, ◌+◌, ◌-◌, ◌≤◌, true, List, [], ◌∷◌, ◌++◌, count_by, drop, length, map, Option, take, refl, sym, ap, subst, ◌∙◌, arith, cond, length-drop, take-take, length-take-le}
 use Rattle.std.specs.List.{AllByRecursion}
 use Rattle.std.proofs.lemmas.List.Sums.{sum_by-cons}
 use Rattle.std.proofs.Math.Seq.{take-add}
@@ -11,7 +11,7 @@ use Rattle.input_model.specs.Unread.{IsWithin, Unread, asks_to_take}
 use Rattle.input_source.specs.Bytes.{is_argument_byte, newline}
 use Rattle.input_source.specs.Tape.{OneByte, Tape, Took}
 use Rattle.roff_scan.specs.Unread.Calls.{NoNewline, PassesFront, PassesSource, front_bytes, next_bytes}
-use Rattle.roff_scan.specs.Unread.Lines.{HoldsLine, StandsNewline, begins_with_newline, ended_by, is_ended, line_behind, line_room, with_held}
+use Rattle.roff_scan.specs.Unread.Lines.{HoldsLine, StandsNewline, ended_by, line_behind, line_room, standing, with_held}
 use Rattle.roff_scan.specs.declared.unread.lines.BehindHeld.{BehindHeld}
 use Rattle.roff_scan.specs.declared.run_kind.RunKind.TheVariants.{Arguments as ArgumentsRun}
 use Rattle.roff_scan.proofs.RunKinds.{run-held, run-plain}
@@ -50,15 +50,6 @@ taken_behind next front skipped count is few =
         ap (λ (bytes : List ℕ). take (suc n) (drop skipped bytes)) (is ∙ ap (λ (m : ℕ). take m next) parts)
         ∙ ap (take (suc n)) (drop-take skipped more next)
         ∙ take-take (suc n) more (drop skipped next) (omega (arith, few, left))
-
--- a newline that stands there ends those before it
-pub newline_behind : (bytes : List ℕ) (count : ℕ) → begins_with_newline (drop count bytes) ≡ true → take (count + 1) bytes ≡ take count bytes ++ newline ∷ []
-newline_behind bytes count is =
-    take-add count 1 bytes ∙ ap (λ (behind : List ℕ). take count bytes ++ behind) (first (drop count bytes) is)
-  where
-    first : (behind : List ℕ) → begins_with_newline behind ≡ true → take 1 behind ≡ newline ∷ []
-    first [] is = cc
-    first (b ∷ behind) is = ap (λ (c : ℕ). c ∷ []) (eqb-true b newline is)
 
 module _ {E : Type 0} (ready : List ℕ) (u : Unread E) (count : ℕ) (stands : StandsNewline count ready u) (none : is_none_ahead u.input.ahead ≡ true)
     (plain : NoNewline (front_bytes count ready u)) where
@@ -123,9 +114,9 @@ module _ {E : Type 0} (most : Option ℕ) (ready : List ℕ) (u : Unread E) (fro
       → HeldFewer most held_bytes u.input.arguments → IsWithin u → pushed u.input + (room - skipped) ≤ u.limits.stack
       → PassesFront old new (ended_by behind (front_bytes (skipped + count) ready u)) (with_held arguments_held u) after
       → (is_none_ahead u.input.ahead ≡ true → u.looked ≡ Nothing → front ≡ take room ready) → room ≡ line_room skipped u
-      → StopsAt most rest count arguments_held → is_ended behind ≡ begins_with_newline (drop count rest)
+      → StopsAt most rest count arguments_held → behind ≡ standing (drop count rest)
       → HoldsLine most skipped old new ready behind u after
-  holds_line old new behind after are fewer within stack passes whole is_room stops ends =
+  holds_line old new behind after are fewer within stack passes whole is_room stops there =
       let length_held : length held_bytes ≡ count = length-take-le count rest taken in
       record {
         held = held_bytes;
@@ -134,8 +125,8 @@ module _ {E : Type 0} (most : Option ℕ) (ready : List ℕ) (u : Unread E) (fro
         within = all_within within stack;
         passes = subst (λ (bytes : List ℕ). PassesFront old new (ended_by behind bytes) (with_held arguments_held u) after) (all_taken count taken) passes;
         stops = λ asks. subst (λ (bytes : List ℕ). StopsAt most bytes (length held_bytes) arguments_held) (far asks) (subst (λ (n : ℕ). StopsAt most rest n arguments_held) (sym length_held) stops);
-        ended = λ asks. ends ∙ ap (λ (bytes : List ℕ). begins_with_newline (drop count bytes)) (far asks)
-            ∙ ap (λ (n : ℕ). begins_with_newline (drop n (line_behind skipped u ready))) (sym length_held);
+        stands = λ asks. there ∙ ap (λ (bytes : List ℕ). standing (drop count bytes)) (far asks)
+            ∙ ap (λ (n : ℕ). standing (drop n (line_behind skipped u ready))) (sym length_held);
       }
     where
       far : asks_to_take u ≡ true → rest ≡ line_behind skipped u ready

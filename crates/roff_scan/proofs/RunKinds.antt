@@ -8,8 +8,7 @@ use Rattle.input_escapes.specs.OpenEscape.{OpenEscape, texts_held}
 use Rattle.input_escapes.specs.declared.open_escape.CopyUnit.TheVariants.{Byte}
 use Rattle.input_escapes.proofs.ConditionFronts.{taken-plain}
 use Rattle.input_escapes.proofs.EscapeFronts.{HalvesRead-held}
-use Rattle.input_model.specs.Arguments.{HeldFewer, bytes_held, held, only_kept, with_argument_byte}
-use Rattle.input_model.specs.Arguments.{Arguments as LineArguments}
+use Rattle.input_model.specs.Arguments.{HeldFewer, bytes_held, held, only_kept, with_argument_byte, Arguments as LineArguments}
 use Rattle.input_arguments.proofs.HeldBytes.{held-bytes_held}
 use Rattle.input_ahead.proofs.GivenFronts.{HalvesTaken-held}
 use Rattle.input_model.specs.Input.{Input}

@@ -2,8 +2,7 @@
 use Rattle.std.proofs.Common.{◌≡◌, ℕ, ◌+◌, ◌≤◌, Bool, true, false, if◌then◌else◌, List, [], length, take, take_while, refl, sym, ap, subst, ◌∙◌, arith, length-take-le, take-take}
 use Rattle.std.specs.List.{AllByRecursion}
 use Rattle.std.proofs.lemmas.Bool.{and_parts}
-use Rattle.input_model.specs.Arguments.{HeldFewer, held}
-use Rattle.input_model.specs.Arguments.{Arguments as LineArguments}
+use Rattle.input_model.specs.Arguments.{HeldFewer, held, Arguments as LineArguments}
 use Rattle.input_escapes.specs.OpenEscape.{OpenEscape, texts_held}
 use Rattle.input_model.specs.Input.{Input, is_none_ahead, pushed}
 use Rattle.input_source.specs.Tape.{Tape}

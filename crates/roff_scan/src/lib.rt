@@ -13,4 +13,4 @@ pub use input_escapes::{
 pub use input_model::{Item, Looked, Place, Sight};
 pub use input_source::{ByteSource, Note, ReadSource, Taken, is_dropped, is_silent, text_in_front};
 pub use run_kind::RunKind;
-pub use unread::{BehindHeld, Unread, begins_named};
+pub use unread::{BehindHeld, Unread, standing_at};

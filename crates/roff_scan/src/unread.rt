@@ -22,7 +22,7 @@ use input_ahead::InputAhead;
 use input_arguments::{ArgumentTexts, Calls};
 use input_escapes::OpenEscapes;
 use input_model::Looked;
-pub use lines::{BehindHeld, begins_named};
+pub use lines::{BehindHeld, standing_at};
 use roff_num::Limits;
 use std::alloc::{AllocError, Global};
 use std::marker::Model;

@@ -6,11 +6,10 @@ use Rattle.run_model.proofs.LinesLeft.{left_by-fewer, lines_left-event, most_lef
 use Rattle.run_model.specs.Environments.{PageHistory, interrupted_line, text_of}
 use Rattle.run_model.specs.PageEvents.{PageEvent}
 use Rattle.run_model.specs.declared.event.PageEvent.TheVariants.{Text, Page, Interrupt, Environment, Back, InputTrap as SetsTrap, Title}
-use Rattle.run_model.specs.TurnsToCome.{lines_left}
+use Rattle.run_model.specs.TurnsToCome.{lines_left, left_by, most_left}
 use Rattle.run_model.specs.Registers.{AllRegisters}
 use Rattle.run_model.specs.Titles.{told}
 use Rattle.run_events.specs.Formatter.Performing.{behind_event, behind_events, behind_next}
-use Rattle.run_model.specs.TurnsToCome.{left_by, most_left}
 use Rattle.run_model.specs.Springs.{begins, ends_field, field_end_or, next, next_unfielded, own_word_end, page_begin_or, word_end_of}
 use Rattle.page_model.specs.Behind.{has_open_word}
 

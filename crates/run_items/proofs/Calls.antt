@@ -14,8 +14,7 @@ use Rattle.run_events.proofs.EventsLeft.{most-length}
 use Rattle.run_items.proofs.Fronts.{few-nothing, few-sees}
 use Rattle.input_model.specs.Shown.{Shown, ShowsByte, ShowsDo, ShowsEnding, ShowsRefusal, Sighted, SeesByte, SeesNothing, SeesEnding, shown_ahead, seen_ahead}
 use Rattle.run_items.specs.Outcome.{IsLeftOf}
-use Rattle.run_model.specs.Reading.Items.{PageInput}
-use Rattle.run_model.specs.Reading.Items.{PageUnread}
+use Rattle.run_model.specs.Reading.Items.{PageInput, PageUnread}
 use Rattle.run_model.specs.Registers.{AllRegisters}
 use Rattle.run_model.specs.PageEvents.{PageEvent}
 use Rattle.run_model.specs.declared.line_state.LineState.{LineState}

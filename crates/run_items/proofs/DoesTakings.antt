@@ -15,8 +15,7 @@ use Rattle.run_state.specs.declared.composer.Composer.{Composer as ComposerOf}
 use Rattle.run_model.specs.Output.{PageHistory}
 use Rattle.read_lines.specs.Reader.Taken.{CameTo, IsReady, TakesAs}
 use Rattle.run_events.specs.declared.sprung.Sprung.{Sprung}
-use Rattle.run_model.specs.Reading.Items.{PageUnread}
-use Rattle.run_model.specs.Reading.Items.{PageInput, Taking}
+use Rattle.run_model.specs.Reading.Items.{PageUnread, PageInput, Taking}
 use Rattle.run_model.specs.Registers.{AllRegisters, Known, changed_by_all}
 use Rattle.run_model.specs.Registers.Capped.{Capped}
 use Rattle.run_model.specs.Run.{State, known_at, taken_as, unless_refused}

@@ -8,11 +8,10 @@ use Rattle.roff_scan.proofs.Asking.{takes_ahead}
 use Rattle.input_model.specs.Unread.{taking_first}
 use Rattle.input_model.specs.Shown.{ShowsEnd, ShowsRefusal}
 use Rattle.roff_scan.specs.Unread.Calls.{PassesEnd, Takes}
-use Rattle.run_model.specs.Reading.Items.{PageUnread}
+use Rattle.run_model.specs.Reading.Items.{PageUnread, PageInput}
 use Rattle.run_model.specs.Reading.Returns.{behind_return}
 use Rattle.run_model.proofs.Behind.{begun-behind_return}
 use Rattle.run_model.proofs.GoingBack.{going_back-start}
-use Rattle.run_model.specs.Reading.Items.{PageInput}
 use Rattle.run_model.specs.Run.{State, in_front_taken, made, stopped_by}
 use Rattle.run_model.specs.TurnsToCome.{begun, free_ahead, turns_within}
 use Rattle.run_model.specs.PageEvents.{PageEvent}

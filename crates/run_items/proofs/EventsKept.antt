@@ -1,5 +1,5 @@
 -- Events that an interpreter performed: those that are left behind what sprang are kept.
-use Rattle.run_events.specs.Formatter.Performing.{PerformsOne, PerformsTitle}
+use Rattle.run_events.specs.Formatter.Performing.{PerformsOne, PerformsTitle, Flows, PerformsEvents, SprungAt, acting, behind_event, behind_events}
 use Rattle.roff_num.specs.declared.format.Format.{Format}
 use Rattle.run_model.specs.TitleTexts.{TitleText}
 use Rattle.run_model.specs.Titles.{title_told}
@@ -13,7 +13,6 @@ use Rattle.run_items.specs.declared.interpreter.Interpreter.{Interpreter}
 use Rattle.run_events.specs.declared.halt.Halt.{Halt}
 use Rattle.run_events.specs.declared.sprung.Sprung.{Sprung}
 use Rattle.run_items.specs.Outcome.{Beginning, Reaches, Seen, seen}
-use Rattle.run_events.specs.Formatter.Performing.{Flows, PerformsEvents, SprungAt, acting, behind_event, behind_events}
 use Rattle.run_items.specs.Performing.{ComesTo, PerformsAll, DoesEvent}
 use Rattle.run_events.specs.Formatter.Sprung.{behind_sprung, left_behind, most_back}
 use Rattle.run_model.specs.Output.{PageHistory}
@@ -23,7 +22,6 @@ use Rattle.run_model.specs.Registers.{AllRegisters}
 use Rattle.run_model.specs.Run.{State}
 use Rattle.run_model.specs.Springs.{word_end_of}
 use Rattle.page_bytes.specs.Sinks.{Sunk}
-use Rattle.run_events.proofs.LinesLeft.{lines_left-all}
 
 -- an event was performed by the formatter, and what is read stays
 pub event_done : (e : PageEvent) (old new : Interpreter) (out out_new : Sunk) (r : Result (Option Sprung) Halt) → PerformsOne e old.formatter new.formatter out out_new r

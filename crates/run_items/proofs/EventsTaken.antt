@@ -14,8 +14,7 @@ use Rattle.run_events.specs.declared.sprung.Sprung.{Sprung}
 use Rattle.page_bytes.specs.Sinks.{Sunk}
 use Rattle.run_state.specs.declared.composer.Composer.{Composer as ComposerOf}
 use Rattle.run_model.specs.Output.{PageHistory}
-use Rattle.run_model.specs.Reading.Items.{PageUnread}
-use Rattle.run_model.specs.Reading.Items.{PageInput, Taking, going_on}
+use Rattle.run_model.specs.Reading.Items.{PageUnread, PageInput, Taking, going_on}
 use Rattle.run_model.specs.Reading.Units.{interrupted, settling}
 use Rattle.run_model.specs.Registers.{AllRegisters, Known}
 use Rattle.run_model.specs.Run.{State, initial, known_at, step, taken_as, unless_refused, grown}

@@ -12,8 +12,7 @@ use Rattle.input_model.specs.declared.looked.Looked.{Looked}
 use Rattle.input_model.specs.declared.looked.Looked.TheVariants.{Nothing, Byte, Closed}
 use Rattle.input_model.specs.Shown.{Shown, ShowsByte, ShowsDo, ShowsEnd, ShowsRefusal, ShowsReturn, seen_ahead}
 use Rattle.run_model.specs.PageEvents.{PageEvent}
-use Rattle.run_model.specs.Reading.Items.{PageUnread}
-use Rattle.run_model.specs.Reading.Items.{PageInput}
+use Rattle.run_model.specs.Reading.Items.{PageUnread, PageInput}
 use Rattle.run_model.specs.Run.{State, awaited, awaited_of_source, front_seen, escape_ends, in_front_taken, made, read_waiting}
 use Rattle.run_model.proofs.InFront.{Given, WasAsked, WasNot, over_unread}
 use Rattle.run_model.proofs.Waiting.{undecided}

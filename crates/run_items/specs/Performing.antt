@@ -14,10 +14,9 @@ use Rattle.run_model.specs.Messages.{message_lines}
 use Rattle.run_model.specs.Output.{written}
 use Rattle.run_model.specs.Environments.{interrupted_line}
 use Rattle.run_events.specs.Formatter.Sprung.{GoesOnNamed, MovesOn, behind_sprung, most_back, open_weight, rest_left, weight}
-use Rattle.run_model.specs.TurnsToCome.{most_left}
+use Rattle.run_model.specs.TurnsToCome.{most_left, lines_left}
 use Rattle.run_events.specs.declared.sprung.Sprung.{Sprung}
-use Rattle.run_model.specs.TurnsToCome.{lines_left}
-use Rattle.run_model.specs.Reading.Items.{PageInput, Taking}
+use Rattle.run_model.specs.Reading.Items.{PageInput, Taking, PageUnread}
 use Rattle.run_model.specs.Registers.{AllRegisters, Known}
 use Rattle.run_model.specs.PageEvents.{PageEvent, PageHistory}
 use Rattle.run_model.specs.declared.message.Message.{Message}
@@ -25,7 +24,6 @@ use Rattle.run_model.specs.declared.line_state.LineState.{LineState}
 use Rattle.run_model.specs.declared.phase.Phase.{Phase}
 use Rattle.run_model.specs.Run.{State, nothing_follows, ToldLeads, initial, step, told_step, stopped_by, made, taken_as, known_at, output, reported}
 use Rattle.read_lines.specs.Reader.Taken.{CameTo, IsReady}
-use Rattle.run_model.specs.Reading.Items.{PageUnread}
 use Rattle.page_bytes.specs.Sinks.{CountsFault, Sunk}
 use Rattle.run_events.specs.Formatter.Performing.{HaltedAt, Performs, acting, behind_event}
 

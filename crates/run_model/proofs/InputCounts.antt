@@ -3,10 +3,9 @@ use Rattle.std.proofs.Common.{◌≡◌, ℕ, ◌+◌, ◌-◌, ◌≤◌, Bool,
 use Rattle.roff_num.specs.declared.limit.Limit.{Limit}
 use Rattle.roff_num.specs.declared.limit.Limit.TheVariants.{Stack, Depth, Conditions, Line, Names, Store, Diversions}
 use Rattle.roff_num.specs.declared.limits.Limits.{Limits}
-use Rattle.input_model.specs.Arguments.{held, settled, no_arguments}
+use Rattle.input_model.specs.Arguments.{held, settled, no_arguments, live_bytes}
 use Rattle.input_escapes.specs.OpenEscape.{texts_held}
 use Rattle.input_model.specs.Input.{Ahead, ByteAhead, FreeAhead, EndAhead, ReturnAhead, DoAhead, counting, item_taken, leaving, pushed, depth, result_count, bytes_ahead, ends_ahead, calls_behind, results_behind, results_below}
-use Rattle.input_model.specs.Arguments.{live_bytes}
 use Rattle.input_model.specs.Input.Names.{names_added, stored}
 use Rattle.input_source.specs.Tape.{Answer, Gives, Ends, OneByte, OneNote}
 use Rattle.input_model.specs.declared.looked.Looked.{Looked}

@@ -34,11 +34,10 @@ use Rattle.input_model.specs.Arguments.{no_arguments}
 use Rattle.roff_store.specs.TextCalls.{Call, DropOpen, PushOpen, Enter}
 use Rattle.roff_store.specs.Texts.{newest}
 use Rattle.run_model.specs.Registers.{Known}
-use Rattle.run_model.specs.Requests.{Effect, row_of, request_effect}
+use Rattle.run_model.specs.Requests.{Effect, row_of, request_effect, PageEvent}
 use Rattle.run_model.specs.TurnsToCome.{begun, endings_of, free_ahead}
 use Rattle.input_model.specs.Input.{Ahead}
 use Rattle.input_model.specs.Input.Few.{AreFewFrom}
-use Rattle.run_model.specs.Requests.{PageEvent}
 use Rattle.input_model.proofs.FewEvents.{few-called, few-more}
 use Rattle.run_model.proofs.Collected.{of-collected}
 use Rattle.run_model.proofs.KeepingText.{Keeps, KeepsBy, Keeps-if, free_ahead-called, Keeps-measuring, Keeps-holding_text, Keeps-asking}

@@ -28,7 +28,7 @@ use Rattle.run_model.specs.Reading.Messages.{message_unit}
 use Rattle.run_model.specs.Reading.Strings.{name_read, string_line_ended, string_name_behind, string_name_or_text, string_name_unit, string_unit, string_begun, string_entered}
 use Rattle.run_model.specs.Reading.Units.{holding, interrupted, no_unit_found, settling, unit_in}
 use Rattle.run_model.specs.Registers.{Known}
-use Rattle.run_model.specs.Requests.{called_by, row_of}
+use Rattle.run_model.specs.Requests.{called_by, row_of, request_effect}
 use Rattle.run_model.specs.declared.definition.DefinitionLine.{DefinitionLine}
 use Rattle.run_model.specs.declared.definition.DefinitionLine.TheVariants.{MayBeLast, IsLast, IsText}
 use Rattle.run_model.specs.declared.line_state.LineState.{LineState}
@@ -47,7 +47,6 @@ use Rattle.run_model.specs.Reading.Items.{PageInput, going_on}
 use Rattle.run_model.specs.Reading.ControlLines.{called_taking, dropped_taking, ends_name, line_taking, name_ended_taking, behind_called, behind_name}
 use Rattle.run_model.specs.Reading.Branches.{branch_of, branch_taking, condition_begun, condition_found, decided, is_so, reads_else, skipping_taking, with_result_if}
 use Rattle.input_model.specs.Arguments.{no_arguments}
-use Rattle.run_model.specs.Requests.{request_effect}
 use Rattle.run_model.specs.Requests.Effects.{Effect}
 use Rattle.input_escapes.specs.OpenEscape.{unit_bytes}
 use Rattle.run_model.proofs.HeldBytes.{held-calling_all, held-definition_dropped, held-definition_grown, held-holding, held-holding_call, held-interrupted, held-result, held-settling, held-string_begun, held-string_emptied, held-string_entered, held-string_grown, held_of}

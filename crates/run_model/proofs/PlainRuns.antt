@@ -1,12 +1,11 @@
 -- Runs over bytes that change what is read, the arguments of the line and the texts in the making, and nothing else.
 use Rattle.std.proofs.Common.{◌≡◌, ℕ, ◌+◌, ◌-◌, ◌≤◌, false, List, [], ◌∷◌, ◌++◌, length, Some, None, refl, ap, sym, ◌∙◌, arith, map, sum_by, if◌then◌else◌, ◌==◌, length-append}
 use Rattle.roff_num.specs.declared.limits.Limits.{Limits}
-use Rattle.input_model.specs.Arguments.{Arguments, held}
+use Rattle.input_model.specs.Arguments.{Arguments, held, live_bytes}
 use Rattle.input_source.specs.Bytes.{newline}
 use Rattle.input_escapes.specs.OpenEscape.{OpenEscape, texts_held}
 use Rattle.input_escapes.specs.Waiting.{is_ended_by}
 use Rattle.input_model.specs.Input.{Ahead, ByteAhead, bytes_ahead, ends_ahead, lines_taken}
-use Rattle.input_model.specs.Arguments.{live_bytes}
 use Rattle.input_source.specs.Tape.{Tape}
 use Rattle.roff_store.specs.Named.{Named}
 use Rattle.roff_store.specs.Texts.{Entry, bytes_in}

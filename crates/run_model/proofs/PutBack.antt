@@ -1,8 +1,7 @@
 -- Events that are put back count as nothing else, and are few.
-use Rattle.std.proofs.Common.{◌≡◌, ◌≤◌, List, [], ◌∷◌, ◌++◌, length, refl, arith, map}
+use Rattle.std.proofs.Common.{◌≡◌, List, [], ◌∷◌, ◌++◌, refl, arith, map}
 use Rattle.input_model.specs.Input.{Ahead, DoAhead, bytes_ahead, ends_ahead}
 use Rattle.run_model.specs.PageEvents.{PageEvent}
-use Rattle.run_model.specs.Springs.{AreFewBehind}
 use Rattle.run_model.specs.TurnsToCome.{free_ahead}
 
 pub bytes_ahead-back : (events : List PageEvent) (items : List (Ahead PageEvent)) → bytes_ahead (map DoAhead events ++ items) ≡ bytes_ahead items
@@ -16,8 +15,3 @@ ends_ahead-back (e ∷ events) items = ends_ahead-back events items
 pub free_ahead-back : (events : List PageEvent) (items : List (Ahead PageEvent)) → free_ahead (map DoAhead events ++ items) ≡ free_ahead items
 free_ahead-back [] items = refl
 free_ahead-back (e ∷ events) items = free_ahead-back events items
-
--- so few events can all be put back
-pub few-short : (es : List PageEvent) → length es ≤ 5 → AreFewBehind es
-few-short [] short = tt
-few-short (e ∷ es) short = ((λ may. short), few-short es (omega (arith, short)))

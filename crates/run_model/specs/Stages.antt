@@ -1,5 +1,5 @@
 -- Stages of the reading: what bytes change that change only what is read.
-use Rattle.std.specs.Prelude.{◌≡◌, ℕ, ◌+◌, ◌≤◌, ◌==◌, ◌&&◌, Bool, false, if◌then◌else◌, List, [], ◌∷◌, length, min, nat_lt, not, sum_by, Option, None, Some}
+use Rattle.std.specs.Prelude.{◌≡◌, ℕ, ◌+◌, ◌≤◌, false, List, [], ◌∷◌, length, sum_by, Option, None, Some}
 use Rattle.input_model.specs.Arguments.{AreFewer, Arguments, held}
 use Rattle.input_source.specs.Bytes.{is_dropped, newline}
 use Rattle.input_escapes.specs.ConditionFronts.{TakesOn}
@@ -15,11 +15,10 @@ use Rattle.roff_store.specs.Texts.{Entry}
 use Rattle.run_model.specs.Reading.{byte_taking}
 use Rattle.run_model.specs.Reading.Ends.{due}
 use Rattle.run_model.specs.Reading.Items.{PageInput, going_on}
-use Rattle.run_model.specs.Reading.TextLines.{most_leading}
 use Rattle.run_model.specs.Reading.Units.{holding}
 use Rattle.run_model.specs.Registers.{Known}
 use Rattle.run_model.specs.declared.line_state.LineState.{LineState}
-use Rattle.run_model.specs.declared.line_state.LineState.TheVariants.{LineStart, Text as InText}
+use Rattle.run_model.specs.declared.line_state.LineState.TheVariants.{LineStart}
 
 -- what bytes change: what is read, what is half read, the arguments of the line, and the texts in the making
 pub record Stage : Type 0 where
@@ -95,12 +94,3 @@ pub data Turned (names : Named Entry) : Stage → List ℕ → Stage → Type 0 
   Growing : (p q r : Stage) (b : ℕ) (bytes : List ℕ) → due p.reading ≡ None → is_ended_by p.escapes (Some b) ≡ false
       → Turns names p b q → TextsGrow p.texts q.texts → held_at p ≤ held_at q → held_at q ≤ held_at p + 1
       → Turned names q bytes r → Turned names p (b ∷ bytes) r
-
--- blanks only count where this is read and nothing is half read: in front of the first glyph of a text line, behind another blank
-abbrev pub counts_blanks : LineState → Bool
-counts_blanks (InText line) = not line.has_glyph && nat_lt 0 line.leading
-counts_blanks (_) = false
-
--- how many leading blanks so many more make
-abbrev pub blanks_counted : ℕ → ℕ → ℕ
-blanks_counted count leading = if count == 0 then leading else min (leading + count) most_leading

@@ -7,7 +7,7 @@ use Rattle.read_lines.specs.Reader.State.{ReaderState}
 use Rattle.read_shortcuts.specs.ControlFronts.{is_past, is_read}
 use Rattle.read_shortcuts.specs.ControlReads.{ReadsControl}
 use Rattle.read_shortcuts.specs.declared.control.ControlRead.{ControlRead}
-use Rattle.read_shortcuts.specs.declared.control.ControlRead.TheVariants.{Condition, Decided, Dropped, Escape, Front, Held, HeldForCall, HeldToEnd, HeldToEscape, Nothing, Short}
+use Rattle.read_shortcuts.specs.declared.control.ControlRead.TheVariants.{Condition, Decided, Dropped, Escape, Front, Held, HeldForCall, HeldToEnd, Nothing, Short}
 use Rattle.run_items.specs.Outcome.{Seen, seen}
 use Rattle.run_model.specs.Reading.Items.{PageUnread}
 use Rattle.run_model.specs.declared.status.Status.{Status}
@@ -27,9 +27,8 @@ decided_else Short past some no_line = let wrong : false ≡ true = some in absu
 decided_else Front past some no_line = let wrong : true ≡ false = past in absurd (cc)
 decided_else Dropped past some no_line = let wrong : true ≡ false = past in absurd (cc)
 decided_else Condition past some no_line = let wrong : true ≡ false = past in absurd (cc)
-decided_else Held past some no_line = let wrong : true ≡ false = past in absurd (cc)
-decided_else HeldToEscape past some no_line = let wrong : true ≡ false = past in absurd (cc)
-decided_else HeldForCall past some no_line = let wrong : true ≡ false = past in absurd (cc)
+decided_else (Held behind) past some no_line = let wrong : true ≡ false = past in absurd (cc)
+decided_else (HeldForCall behind) past some no_line = let wrong : true ≡ false = past in absurd (cc)
 
 module _ {S : Type 0} (g : byte_source.Ghosts S) (was is : S) (out err : Sunk) (old : Coded) (after : PageUnread) (r : ReaderState) (result : ControlRead)
     (read : ReadsControl g was is old.interpreter.formatter.composer old.interpreter.reader r old.unread after result) where

@@ -14,10 +14,9 @@ use Rattle.input_source.specs.Tape.{Tape}
 use Rattle.input_model.specs.Unread.{IsWithin}
 use Rattle.input_model.specs.Shown.{Sighted, SeesByte, seen_ahead}
 use Rattle.roff_scan.specs.Unread.Calls.{PassesEnd, PassesReturn}
-use Rattle.run_model.specs.Reading.Items.{PageUnread}
+use Rattle.run_model.specs.Reading.Items.{PageUnread, PageInput}
 use Rattle.run_model.specs.Reading.Returns.{behind_return}
 use Rattle.run_model.specs.Reading.Ends.{due}
-use Rattle.run_model.specs.Reading.Items.{PageInput}
 use Rattle.run_model.specs.Registers.{AllRegisters}
 use Rattle.run_model.specs.Output.{PageHistory}
 use Rattle.run_model.specs.Run.{Leads, State, nothing_follows, awaited, escape_ends, in_front_taken, item_read, made, read_waiting, step, stopped_by, unless_refused}

@@ -12,15 +12,14 @@ use Rattle.run_model.specs.Environments.{text_of}
 use Rattle.run_state.specs.Composer.Standing.{StandFor}
 use Rattle.run_state.specs.declared.composer.Composer.{Composer as ComposerOf}
 use Rattle.run_model.specs.Output.{PageHistory}
-use Rattle.run_model.specs.Reading.Items.{PageUnread}
+use Rattle.run_model.specs.Reading.Items.{PageUnread, PageInput, Taking}
 use Rattle.run_model.specs.Reading.{byte_taking}
 use Rattle.run_model.specs.Reading.Ends.{due}
-use Rattle.run_model.specs.Reading.Items.{PageInput}
-use Rattle.run_model.specs.Registers.{AllRegisters}
-use Rattle.run_model.specs.Run.{State, Leads}
+use Rattle.run_model.specs.Registers.{AllRegisters, no_registers}
+use Rattle.run_model.specs.Run.{State, Leads, first_input, known_at}
 use Rattle.run_model.specs.Run.Counts.{counts_in, first_passed}
 use Rattle.run_model.specs.Telling.{Prints, page_told}
-use Rattle.run_model.specs.TurnsToCome.{turns_within}
+use Rattle.run_model.specs.TurnsToCome.{turns_within, unended}
 use Rattle.run_model.specs.PageEvents.{PageEvent}
 use Rattle.run_model.specs.declared.line_state.LineState.{LineState}
 use Rattle.run_model.specs.declared.phase.Phase.{Phase}
@@ -44,10 +43,6 @@ use Rattle.run_items.proofs.FewRead.{few-alone}
 use Rattle.run_shortcuts.proofs.GoingPast.{IsAt-leads}
 use Rattle.run_items.specs.Room.{FewFor}
 use Rattle.run_turns.proofs.TurnsLeft.{turns_of_run-no_more}
-use Rattle.run_model.specs.Reading.Items.{Taking}
-use Rattle.run_model.specs.Registers.{no_registers}
-use Rattle.run_model.specs.Run.{first_input, known_at}
-use Rattle.run_model.specs.TurnsToCome.{unended}
 use Rattle.run_model.specs.declared.line_state.LineState.TheVariants.{LineStart, Branch, Braced, Text as InText, Control, Name, Deciding, Skipping, Dropped, Told, Exiting, TitleFront, Title as InTitle, Collecting}
 
 -- where a line begins a byte doesn't leave it so

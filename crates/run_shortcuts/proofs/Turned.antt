@@ -8,8 +8,7 @@ use Rattle.input_model.specs.Unread.{input_refusal}
 use Rattle.read_meaning.specs.Meaning.{MeaningKept}
 use Rattle.read_lines.specs.Reader.State.{ReaderState}
 use Rattle.read_lines.specs.Reader.Taken.{IsReady}
-use Rattle.run_model.specs.Reading.Items.{PageUnread}
-use Rattle.run_model.specs.Reading.Items.{PageInput}
+use Rattle.run_model.specs.Reading.Items.{PageUnread, PageInput}
 use Rattle.run_model.specs.Registers.{AllRegisters, Known}
 use Rattle.run_model.specs.Registers.Capped.{Capped}
 use Rattle.run_model.specs.PageEvents.{PageEvent}

@@ -3,57 +3,22 @@
 
 ghost use Rattle.std.specs.Prelude.{◌≡◌};
 ghost use Rattle.read_shortcuts.specs.Runs.{IsRun, run_holding};
-ghost use Rattle.roff_scan.specs.declared.run_kind.RunKind.TheVariants.{Arguments, CallArguments};
 ghost use Rattle.run_turns.specs.Running.Turning.{ComesOver, going_on, says_fewer};
 
-use crate::fronts::{hold_line, hold_on};
+use crate::fronts::{hold_named, take_arguments};
 use crate::line_ends::end_control_line;
 use crate::passing::pass_end;
 use page_bytes::{ByteSink, MessageSink};
 use read_arguments::take_comment;
-use roff_scan::ByteSource;
+use roff_scan::{BehindHeld, ByteSource};
 use run_model::Status;
 use run_turns::Running;
 
-/// What [`pass_arguments`] does on the line of a request.
-#[inline(never)]
-pub(crate) fn pass_request<S: ByteSource, O: ByteSink, E: MessageSink>(
-    run: &mut Running,
-    source: &mut S,
-    out: &mut O,
-    err: &mut E,
-) -> Result<bool, Status>
-    requires { IsRun Arguments run.old.interpreter.reader.reading run.old.unread.input.escapes }
-    ensures { ComesOver S.ByteSource O.ByteSink E.MessageSink (says_fewer result)
-        source.old source.new out.old out.new err.old err.new
-        run.old run.new (going_on result) }
-{
-    pass_arguments(run, None, source, out, err)
-}
-
-/// What [`pass_arguments`] does on a line that calls a body.
-#[inline(never)]
-pub(crate) fn pass_call<S: ByteSource, O: ByteSink, E: MessageSink>(
-    run: &mut Running,
-    most: usize,
-    source: &mut S,
-    out: &mut O,
-    err: &mut E,
-) -> Result<bool, Status>
-    requires { IsRun (CallArguments most) run.old.interpreter.reader.reading
-        run.old.unread.input.escapes }
-    ensures { ComesOver S.ByteSource O.ByteSink E.MessageSink (says_fewer result)
-        source.old source.new out.old out.new err.old err.new
-        run.old run.new (going_on result) }
-{
-    pass_arguments(run, Some(most), source, out, err)
-}
-
 /// Takes bytes together that stand in front and are held in arguments, as long as fewer than so
-/// many are whole, where there is a bound, and what [`pass_named`] does behind them. Returns
+/// many are whole, where there is a bound, and what [`pass_behind`] takes behind them. Returns
 /// whether it took any but bytes.
 #[inline(always)]
-fn pass_arguments<S: ByteSource, O: ByteSink, E: MessageSink>(
+pub(crate) fn pass_arguments<S: ByteSource, O: ByteSink, E: MessageSink>(
     run: &mut Running,
     most: Option<usize>,
     source: &mut S,
@@ -66,36 +31,63 @@ fn pass_arguments<S: ByteSource, O: ByteSink, E: MessageSink>(
         source.old source.new out.old out.new err.old err.new
         run.old run.new (going_on result) }
 {
-    if hold_line(run, most, source) {
-        return Ok(true);
-    }
-    end_comment(run, source, out, err)
+    let behind = take_arguments(run, most, source);
+    pass_behind(run, most, behind, source, out, err)
 }
 
-/// What [`pass_named`] does on a line that calls a body.
-#[inline(never)]
-pub(crate) fn pass_call_named<S: ByteSource, O: ByteSink, E: MessageSink>(
+/// Takes what [`pass_standing`] does, where what stands in front is no other byte. Returns whether
+/// it took any.
+#[inline(always)]
+pub(crate) fn pass_behind<S: ByteSource, O: ByteSink, E: MessageSink>(
     run: &mut Running,
-    most: usize,
+    most: Option<usize>,
+    behind: BehindHeld,
     source: &mut S,
     out: &mut O,
     err: &mut E,
 ) -> Result<bool, Status>
-    requires { IsRun (CallArguments most) run.old.interpreter.reader.reading
+    requires { IsRun (run_holding most) run.old.interpreter.reader.reading
         run.old.unread.input.escapes }
     ensures { ComesOver S.ByteSource O.ByteSink E.MessageSink (says_fewer result)
         source.old source.new out.old out.new err.old err.new
         run.old run.new (going_on result) }
 {
-    pass_named(run, Some(most), source, out, err)
+    match behind {
+        BehindHeld::Newline => Ok(false),
+        BehindHeld::Other => Ok(false),
+        _ => pass_standing(run, most, behind, source, out, err),
+    }
+}
+
+/// Takes what stands in front of arguments: the escape of a register, a string or an argument, with
+/// bytes of its text and behind it; a comment, which ends the line; or the end of a text. Returns
+/// whether it took one of these, and behind an escape whether another one may stand there.
+#[inline(never)]
+fn pass_standing<S: ByteSource, O: ByteSink, E: MessageSink>(
+    run: &mut Running,
+    most: Option<usize>,
+    behind: BehindHeld,
+    source: &mut S,
+    out: &mut O,
+    err: &mut E,
+) -> Result<bool, Status>
+    requires { IsRun (run_holding most) run.old.interpreter.reader.reading
+        run.old.unread.input.escapes }
+    ensures { ComesOver S.ByteSource O.ByteSink E.MessageSink (says_fewer result)
+        source.old source.new out.old out.new err.old err.new
+        run.old run.new (going_on result) }
+{
+    match behind {
+        BehindHeld::Named => pass_named(run, most, source, out, err),
+        _ => pass_last(run, behind, source, out, err),
+    }
 }
 
 /// Takes the escape of a register, a string or an argument that stands whole in front of arguments,
-/// and bytes of its text and behind it; then a comment behind these, which ends the line, or the
-/// end of a text. Returns whether it took one of these, and behind an escape whether another one
-/// may stand there.
+/// with bytes of its text and behind it, and what [`pass_last`] takes behind these. Returns whether
+/// it took that, or another escape may stand there.
 #[inline(always)]
-pub(crate) fn pass_named<S: ByteSource, O: ByteSink, E: MessageSink>(
+fn pass_named<S: ByteSource, O: ByteSink, E: MessageSink>(
     run: &mut Running,
     most: Option<usize>,
     source: &mut S,
@@ -108,16 +100,40 @@ pub(crate) fn pass_named<S: ByteSource, O: ByteSink, E: MessageSink>(
         source.old source.new out.old out.new err.old err.new
         run.old run.new (going_on result) }
 {
-    if hold_on(run, most, source) {
-        return Ok(true);
+    if !hold_named(run, most, source) {
+        return Ok(false);
     }
-    end_comment(run, source, out, err)
+    match take_arguments(run, most, source) {
+        BehindHeld::Named => Ok(true),
+        behind => pass_last(run, behind, source, out, err),
+    }
 }
 
-/// Takes a comment that stands in front behind arguments, and ends their line; or else the end of a
+/// Takes a comment that stands in front behind arguments, and ends their line; or the end of a
 /// text. Returns whether it took either.
+#[inline(always)]
+fn pass_last<S: ByteSource, O: ByteSink, E: MessageSink>(
+    run: &mut Running,
+    behind: BehindHeld,
+    source: &mut S,
+    out: &mut O,
+    err: &mut E,
+) -> Result<bool, Status>
+    ensures { ComesOver S.ByteSource O.ByteSink E.MessageSink (says_fewer result)
+        source.old source.new out.old out.new err.old err.new
+        run.old run.new (going_on result) }
+{
+    match behind {
+        BehindHeld::Comment => end_comment(run, source, out, err),
+        BehindHeld::End => Ok(pass_end(run)),
+        _ => Ok(false),
+    }
+}
+
+/// Takes a comment that stands in front behind arguments, and ends their line. Returns whether it
+/// did.
 #[inline(never)]
-pub(crate) fn end_comment<S: ByteSource, O: ByteSink, E: MessageSink>(
+fn end_comment<S: ByteSource, O: ByteSink, E: MessageSink>(
     run: &mut Running,
     source: &mut S,
     out: &mut O,
@@ -128,7 +144,7 @@ pub(crate) fn end_comment<S: ByteSource, O: ByteSink, E: MessageSink>(
         run.old run.new (going_on result) }
 {
     if !take_comment(&run.interpreter.reader, &mut run.unread, source) {
-        return Ok(pass_end(run));
+        return Ok(false);
     }
     end_control_line(run, out, err)
 }

@@ -13,7 +13,7 @@ use crate::glyphs::{tell_line_behind, tell_text_behind};
 use crate::passing::pass_end;
 use crate::stepping::tell_other;
 use read_shortcuts::{RunKind, TextAhead, pass_text, run_half_read, run_kind, text_ahead};
-use roff_scan::ByteSource;
+use roff_scan::{BehindHeld, ByteSource};
 use run_turns::Running;
 
 /// What lies behind bytes that were told.
@@ -74,10 +74,13 @@ pub(crate) fn take_string_front<S: ByteSource>(run: &mut Running, source: &mut S
 }
 
 /// Takes bytes together that stand in front and are held in arguments, as long as fewer than so
-/// many are whole, where there is a bound. Returns whether the escape of a register, a string or an
-/// argument may stand behind them.
+/// many are whole, where there is a bound. Returns what stands behind them.
 #[inline(always)]
-fn take_arguments<S: ByteSource>(run: &mut Running, most: Option<usize>, source: &mut S) -> bool
+pub(crate) fn take_arguments<S: ByteSource>(
+    run: &mut Running,
+    most: Option<usize>,
+    source: &mut S,
+) -> BehindHeld
     requires { IsRun (run_holding most) run.old.interpreter.reader.reading
         run.old.unread.input.escapes }
     ensures past { GoesPastOver S.ByteSource false source.old source.new run.old run.new }
@@ -87,43 +90,14 @@ fn take_arguments<S: ByteSource>(run: &mut Running, most: Option<usize>, source:
     read_shortcuts::take_arguments(&run.interpreter.reader, most, &mut run.unread, source)
 }
 
-/// Takes bytes together that stand in front and are held in arguments, and then the escape of a
-/// register, a string or an argument behind them, and bytes behind that. Returns whether it took
-/// one, and another may stand behind it.
+/// Takes the escape of a register or an argument that stands whole in front of arguments, and holds
+/// its text; or that of a string, which is put in front. Returns whether it did.
 #[inline(always)]
-pub(crate) fn hold_line<S: ByteSource>(
+pub(crate) fn hold_named<S: ByteSource>(
     run: &mut Running,
     most: Option<usize>,
     source: &mut S,
 ) -> bool
-    requires { IsRun (run_holding most) run.old.interpreter.reader.reading
-        run.old.unread.input.escapes }
-    ensures { GoesPastOver S.ByteSource result source.old source.new run.old run.new }
-{
-    if !take_arguments(run, most, source) {
-        return false;
-    }
-    hold_on(run, most, source)
-}
-
-/// Takes the escape of a register, a string or an argument that stands whole in front of arguments,
-/// and bytes of its text and behind it. Returns whether it took one, and another may be behind it.
-#[inline(always)]
-pub(crate) fn hold_on<S: ByteSource>(run: &mut Running, most: Option<usize>, source: &mut S) -> bool
-    requires { IsRun (run_holding most) run.old.interpreter.reader.reading
-        run.old.unread.input.escapes }
-    ensures { GoesPastOver S.ByteSource result source.old source.new run.old run.new }
-{
-    if !hold_named(run, most, source) {
-        return false;
-    }
-    take_arguments(run, most, source)
-}
-
-/// Takes the escape of a register or an argument that stands whole in front of arguments, and holds
-/// its text; or that of a string, which is put in front. Returns whether it did.
-#[inline(always)]
-fn hold_named<S: ByteSource>(run: &mut Running, most: Option<usize>, source: &mut S) -> bool
     requires { IsRun (run_holding most) run.old.interpreter.reader.reading
         run.old.unread.input.escapes }
     ensures further { GoesPastOver S.ByteSource result source.old source.new

@@ -12,7 +12,7 @@ ghost use Rattle.roff_scan.specs.Unread.Calls.{PassesEnd, PassesReturn};
 ghost use Rattle.run_shortcuts.specs.Clauses.{due, waiting_in};
 ghost use Rattle.run_turns.specs.Running.Turning.{ComesOver, GoesPastOver, going_on, says_fewer};
 
-use crate::arguments::{end_comment, pass_call, pass_call_named, pass_named, pass_request};
+use crate::arguments::{pass_arguments, pass_behind};
 use crate::conditions::pass_condition;
 use crate::copied::{copy_run, take_lines};
 use crate::fronts::{
@@ -101,9 +101,10 @@ fn pass_control_front<S: ByteSource, O: ByteSink, E: MessageSink>(
         ControlRead::Dropped => Ok(true),
         ControlRead::Condition => Ok(pass_condition(run, source)),
         ControlRead::Decided => Ok(true),
-        ControlRead::Held => end_comment(run, source, out, err),
-        ControlRead::HeldToEscape => pass_named(run, None, source, out, err),
-        ControlRead::HeldForCall => pass_call_named(run, CALL_ARGUMENTS - 1, source, out, err),
+        ControlRead::Held(behind) => pass_behind(run, None, behind, source, out, err),
+        ControlRead::HeldForCall(behind) => {
+            pass_behind(run, Some(CALL_ARGUMENTS - 1), behind, source, out, err)
+        }
         ControlRead::HeldToEnd => end_control_line(run, out, err),
     }
 }
@@ -127,7 +128,10 @@ fn pass_short_name<S: ByteSource, O: ByteSink, E: MessageSink>(
     match read_short_front(&mut run.interpreter.reader, &mut run.unread, source) {
         ControlRead::HeldToEnd => end_control_line(run, out, err),
         ControlRead::Dropped => Ok(true),
-        ControlRead::Held => end_comment(run, source, out, err),
+        ControlRead::Held(behind) => pass_behind(run, None, behind, source, out, err),
+        ControlRead::HeldForCall(behind) => {
+            pass_behind(run, Some(CALL_ARGUMENTS - 1), behind, source, out, err)
+        }
         _ => pass_behind_front(run, source, out, err),
     }
 }
@@ -185,8 +189,8 @@ fn pass_line<S: ByteSource, O: ByteSink, E: MessageSink>(
         run.old run.new (going_on result) }
 {
     match run_kind(&run.interpreter.reader, &run.unread) {
-        Some(RunKind::Arguments) => pass_request(run, source, out, err),
-        Some(RunKind::CallArguments(most)) => pass_call(run, most, source, out, err),
+        Some(RunKind::Arguments) => pass_arguments(run, None, source, out, err),
+        Some(RunKind::CallArguments(most)) => pass_arguments(run, Some(most), source, out, err),
         Some(kind) => Ok(pass_run(run, kind, source)),
         None => Ok(pass_no_run(run, source)),
     }

@@ -13,7 +13,7 @@ use Rattle.run_items.specs.Performing.{CameBehind, KeepsThem, TakingDone, DoesTa
 use Rattle.run_model.specs.Springs.{AreFewBehind}
 use Rattle.run_model.proofs.KeepingText.{StaysFew}
 use Rattle.run_events.specs.Formatter.Sprung.{left_behind, most_back, rest_left}
-use Rattle.run_model.specs.TurnsToCome.{most_left}
+use Rattle.run_model.specs.TurnsToCome.{most_left, begun, lines_left, phases_left, turns_to_come, turns_within}
 use Rattle.run_items.specs.Room.{FewFor}
 use Rattle.run_turns.specs.Running.Springing.{GoesOn, IsBehind, StoppedIn, Stops, turns_where}
 use Rattle.run_events.specs.declared.sprung.Sprung.{Sprung}
@@ -23,8 +23,7 @@ use Rattle.page_bytes.specs.Sinks.{Sunk}
 use Rattle.run_state.specs.Composer.Standing.{StandFor}
 use Rattle.run_model.specs.Output.{PageHistory}
 use Rattle.read_lines.specs.Reader.Taken.{CameTo, IsReady}
-use Rattle.run_model.specs.Reading.Items.{PageUnread}
-use Rattle.run_model.specs.Reading.Items.{Taking}
+use Rattle.run_model.specs.Reading.Items.{PageUnread, Taking}
 use Rattle.run_model.specs.Registers.{Known}
 use Rattle.run_model.specs.Run.{State, known_at, taken_as}
 use Rattle.run_model.specs.PageEvents.{PageEvent}
@@ -32,7 +31,6 @@ use Rattle.run_model.specs.declared.line_state.LineState.{LineState}
 use Rattle.run_model.specs.declared.phase.Phase.{Phase}
 use Rattle.run_model.specs.declared.status.Status.{Status}
 use Rattle.run_model.specs.Environments.{interrupted_line}
-use Rattle.run_model.specs.TurnsToCome.{begun, lines_left, phases_left, turns_to_come, turns_within}
 use Rattle.run_items.proofs.Halted.{IsLeftOf-looked_then, did_halt}
 use Rattle.run_events.proofs.EventsLeft.{few-most}
 use Rattle.run_items.proofs.Fronts.{few-put_back}

@@ -15,11 +15,10 @@ use Rattle.run_model.specs.declared.status.Status.{Status}
 use Rattle.run_model.specs.declared.status.Status.TheVariants.{Device, Limit as Limited}
 use Rattle.run_model.specs.Messages.{message_line}
 use Rattle.run_model.specs.Output.{PageHistory}
-use Rattle.run_model.specs.Reading.Items.{PageUnread}
+use Rattle.run_model.specs.Reading.Items.{PageUnread, PageInput}
 use Rattle.run_model.specs.Reading.{byte_taking}
 use Rattle.run_model.specs.Reading.Units.{interrupted}
 use Rattle.run_model.specs.Reading.Ends.{is_unfinished}
-use Rattle.run_model.specs.Reading.Items.{PageInput}
 use Rattle.run_model.specs.declared.line_state.LineState.{LineState}
 use Rattle.run_model.specs.Run.{State, ahead_taken, byte_taken, ending_input, escape_ends, in_front_taken, input_ended, known, made}
 use Rattle.run_model.specs.TurnsToCome.{begun, turns_to_come, turns_within}

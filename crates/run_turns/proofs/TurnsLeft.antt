@@ -6,7 +6,7 @@ use Rattle.input_source.specs.Tape.{Tape}
 use Rattle.run_turns.specs.declared.running.Running.{Running as Coded}
 use Rattle.run_items.specs.Ending.{input_ends}
 use Rattle.run_turns.specs.Running.Turning.{line_turns, lines_left_in, state_at, turns_at, turns_left, turns_of_run}
-use Rattle.run_model.specs.TurnsToCome.{most_left}
+use Rattle.run_model.specs.TurnsToCome.{most_left, begun, lines_left, phases_left, turns_within, unended}
 use Rattle.run_model.proofs.LinesLeft.{left_behind, left-few}
 use Rattle.run_state.proofs.InForce.{is_interrupted-in_force}
 use Rattle.run_state.specs.Composer.Standing.{StandFor}
@@ -16,7 +16,6 @@ use Rattle.page_model.specs.Events.{is_interrupted}
 use Rattle.run_model.specs.Events.Lines.{closing_events}
 use Rattle.run_model.specs.Reading.Ends.{due, is_unfinished}
 use Rattle.run_model.specs.Run.{State, escape_ends, input_ended, known, phase_ended}
-use Rattle.run_model.specs.TurnsToCome.{begun, lines_left, phases_left, turns_within, unended}
 use Rattle.run_model.specs.declared.line_state.LineState.{LineState}
 use Rattle.run_model.specs.declared.line_state.LineState.TheVariants.{LineStart, Branch, Braced, Text as InText, Control, Name, Deciding, Skipping, Dropped, Told, Exiting, TitleFront, Title as InTitle, Collecting}
 use Rattle.run_model.specs.declared.line_state.TextLine.{TextLine}

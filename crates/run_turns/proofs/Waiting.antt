@@ -15,8 +15,7 @@ use Rattle.run_model.specs.declared.status.Status.{Status}
 use Rattle.run_model.specs.declared.status.Status.TheVariants.{Device, Limit as Limited}
 use Rattle.run_model.specs.Messages.{message_line}
 use Rattle.run_model.specs.Output.{PageHistory}
-use Rattle.run_model.specs.Reading.Items.{PageUnread}
-use Rattle.run_model.specs.Reading.Items.{PageInput}
+use Rattle.run_model.specs.Reading.Items.{PageUnread, PageInput}
 use Rattle.run_model.specs.Run.{State, awaited, escape_ends, in_front_taken, known, read_waiting, item_read, step}
 use Rattle.run_model.specs.Reading.{escape_ended}
 use Rattle.run_model.specs.Reading.Waiting.{waiting_in}

@@ -8,8 +8,7 @@ use Rattle.tbl_options.specs.Messages.{told_items}
 use Rattle.tbl_format.specs.declared.limits.TblLimits.{TblLimits}
 use Rattle.tbl_options.specs.declared.message.Told.{Told}
 use Rattle.tbl_core.specs.Lines.{counted, end_letter, ends_name, front_behind, is_name, is_of_name, start_letter}
-use Rattle.tbl_core.specs.Machine.{Inside, Now, Outside, Over, Place, Reads, RestOfStart, Standing, Step, end_at, goes_on_inside, inside_ended}
-use Rattle.tbl_core.specs.Machine.{limit_inside, own_told, passes_table, standing_behind, table_ended, take, take_at}
+use Rattle.tbl_core.specs.Machine.{Inside, Now, Outside, Over, Place, Reads, RestOfStart, Standing, Step, end_at, goes_on_inside, inside_ended, limit_inside, own_told, passes_table, standing_behind, table_ended, take, take_at}
 use Rattle.tbl_core.specs.Stages.{Stage, answered, answered_by, ending_answered}
 use Rattle.tbl_core.specs.Yields.{at_ending}
 use Rattle.tbl_core.specs.declared.place.Count.{Count}

@@ -14,9 +14,7 @@ use Rattle.tbl_core.specs.declared.place.Front.TheVariants.{Nothing}
 use Rattle.tbl_core.specs.Laws.{AreNoGreater, IsCutByLimit, LimitMet, LimitsOnlyCut, NoneMet}
 use Rattle.tbl_table.specs.NotesStay.{Begins}
 use Rattle.tbl_core.specs.Lines.{counted, end_letter, ends_name, front_behind, is_name, is_of_name, start_letter}
-use Rattle.tbl_core.specs.Machine.{Now, Place, Outside, RestOfStart, Inside, Standing, Reads, Over, Step, end_at, goes_on_inside}
-use Rattle.tbl_core.specs.Machine.{inside_ended, limit_inside, limit_told, own_told, passes_table, standing_behind, stops, take}
-use Rattle.tbl_core.specs.Machine.{take_at, table_ended, told_so_far}
+use Rattle.tbl_core.specs.Machine.{Now, Place, Outside, RestOfStart, Inside, Standing, Reads, Over, Step, end_at, goes_on_inside, inside_ended, limit_inside, limit_told, own_told, passes_table, standing_behind, stops, take, take_at, table_ended, told_so_far}
 use Rattle.tbl_core.specs.Yields.{at_ending, ended_by, yields_from}
 use Rattle.tbl_core.proofs.Cutting.{begins_both, begins_more, begins_told, messages_first}
 use Rattle.tbl_table.proofs.NotesStaying.{begins_same, behind_closed}

@@ -1,10 +1,8 @@
 -- Bytes outside tables that pass, many at once.
-use Rattle.std.proofs.Common.{append-nil, zero, suc, ◌≡◌, ◌==◌, ◌&&◌, ℕ, ◌+◌, ◌≤◌, ◌<◌, Bool, true, false, not, List, [], ◌∷◌, ◌++◌, Option, Some, None, length, take, drop, get_or, if◌then◌else◌, refl, sym, ap, ◌∙◌, subst, arith, unwrap_or, take-append-drop}
-use Rattle.std.specs.List.{take_while}
-use Rattle.std.specs.List.{prefix_len}
+use Rattle.std.proofs.Common.{zero, suc, ◌≡◌, ◌==◌, ◌&&◌, ℕ, ◌≤◌, Bool, true, false, not, List, [], ◌∷◌, ◌++◌, Option, Some, None, length, take, drop, if◌then◌else◌, refl, sym, ap, ◌∙◌, subst, arith, unwrap_or, take-append-drop}
+use Rattle.std.specs.List.{take_while, prefix_len}
 use Rattle.std.proofs.lemmas.List.Sums.{prefix_len_is}
 use Rattle.memchr.specs.Find.{IsFirstByte, is_byte}
-use Rattle.std.proofs.lemmas.List.{drop_more}
 use Rattle.input_source.specs.Bytes.{newline}
 use Rattle.tbl_core.specs.declared.place.Front.{Front}
 use Rattle.tbl_core.specs.declared.place.Front.TheVariants.{Nothing, Dot, Letter, Name, Other}
@@ -39,18 +37,6 @@ module _ (line whole : List ℕ) (front : Front) (count : ℕ) where
       let rest : before_table front (drop count line) ≡ drop count line =
       rw (is_other-Other front is) (before_other (drop count line) within) in
       sym (take-append-drop count line) ∙ ap (λ (bytes : List ℕ). take count line ++ bytes) (sym rest) ∙ so_far
-
-  -- and the next one makes it a `.TS` line
-  pub before-none : count < length line → (is_name front && ends_name (get_or line count 0)) ≡ true
-      → take count line ++ before_table front (drop count line) ≡ whole
-      → take count line ≡ whole
-  before-none inside is so_far =
-      let b = get_or line count 0 in
-      let rest = before_table (front_behind start_letter front b) (drop (count + 1) line) in
-      sym (append-nil (take count line))
-      ∙ ap (λ (t : Bool). take count line ++ (if t then [] else b ∷ rest)) (sym is)
-      ∙ ap (λ (bytes : List ℕ). take count line ++ before_table front bytes) (sym (drop_more line count 0 inside))
-      ∙ so_far
 
 -- the front behind bytes that stay outside
 unless_newline : (t : Bool) → t ≡ false → (if t then Nothing else Other) ≡ Other

@@ -1,22 +1,19 @@
 -- Bytes that stand ready: they are given one after another as the inner source gives them.
 use Rattle.std.specs.List.{prefix_len, take_while}
 use Rattle.std.proofs.lemmas.Bool.Decides.{nat_tests}
-use Rattle.input_source.specs.Tape.{Item, OneByte, Ending, Tape, Took, items_then}
+use Rattle.input_source.specs.Tape.{Item, OneByte, Ending, Tape, Took, items_then, Answers, Gives}
 use Rattle.input_source.proofs.PlainBytes.{take_while-plain}
 use Rattle.roff_num.specs.declared.limit.Limit.TheVariants.{TblBytes}
 use Rattle.tbl_format.specs.declared.limits.TblLimits.{TblLimits}
 use Rattle.tbl_core.specs.declared.place.Count.{Count}
 use Rattle.tbl_core.specs.declared.place.Front.{Front}
 use Rattle.tbl_core.specs.Lines.{counted, ends_name, front_behind, is_name, line_counted, next_line, start_letter}
-use Rattle.tbl_core.specs.Machine.{Now, Place, Outside, RestOfStart, Inside, Standing, Reads, Over, Step}
-use Rattle.tbl_core.specs.Machine.{on_start_line, passes, stops, take as taken, take_at}
-use Rattle.tbl_core.specs.Passing.{DoPass, StaysOutside, before_table, front_over, is_of_line, most_looked_at}
-use Rattle.tbl_core.specs.Passing.{passed, passes_next, passing, passing_in}
+use Rattle.tbl_core.specs.Machine.{Now, Place, Outside, RestOfStart, Inside, Standing, Reads, Over, Step, on_start_line, passes, stops, take as taken, take_at}
+use Rattle.tbl_core.specs.Passing.{DoPass, StaysOutside, before_table, front_over, is_of_line, most_looked_at, passed, passes_next, passing, passing_in}
 use Rattle.tbl_core.specs.Tables.{IsByteGiven, IsGiven, TablesState, stopped_by}
 use Rattle.tbl_core.specs.NotesLeft.{noted}
 use Rattle.std.proofs.Common.{Option, Some, IfSome, ◌≡◌, ◌&&◌, ℕ, ◌+◌, ◌-◌, ◌≤◌, ◌<◌, min, nat_le, Bool, true, false, if◌then◌else◌, List, [], ◌∷◌, ◌++◌, None, length, map, take, refl, sym, ap, ◌∙◌, subst, arith, length-take, take-take, length-take-le}
 use Rattle.std.specs.Option.{MatchOption}
-use Rattle.input_source.specs.Tape.{Answers, Gives}
 use Rattle.tbl_core.specs.Source.{IsAlive, IsSourced}
 use Rattle.tbl_core.proofs.Turning.{alive_given, given_now, idle_given}
 use Rattle.input_source.specs.declared.source.Taken.TheVariants.{Byte}

@@ -11,8 +11,7 @@ use Rattle.tbl_core.specs.declared.place.Count.{Count}
 use Rattle.tbl_core.specs.declared.place.Front.{Front}
 use Rattle.tbl_core.specs.Gathered.{bytes_or}
 use Rattle.tbl_core.specs.Lines.{counted, ends_name, front_behind, is_name, start_letter}
-use Rattle.tbl_core.specs.Machine.{Place, Outside, RestOfStart, Inside, Standing, Reads, Over}
-use Rattle.tbl_core.specs.Machine.{on_start_line, stops, take_at}
+use Rattle.tbl_core.specs.Machine.{Place, Outside, RestOfStart, Inside, Standing, Reads, Over, on_start_line, stops, take_at}
 use Rattle.roff_num.specs.declared.limit.Limit.TheVariants.{TblBytes}
 use Rattle.tbl_core.specs.Passing.{before_table, front_over, is_of_line, most_looked_at, passed, passes_next, passing, passing_in}
 use Rattle.tbl_core.specs.Tables.{IsByteGiven, TablesState, byte_step}

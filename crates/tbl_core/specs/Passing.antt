@@ -1,6 +1,5 @@
 -- Bytes outside tables that pass as they are, many at once.
-use Rattle.std.specs.Prelude.{◌≡◌, ℕ, ◌+◌, ◌-◌, ◌≤◌, min, nat_lt, Bool, true, false, not, ◌==◌, ◌&&◌, List, [], ◌∷◌, take, length}
-use Rattle.std.specs.Prelude.{if◌then◌else◌}
+use Rattle.std.specs.Prelude.{◌≡◌, ℕ, ◌+◌, ◌-◌, ◌≤◌, min, nat_lt, Bool, true, false, not, ◌==◌, ◌&&◌, List, [], ◌∷◌, take, length, if◌then◌else◌}
 use Rattle.std.specs.List.{AllByRecursion, take_while}
 use Rattle.input_source.specs.Bytes.{newline}
 use Rattle.tbl_format.specs.declared.limits.TblLimits.{TblLimits}

@@ -1,6 +1,6 @@
 -- The cells of the rows of formats, and the columns that they have.
 use Rattle.std.proofs.Common.{◌≡◌, ℕ, zero, suc, ◌+◌, ◌-◌, ◌<◌, ◌≤◌, List, [], ◌∷◌, length, map, take, drop, get_or, refl, sym, ap, ◌∙◌, arith, length-drop, drop-drop}
-use Rattle.std.proofs.lemmas.List.{drop-map, length-map, take-map}
+use Rattle.std.proofs.lemmas.List.{length-map}
 use Rattle.std.specs.List.{slice_range}
 use Rattle.tbl_format.specs.Cells.{AreCells, by_cells, cell_count, end_of, start_of}
 use Rattle.tbl_format.specs.Format.{columns_of_keys}
@@ -157,17 +157,3 @@ module _ {A : Type 0} (columns : List A) where
       cells-at 0 keys cell cells (omega (arith, all, short)) (omega (arith, all, some))
       ∙ ap (λ (n : ℕ). slice_range columns n (end_behind 0 keys cell) ∷ rest) (sym (start_of-behind keys cell))
       ∙ ap (λ (n : ℕ). slice_range columns (start_of keys cell) n ∷ rest) (sym (end_of-behind keys cell))
-
--- what is made of each column is made of each of the cells
-map-singles : {A B : Type 0} (f : A → B) (xs : List A) → map (map f) (map (λ (x : A). x ∷ []) xs) ≡ map (λ (y : B). y ∷ []) (map f xs)
-map-singles f [] = refl
-map-singles {B = B} f (x ∷ xs) = ap (λ (rest : List (List B)). (f x ∷ []) ∷ rest) (map-singles f xs)
-
-pub map-by_cells : {A B : Type 0} (f : A → B) (from : ℕ) (keys : List FormatKey) (xs : List A)
-    → map (map f) (by_cells from keys xs) ≡ by_cells from keys (map f xs)
-map-by_cells f from [] xs = map-singles f xs
-map-by_cells {B = B} f from (k ∷ keys) xs =
-    let n = k.end - from in
-    ap (λ (ys : List B). ys ∷ map (map f) (by_cells k.end keys (drop n xs))) (sym (take-map f n xs))
-    ∙ ap (λ (rest : List (List B)). take n (map f xs) ∷ rest) (map-by_cells f k.end keys (drop n xs))
-    ∙ ap (λ (ys : List B). take n (map f xs) ∷ by_cells k.end keys ys) (sym (drop-map f n xs))

@@ -3,9 +3,8 @@ use Rattle.std.proofs.Common.{◌≡◌, ℕ, zero, suc, ◌+◌, ◌-◌, ◌<�
 use Rattle.std.proofs.lemmas.List.{drop-append-le, drop_all, take-append-le}
 use Rattle.tbl_format.specs.Format.{Format, FormatRow, asking, asking_for_bars, at_fault, columns_of_keys, fault_if, further, has_some, is_spanned, keys_with, last_changed, most_bars, nothing_asked, plain_key, with_asked, with_columns, with_end, with_last, with_whole, widened}
 use Rattle.tbl_format.specs.FormatRows.{key_count, keys_of, rows_kept, rows_with}
-use Rattle.roff_num.specs.Lists.{last_end}
+use Rattle.roff_num.specs.Lists.{last_end, parts_ending}
 use Rattle.tbl_format.specs.Parts.{EndWithin}
-use Rattle.roff_num.specs.Lists.{parts_ending}
 use Rattle.tbl_format.specs.declared.format.Asked.{Asked}
 use Rattle.tbl_format.specs.declared.format.FormatKey.{FormatKey}
 use Rattle.tbl_format.specs.RowsServed.{first_format, row_at}

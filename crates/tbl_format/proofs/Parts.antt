@@ -2,10 +2,8 @@
 use Rattle.std.proofs.Common.{◌≡◌, ℕ, zero, suc, ◌+◌, ◌-◌, ◌<◌, ◌≤◌, List, [], ◌∷◌, ◌++◌, length, take, drop, get_or, refl, sym, ap, ◌∙◌, arith, length-drop, length-take-le}
 use Rattle.std.specs.List.{slice_range}
 use Rattle.std.proofs.lemmas.List.{drop-append-le, take-append-le, take_rest}
-use Rattle.roff_num.specs.Lists.{last_end}
+use Rattle.roff_num.specs.Lists.{last_end, EndInOrder, parts_ending}
 use Rattle.tbl_format.specs.Parts.{EndWithin}
-use Rattle.roff_num.specs.Lists.{EndInOrder}
-use Rattle.roff_num.specs.Lists.{parts_ending}
 
 -- the last of them ends within the list
 pub EndWithin-last : (len from : ℕ) (ends : List ℕ) → EndWithin len from ends → last_end from ends ≤ len
@@ -29,15 +27,6 @@ EndWithin-order len from (end ∷ ends) within = (omega (arith, within.0), EndWi
 pub EndInOrder-first : (len from : ℕ) (ends : List ℕ) → EndInOrder len from ends → from ≤ len
 EndInOrder-first len from [] order = order
 EndInOrder-first len from (end ∷ ends) order = omega (arith, order.0, EndInOrder-first len end ends order.1)
-
-pub EndInOrder-more : (len more from : ℕ) (ends : List ℕ) → len ≤ more → EndInOrder len from ends → EndInOrder more from ends
-EndInOrder-more len more from [] le order = omega (arith, le, order)
-EndInOrder-more len more from (end ∷ ends) le order = (order.0, EndInOrder-more len more end ends le order.1)
-
--- one more, that ends with a longer list
-pub EndInOrder-append : (len end from : ℕ) (ends : List ℕ) → len ≤ end → EndInOrder len from ends → EndInOrder end from (ends ++ end ∷ [])
-EndInOrder-append len end from [] le order = (omega (arith, le, order), omega arith)
-EndInOrder-append len end from (e ∷ ends) le order = (order.0, EndInOrder-append len end e ends le order.1)
 
 -- one of them starts where the one in front of it ends, and ends within the list
 pub record IsPart (len start end : ℕ) : Type 0 where

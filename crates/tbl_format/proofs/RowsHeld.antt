@@ -3,8 +3,7 @@ use Rattle.std.proofs.Common.{◌≡◌, ℕ, zero, suc, ◌+◌, ◌<◌, ◌�
 use Rattle.std.specs.List.{AllByRecursion}
 use Rattle.tbl_format.specs.Format.{Format, FormatRow, asked_by, asking, asking_for_bars, at_fault, columns_of_keys, done, fault_if, format_byte, format_byte_at, further, has_some, is_misplaced, looked_again, most_bars, plain_key, read_behind, said_by, stepped, with_any_key, with_asked, with_columns, with_last, with_whole, widened}
 use Rattle.tbl_format.specs.Cells.{start_of}
-use Rattle.tbl_format.specs.FormatLaws.{AreHeld, Further, IsHeld, IsRead, Line, NoByte, RowHeld, most_beside}
-use Rattle.tbl_format.specs.FormatLaws.{bars_among}
+use Rattle.tbl_format.specs.FormatLaws.{AreHeld, Further, IsHeld, IsRead, Line, NoByte, RowHeld, most_beside, bars_among}
 use Rattle.tbl_format.specs.FormatSteps.{step}
 use Rattle.tbl_format.specs.RowsServed.{all_rows}
 use Rattle.tbl_format.specs.declared.format.Asked.{Asked}

@@ -5,8 +5,7 @@ use Rattle.std.specs.List.{AllByRecursion, slice_range}
 use Rattle.tbl_format.specs.Cells.{AreCells}
 use Rattle.tbl_format.specs.Format.{columns_of_keys, has_some, last_changed, said_by, widened}
 use Rattle.tbl_format.specs.FormatRows.{AreWithin}
-use Rattle.roff_num.specs.Lists.{last_end}
-use Rattle.roff_num.specs.Lists.{parts_ending}
+use Rattle.roff_num.specs.Lists.{last_end, parts_ending}
 use Rattle.tbl_format.specs.declared.format.FormatKey.{FormatKey}
 use Rattle.tbl_format.specs.declared.format_step.Does.{Does}
 use Rattle.tbl_format.specs.declared.format_step.Does.TheVariants.{AddBar, AddKey, DropWidth, EndFormat, EndRow, Equalize, LeaveOut, Nothing, Separate, Stand, Widen}

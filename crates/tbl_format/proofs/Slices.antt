@@ -1,9 +1,7 @@
 -- Parts of lists.
-use Rattle.std.proofs.Common.{◌≡◌, ℕ, zero, suc, ◌+◌, ◌-◌, ◌<◌, ◌≤◌, min, List, ◌∷◌, ◌++◌, length, take, drop, get_or, replicate, sym, ap, ◌∙◌, arith, length-drop, length-take}
+use Rattle.std.proofs.Common.{◌≡◌, ℕ, zero, suc, ◌+◌, ◌-◌, ◌<◌, ◌≤◌, min, List, ◌∷◌, length, take, drop, get_or, replicate, sym, ap, ◌∙◌, arith, length-drop, length-take}
 use Rattle.std.specs.List.{slice_range}
-use Rattle.std.proofs.lemmas.List.{drop_more, take-append-le}
-use Rattle.std.proofs.Math.Seq.{take-length}
-use Rattle.tbl_format.specs.Parts.{IsFront}
+use Rattle.std.proofs.lemmas.List.{drop_more}
 
 -- a part begins with its first element
 pub slice_range-more : {A : Type 0} (items : List A) (from end : ℕ) (x : A) → from < end → end ≤ length items → x ≡ get_or items from x
@@ -25,22 +23,6 @@ take-replicate (suc m) zero y =
 take-replicate (suc m) (suc n) y =
     let fewer : suc (min m n) ≡ min (suc m) (suc n) = omega arith in
     ap (λ (xs : List ℕ). y ∷ xs) (take-replicate m n y) ∙ ap (λ (k : ℕ). replicate k y) fewer
-
-module _ {A : Type 0} where
-  -- a list is a front of itself
-  pub front-all : (all : List A) → IsFront all all
-  front-all all = take-length all
-
-  -- a front is no longer
-  pub front-few : (front all : List A) → IsFront front all → length front ≤ length all
-  front-few front all is =
-      let len = length-take (length front) all in
-      let same = ap (λ (xs : List A). length xs) is in
-      omega (arith, len, same)
-
-  -- what is a front of a list is one where more follows
-  pub front-more : (front all more : List A) → IsFront front all → IsFront front (all ++ more)
-  front-more front all more is = take-append-le (length front) all more (front-few front all is) ∙ is
 
 -- a part that has all its items ends within the list
 pub part-within : (items : List ℕ) (from to : ℕ) → length (slice_range items from to) ≡ to - from → from < to → to ≤ length items

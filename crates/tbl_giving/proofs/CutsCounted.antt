@@ -8,9 +8,8 @@ use Rattle.tbl_layout.specs.declared.data_lines.RuleSign.{RuleSign}
 use Rattle.tbl_line_cells.specs.LinesDrawn.{CutOn}
 use Rattle.tbl_lines.specs.CellsLeft.{Left, bars_at_end, cells_next}
 use Rattle.tbl_lines.specs.CutEntries.{all_with_cut, behind_key_lines, behind_row, cut_from, cut_in_keys, cut_in_row, first_cut, with_cut}
-use Rattle.tbl_lines.specs.LinesLeft.{Beside, OfRow, OfRules, Over, bars_met, cut_cells, edge, front_between, fronts_between, is_within, over_at, overs, row_cut, rule_cut, rules_edge}
+use Rattle.tbl_lines.specs.LinesLeft.{Beside, OfRow, OfRules, Over, bars_met, cut_cells, edge, front_between, fronts_between, is_within, over_at, overs, row_cut, rule_cut, rules_edge, all_shown}
 use Rattle.tbl_layout.specs.LayoutLaws.{first_start, last_end}
-use Rattle.tbl_lines.specs.LinesLeft.{all_shown}
 use Rattle.tbl_lines.specs.PictureLeft.{behind_keys, behind_lines, through_rule, through_rules}
 use Rattle.tbl_lines.specs.PictureLines.{Cell, OfKeys, RuleLine, Sheet, Whole}
 use Rattle.tbl_lines.specs.RulePlaces.{HavePlaces}

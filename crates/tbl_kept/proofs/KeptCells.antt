@@ -1,5 +1,5 @@
 -- The cells of rows that are kept, by their keys and fields.
-use Rattle.std.proofs.Common.{◌≡◌, ℕ, ◌<◌, List, length, map, get_or, refl, sym, ap, subst, ◌∙◌, Option, None}
+use Rattle.std.proofs.Common.{◌≡◌, ℕ, ◌<◌, List, length, map, get_or, sym, ap, subst, ◌∙◌, Option}
 use Rattle.std.specs.List.{slice_range}
 use Rattle.tbl_format.specs.Format.{FormatRow}
 use Rattle.tbl_format.specs.RowsServed.{row_at}
@@ -7,7 +7,7 @@ use Rattle.tbl_format.specs.declared.format.FormatKey.{FormatKey}
 use Rattle.tbl_layout.specs.Heights.{cell_above, cell_below}
 use Rattle.tbl_layout.specs.KeptEntries.{all_entries, no_entry}
 use Rattle.tbl_layout.specs.declared.entry.Entry.{Entry}
-use Rattle.tbl_kept.specs.KeptHeights.{HasCells, IsNoRow, cell_above_kept, cell_below_kept, cells_of, field_kept}
+use Rattle.tbl_kept.specs.KeptHeights.{HasCells, cell_above_kept, cell_below_kept, cells_of, field_kept}
 use Rattle.tbl_kept.specs.Rows.{Command, KeptElement, Row, Rule}
 use Rattle.tbl_kept.specs.RowsInside.{kept_in}
 use Rattle.tbl_kept.specs.declared.rows.Element.{Element}
@@ -33,11 +33,6 @@ module _ (formats : List FormatRow) where
       ∙ ap (λ (es : List Entry). get_or (all_entries (row_at formats row) es) cell no_entry) has.1
   field-has cell (Rule sign) keys entries found has is = absurd has
   field-has cell (Command from to) keys entries found has is = absurd has
-
-  pub field-none : (cell : ℕ) (e : KeptElement) → IsNoRow e → no_entry ≡ field_kept formats cell e
-  field-none cell (Row row rules height fields) none = absurd none
-  field-none cell (Rule sign) none = refl
-  field-none cell (Command from to) none = refl
 
   -- with which cell of the row above one goes on
   pub above-has : (bytes : List ℕ) (cell : ℕ) (above e : KeptElement) (others keys : List FormatKey) (other_fields entries : List Entry) (found : Option ℕ)
@@ -70,23 +65,3 @@ module _ (formats : List FormatRow) where
   below-has bytes cell (Row row rules height fields) (Command from to) keys others entries other_fields found here has is = absurd has
   below-has bytes cell (Rule sign) below keys others entries other_fields found here has is = absurd here
   below-has bytes cell (Command from to) below keys others entries other_fields found here has is = absurd here
-
-  -- none does where one of the two isn't a row
-  pub above-none : (bytes : List ℕ) (cell : ℕ) (above e : KeptElement) → IsNoRow above → None ≡ cell_above_kept bytes formats cell above e
-  above-none bytes cell (Row row rules height fields) e none = absurd none
-  above-none bytes cell (Rule sign) e none = refl
-  above-none bytes cell (Command from to) e none = refl
-
-  pub row-none : (bytes : List ℕ) (cell : ℕ) (e below : KeptElement) → IsNoRow e → None ≡ cell_below_kept bytes formats cell e below
-  row-none bytes cell (Row row rules height fields) below none = absurd none
-  row-none bytes cell (Rule sign) below none = refl
-  row-none bytes cell (Command from to) below none = refl
-
-  pub below-none : (bytes : List ℕ) (cell : ℕ) (e below : KeptElement) → IsNoRow below → None ≡ cell_below_kept bytes formats cell e below
-  below-none bytes cell e (Row row rules height fields) none = absurd none
-  below-none bytes cell (Row row rules height fields) (Rule sign) none = refl
-  below-none bytes cell (Rule other) (Rule sign) none = refl
-  below-none bytes cell (Command first last) (Rule sign) none = refl
-  below-none bytes cell (Row row rules height fields) (Command from to) none = refl
-  below-none bytes cell (Rule other) (Command from to) none = refl
-  below-none bytes cell (Command first last) (Command from to) none = refl

@@ -1,13 +1,11 @@
 -- Where the fields of rows lie, one row after another.
 use Rattle.std.proofs.Common.{◌≡◌, ℕ, zero, suc, ◌+◌, ◌-◌, ◌<◌, ◌≤◌, List, [], ◌∷◌, ◌++◌, length, map, take, drop, get_or, set, refl, sym, ap, subst, ◌∙◌, arith, length-append, length-drop, drop-drop, drop_at, length-take-le, take-take, take_at}
-use Rattle.std.specs.List.{AllByRecursion, slice_range}
-use Rattle.tbl_format.specs.Format.{FormatRow}
+use Rattle.std.specs.List.{slice_range}
 use Rattle.tbl_layout.specs.declared.entry.Entry.{Entry}
 use Rattle.tbl_layout.specs.declared.data_lines.RuleSign.{RuleSign}
 use Rattle.tbl_text.proofs.BlockSlices.{length-slice_range}
 use Rattle.tbl_kept.specs.Rows.{Command, KeptElement, Row, Rule, entries_in}
 use Rattle.tbl_kept.specs.RowsInside.{LieBetween, kept_in}
-use Rattle.tbl_kept.specs.RowsLaying.{ElementWithin}
 use Rattle.tbl_kept.specs.declared.rows.Element.{Element}
 use Rattle.tbl_kept.specs.declared.rows.Element.TheVariants.{Command as OneCommand, Row as OneRow, Rule as OneRule}
 use Rattle.tbl_kept.specs.declared.rows.KeptRow.{KeptRow}
@@ -218,10 +216,3 @@ length-changed fields part from to order within len =
       length-drop (to - from) (drop from fields),
       length-drop from fields,
     )
-
--- a row of the formats serves a row that is kept
-pub row-served : (fields : List Entry) (formats : List FormatRow) (elements : List Element) (at : ℕ) (none : Element) (row : KeptRow) → at < length elements
-    → get_or elements at none ≡ OneRow row → AllByRecursion (ElementWithin formats) (map (kept_in fields) elements) → row.keys < length formats
-row-served fields formats [] at none row more is within = absurd (omega (arith, more))
-row-served fields formats (e ∷ elements) zero none row more is within = subst (λ (x : Element). ElementWithin formats (kept_in fields x)) is within.0
-row-served fields formats (e ∷ elements) (suc at) none row more is within = row-served fields formats elements at none row (omega (arith, more)) is within.1

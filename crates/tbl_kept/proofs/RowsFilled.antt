@@ -9,7 +9,7 @@ use Rattle.tbl_format.specs.RowsServed.{row_at}
 use Rattle.tbl_format.specs.declared.format.Asked.{Asked}
 use Rattle.tbl_format.specs.declared.format.Key.{Key}
 use Rattle.tbl_layout.specs.Entries.{Content, Element, Row as OneRow, completed, key_at}
-use Rattle.tbl_layout.specs.KeptEntries.{IsKeptBy, IsLaid, IsLaidBy, content_by, content_of, lines_by}
+use Rattle.tbl_layout.specs.KeptEntries.{IsKeptBy, IsLaid, IsLaidBy, content_by, content_of, lines_by, Lies}
 use Rattle.tbl_layout.specs.Spans.{filled, filled_element, filled_fields, filled_in, measure_of}
 use Rattle.tbl_layout.specs.declared.bars.Bars.{Bars}
 use Rattle.tbl_layout.specs.declared.columns.Stands.TheVariants.{Nowhere}
@@ -20,7 +20,6 @@ use Rattle.tbl_layout.specs.declared.entry.EntryKind.TheVariants.{Above as Above
 use Rattle.tbl_layout.proofs.BlocksFilled.{filled-completed}
 use Rattle.tbl_kept.specs.Rows.{AreKept, AreLaid, Command, ElementKept, ElementLaid, KeptElement, Row, Rule, element_of, elements_of, height_of, rows_in_front}
 use Rattle.tbl_kept.specs.RowsLaying.{FieldsLie, block_stands_by, laid_by, laid_element, laid_entries}
-use Rattle.tbl_layout.specs.KeptEntries.{Lies}
 use Rattle.tbl_kept.proofs.Stepping.{greatest-more}
 
 -- a field that is kept is laid out once it is filled, and is the same text, or the same block in its measure

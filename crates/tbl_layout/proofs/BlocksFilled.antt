@@ -1,13 +1,11 @@
 -- The measures of blocks, and elements whose blocks have them.
 use Rattle.std.proofs.Common.{◌≡◌, ℕ, suc, List, [], ◌∷◌, ◌++◌, length, drop, refl, sym, ap, ◌∙◌, arith}
 use Rattle.std.specs.List.{AllByRecursion}
-use Rattle.std.proofs.lemmas.List.{length-map}
-use Rattle.tbl_format.specs.Cells.{by_cells}
 use Rattle.tbl_format.specs.Format.{FormatRow}
 use Rattle.tbl_format.specs.declared.format.Asked.{Asked}
-use Rattle.tbl_layout.specs.Entries.{Above, Block, Command, Content, Element, Repeated, Row, Rule, Ruled, Short, Text, completed, content_of_kind}
+use Rattle.tbl_layout.specs.Entries.{Above, Block, Content, Repeated, Ruled, Short, Text, completed, content_of_kind}
 use Rattle.tbl_layout.specs.RuleKeys.{under_keys}
-use Rattle.tbl_layout.specs.Spans.{filled, filled_element, filled_fields, filled_in, measure_of}
+use Rattle.tbl_layout.specs.Spans.{filled_fields, filled_in, measure_of}
 use Rattle.tbl_layout.specs.declared.bars.Bars.{Bars}
 use Rattle.tbl_layout.specs.declared.data_lines.FieldKind.{FieldKind}
 use Rattle.tbl_layout.specs.declared.data_lines.FieldKind.TheVariants.{Above as AboveKind, Repeated as RepeatedKind, Ruled as RuledKind, Short as ShortKind, Text as OneText}
@@ -72,21 +70,3 @@ module _ (bars : Bars) (line_length : ℕ) where
         (all-under IsUnfilled content_of_kind (Text []) (drop (length fields) format.keys) unfilled-said (λ (measure : ℕ). refl))
         ∙ ap (λ (n : ℕ). filled_fields bars line_length count cells fields ++ under_keys content_of_kind (Text []) (drop n format.keys))
         (sym (length-filled_fields cells fields))
-
-  -- elements whose blocks have their measures keep them
-  filled_element-twice : (asked : List Asked) (e : Element)
-      → filled_element bars line_length asked (filled_element bars line_length asked e) ≡ filled_element bars line_length asked e
-  filled_element-twice asked (Row rules format fields) =
-      ap (λ (fs : List Content). Row rules format fs) (filled_fields-twice (length asked) (by_cells 0 format.keys asked) fields)
-  filled_element-twice asked (Rule sign) = refl
-  filled_element-twice asked (Command bytes) = refl
-
-  pub filled-twice : (asked : List Asked) (elements : List Element)
-      → filled bars line_length asked (filled bars line_length asked elements) ≡ filled bars line_length asked elements
-  filled-twice asked [] = refl
-  filled-twice asked (e ∷ elements) =
-      ap (λ (first : Element). first ∷ filled bars line_length asked (filled bars line_length asked elements)) (filled_element-twice asked e)
-      ∙ ap (λ (rest : List Element). filled_element bars line_length asked e ∷ rest) (filled-twice asked elements)
-
-  pub length-filled : (asked : List Asked) (elements : List Element) → length (filled bars line_length asked elements) ≡ length elements
-  length-filled asked elements = length-map elements (filled_element bars line_length asked)

@@ -64,14 +64,6 @@ no_narrower-spread : (more count at : ℕ) (columns : List Column) → AreNoNarr
 no_narrower-spread more count at [] = tt
 no_narrower-spread more count at (c ∷ columns) = (omega arith, no_narrower-spread more count (suc at) columns)
 
--- and all of it falls to some column
-part-all : (more count at columns : ℕ) → 0 < count → at * more / count ≤ (at + columns) * more / count
-part-all more count at zero some =
-    let same : (at + zero) * more / count ≡ at * more / count = ap (λ (n : ℕ). n * more / count) (omega arith) in omega (arith, same)
-part-all more count at (suc columns) some =
-    let next : (at + suc columns) * more / count ≡ (at + columns + 1) * more / count = ap (λ (n : ℕ). n * more / count) (omega arith) in
-    omega (arith, next, part-all more count at columns some, part-grows (at + columns) more count some)
-
 spread-widths : (more count at : ℕ) (columns : List Column) → 0 < count
     → widths_of (spread_over more count at columns) + at * more / count ≡ widths_of columns + (at + length columns) * more / count
 spread-widths more count at [] some =

@@ -1,6 +1,6 @@
 -- Columns one by one: where rules over them begin and end.
 use Rattle.std.proofs.Common.{◌≡◌, ℕ, zero, suc, ◌+◌, ◌-◌, ◌<◌, List, [], ◌∷◌, drop, get_or, length, refl, ap, ◌∙◌, arith}
-use Rattle.tbl_layout.specs.LayoutLaws.{first_start, last_end}
+use Rattle.tbl_layout.specs.LayoutLaws.{last_end}
 use Rattle.tbl_layout.specs.declared.columns.Column.{Column}
 
 -- the last one
@@ -14,10 +14,6 @@ last-is place (x ∷ y ∷ columns) c some =
     ap (λ (n : ℕ). (get_or (x ∷ y ∷ columns) n c).start + (get_or (x ∷ y ∷ columns) n c).width) more
     ∙ ap (λ (n : ℕ). (get_or (y ∷ columns) n c).start + (get_or (y ∷ columns) n c).width) last
     ∙ last-is (x.start + x.width) (y ∷ columns) c (omega arith)
-
-pub first-is : (place : ℕ) (columns : List Column) (c : Column) → 0 < length columns → (get_or columns 0 c).start ≡ first_start place columns
-first-is place [] c some = absurd (omega (arith, some))
-first-is place (x ∷ columns) c some = refl
 
 -- one and the next
 pub drop-one : {A : Type 0} (xs : List A) (at : ℕ) (x : A) → at < length xs → drop at xs ≡ get_or xs at x ∷ drop (suc at) xs

@@ -51,15 +51,6 @@ cell-so-far bytes old new c s done fronts is so_far cells running fronts_are = r
   };
 }
 
--- what stands in front of one more
-more-bars : (fronts : List Front) (f : Front) → AllByRecursion HasBars fronts → HasBars f → AllByRecursion HasBars (fronts ++ f ∷ [])
-more-bars [] f all is = (is, tt)
-more-bars (g ∷ fronts) f all is = (all.0, more-bars fronts f all.1 is)
-
-more-map : {A B : Type 0} (g : A → B) (xs : List A) (x : A) → map g (xs ++ x ∷ []) ≡ map g xs ++ g x ∷ []
-more-map g [] x = refl
-more-map {B = B} g (y ∷ xs) x = ap (λ (ys : List B). g y ∷ ys) (more-map g xs x)
-
 -- where nothing runs on, all is drawn
 pub shown-drawn : (bytes : List ℕ) (cells : List LaidCell) (done : List Shown) → AreShown bytes cells done → AreDrawn bytes cells done
 shown-drawn bytes [] [] all = tt

@@ -10,8 +10,7 @@ use Rattle.tbl_lines.specs.LinesLeft.{bars_there, between, first_bars, row_front
 use Rattle.tbl_lines.specs.PictureLines.{Cell}
 use Rattle.tbl_options.specs.declared.options.Boxing.{Boxing}
 use Rattle.tbl_line_cells.specs.KeptCells.{AllLeft}
-use Rattle.tbl_line_cells.specs.LinesDrawn.{if_any}
-use Rattle.tbl_line_cells.specs.LinesDrawn.{keys_in}
+use Rattle.tbl_line_cells.specs.LinesDrawn.{if_any, keys_in}
 use Rattle.tbl_line_cells.specs.declared.cells.CellLeft.{CellLeft}
 use Rattle.tbl_line_cells.proofs.RowLaid.{keys-left}
 

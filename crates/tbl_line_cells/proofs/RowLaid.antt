@@ -9,8 +9,7 @@ use Rattle.tbl_lines.specs.PictureLines.{Cell}
 use Rattle.tbl_lines.proofs.RowColumns.{drop-none, take-next}
 use Rattle.tbl_options.specs.declared.options.Boxing.{Boxing}
 use Rattle.tbl_line_cells.specs.KeptCells.{AllLeft, IsLeft}
-use Rattle.tbl_line_cells.specs.LinesDrawn.{KeptLine, SoFar}
-use Rattle.tbl_line_cells.specs.LinesDrawn.{keys_in}
+use Rattle.tbl_line_cells.specs.LinesDrawn.{KeptLine, SoFar, keys_in}
 use Rattle.tbl_line_cells.specs.declared.cells.CellLeft.{CellLeft}
 
 -- the cells that are left have the same keys

@@ -17,8 +17,7 @@ use Rattle.tbl_lines.specs.LinesLeft.{Free, Over, Shown, Through, all_shown, dra
 use Rattle.tbl_lines.specs.PictureLines.{RuleLine, sign_over}
 use Rattle.tbl_options.specs.declared.options.Boxing.{Boxing}
 use Rattle.tbl_line_cells.specs.KeptCells.{AllLeft}
-use Rattle.tbl_line_cells.specs.LinesDrawn.{EndsBehind, RunInOrder, end_behind}
-use Rattle.tbl_line_cells.specs.LinesDrawn.{keys_in}
+use Rattle.tbl_line_cells.specs.LinesDrawn.{EndsBehind, RunInOrder, end_behind, keys_in}
 use Rattle.tbl_line_cells.specs.RulesDrawn.{Cover, HasColumn, begin_behind, begin_from, end_at, over_of}
 use Rattle.tbl_line_cells.specs.declared.cells.CellLeft.{CellLeft}
 use Rattle.tbl_line_cells.proofs.CellsOver.{begin-of, begins-most, column-behind, column-within, first-column, over-cell, split}

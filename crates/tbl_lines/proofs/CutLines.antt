@@ -11,9 +11,8 @@ use Rattle.tbl_layout.specs.declared.columns.Column.{Column}
 use Rattle.tbl_layout.specs.declared.data_lines.RuleSign.{RuleSign}
 use Rattle.tbl_options.specs.declared.options.Boxing.{Boxing}
 use Rattle.tbl_lines.specs.CellsLeft.{Left, all_keys, all_stopped, first_entry, first_used, goes_on, stop_below}
-use Rattle.tbl_lines.specs.LinesLeft.{Shown, all_cut, cut_cells, if_cut, if_runs_on, is_there, next_drawn, place_of_text, runs_on, shown_by}
+use Rattle.tbl_lines.specs.LinesLeft.{Shown, all_cut, cut_cells, if_cut, if_runs_on, next_drawn, place_of_text, runs_on, shown_by}
 use Rattle.tbl_lines.specs.PictureLines.{Cell, Sheet, boxed_from, frame_sign, rule_in_front, ruled_between, ruled_inside}
-use Rattle.tbl_lines.specs.RowsLeft.{first_of}
 
 -- nothing of what is shown runs on
 abbrev pub NoneRunOn : List Shown → Type 0
@@ -31,36 +30,6 @@ cut_cells-none s fronts [] none = refl
 cut_cells-none s fronts (x ∷ all) none =
     let drawn = next_drawn s.width (drop 1 fronts) all in
     ap (λ (o : Option Left). if_cut o s drawn x ++ cut_cells s (drop 1 fronts) all) none.0 ∙ cut_cells-none s (drop 1 fronts) all none.1
-
--- where nothing stands in front of cells, it is as if there were no such places
-abbrev pub NoneThere : List Cell → Type 0
-NoneThere fronts = AllByRecursion (λ f. is_there (first_of f) ≡ false) fronts
-
-none-behind : (fronts : List Cell) → NoneThere fronts → NoneThere (drop 1 fronts)
-none-behind [] none = tt
-none-behind (f ∷ fronts) none = none.1
-
-pub next_drawn-none : (end : ℕ) (fronts : List Cell) (all : List Shown) → NoneThere fronts → next_drawn end fronts all ≡ next_drawn end [] all
-next_drawn-none end [] all none = refl
-next_drawn-none end (f ∷ fronts) [] none = ap (λ (t : Bool). if t then f.at else end) none.0
-next_drawn-none end (f ∷ fronts) (x ∷ all) none =
-    let marked = not x.is_text && is_there x.runs in
-    ap (λ (t : Bool). if t then f.at else if marked then x.at else next_drawn end fronts all) none.0
-    ∙ ap (λ (n : ℕ). if marked then x.at else n) (next_drawn-none end fronts all none.1)
-
-pub all_cut-free : (s : Sheet) (fronts : List Cell) (all : List Shown) → NoneThere fronts → all_cut s fronts all ≡ all_cut s [] all
-all_cut-free s fronts [] none = refl
-all_cut-free s fronts (x ∷ all) none =
-    let behind = none-behind fronts none in
-    ap (λ (drawn : ℕ). if_runs_on x.runs_on s drawn x ∷ all_cut s (drop 1 fronts) all) (next_drawn-none s.width (drop 1 fronts) all behind)
-    ∙ ap (λ (rest : List Shown). if_runs_on x.runs_on s (next_drawn s.width [] all) x ∷ rest) (all_cut-free s (drop 1 fronts) all behind)
-
-pub cut_cells-free : (s : Sheet) (fronts : List Cell) (all : List Shown) → NoneThere fronts → cut_cells s fronts all ≡ cut_cells s [] all
-cut_cells-free s fronts [] none = refl
-cut_cells-free s fronts (x ∷ all) none =
-    let behind = none-behind fronts none in
-    ap (λ (drawn : ℕ). if_cut x.runs_on s drawn x ++ cut_cells s (drop 1 fronts) all) (next_drawn-none s.width (drop 1 fronts) all behind)
-    ∙ ap (λ (rest : List Left). if_cut x.runs_on s (next_drawn s.width [] all) x ++ rest) (cut_cells-free s (drop 1 fronts) all behind)
 
 -- what has a width doesn't run on, and stands where its key puts it
 pub runs-plain : (own : Left) (c : Column) → own.key.has_no_width ≡ false → runs_on own c ≡ false

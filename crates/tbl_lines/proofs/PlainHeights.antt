@@ -9,13 +9,12 @@ use Rattle.tbl_format.specs.declared.format.FormatKey.{FormatKey}
 use Rattle.tbl_format.specs.declared.format.Key.{Key}
 use Rattle.tbl_layout.specs.Columns.{greatest}
 use Rattle.tbl_layout.specs.Entries.{Above, Block, Command, Content, Element, Repeated, Row, Rule, Ruled, Short, Text, field_at, key_at}
-use Rattle.tbl_layout.specs.Heights.{cell_above, cell_below, ending_from, ends_in_front_of, heights_behind, if_above, is_above, left_of_cell, lefts_from, lines_in, rules_between}
+use Rattle.tbl_layout.specs.Heights.{cell_above, cell_below, ending_from, ends_in_front_of, heights_behind, if_above, is_above, left_of_cell, lefts_from, lines_in, rules_between, NoneAbove}
 use Rattle.tbl_layout.specs.Spans.{cells_of}
 use Rattle.tbl_layout.specs.declared.columns.Column.{Column}
 use Rattle.tbl_layout.specs.declared.data_lines.RuleSign.{RuleSign}
 use Rattle.tbl_options.specs.declared.options.Boxing.{Boxing}
 use Rattle.tbl_lines.specs.PictureLines.{Cell, Sheet, all_between, bars_at, bars_at_edge, bars_between, bars_by, boxed, cell_of, cells_from, frame_rules, frame_sign, fronts, height, joined_sign, right_bars, row_cells, rule_in_front, ruled_between, ruled_inside, with_fronts}
-use Rattle.tbl_layout.specs.Heights.{NoneAbove}
 use Rattle.tbl_lines.specs.RowsAlone.{AllHaveWidth, AllPlaced, AllWithin, HaveWidth}
 use Rattle.tbl_lines.specs.RulePlaces.{HasPlaces}
 use Rattle.tbl_lines.proofs.CellsLent.{length-cells_of}

@@ -7,14 +7,13 @@ use Rattle.tbl_format.specs.Format.{FormatRow, columns_of_keys}
 use Rattle.tbl_format.specs.FormatRows.{AreWithin}
 use Rattle.tbl_format.specs.declared.format.FormatKey.{FormatKey}
 use Rattle.tbl_layout.specs.Entries.{Command, Content, Element, Row, Rule}
-use Rattle.tbl_layout.specs.Heights.{heights_behind}
+use Rattle.tbl_layout.specs.Heights.{heights_behind, NoneAbove}
 use Rattle.tbl_layout.specs.LayoutLaws.{StandInOrder}
 use Rattle.tbl_layout.specs.declared.data_lines.RuleSign.{RuleSign}
 use Rattle.tbl_lines.specs.CellsLeft.{Left, all_keys, all_stopped, bars_at_end, behind_line, cells_next, goes_on, keys_behind, lines_over, nothing_left}
 use Rattle.tbl_lines.specs.LinesLeft.{Beside, Nothing, OfRow as OfCells, OfRules as OfRulesLeft, overs, rule_line_left}
 use Rattle.tbl_lines.specs.PictureLeft.{behind_keys, behind_lines, below_of, key_lines, lines_left, row_lines, table_lines, through_rule, through_rules}
 use Rattle.tbl_lines.specs.PictureLines.{Neighbour, NoRow, OfKeys, OfRow as OfFields, OfRules, RuleLine, Sheet, Whole, behind_rules, boxed, height, line_below, lines_behind, lines_from, picture_lines, row_cells, rule_line, rule_lines}
-use Rattle.tbl_layout.specs.Heights.{NoneAbove}
 use Rattle.tbl_lines.specs.RowsAlone.{AllHaveWidth, AllPlaced, AllWithin, HaveWidth, alone_from}
 use Rattle.tbl_lines.specs.RulePlaces.{HasPlaces, IsLinePlaced, IsPlaced}
 use Rattle.tbl_lines.specs.RulesAlone.{NoneGoOn, ShownAlike}

@@ -1,18 +1,17 @@
 -- What a step of a walk does with the elements of a picture.
-use Rattle.std.proofs.Common.{◌≡◌, ℕ, suc, ◌+◌, ◌-◌, ◌≤◌, Bool, true, false, ◌&&◌, List, [], ◌∷◌, ◌++◌, length, drop, take, refl, sym, ap, subst, ◌∙◌, arith, append_assoc, length-append, if◌then◌else◌, ◌==◌}
+use Rattle.std.proofs.Common.{◌≡◌, ℕ, suc, ◌+◌, ◌-◌, ◌≤◌, Bool, true, false, ◌&&◌, List, [], ◌∷◌, ◌++◌, length, drop, take, refl, sym, ap, subst, ◌∙◌, arith, append_assoc, length-append, ◌==◌}
 use Rattle.std.specs.List.{slice_range}
 use Rattle.input_source.specs.Bytes.{newline}
 use Rattle.tbl_format.specs.Format.{FormatRow}
 use Rattle.tbl_format.specs.RowsServed.{row_at}
 use Rattle.tbl_kept.specs.Rows.{Command, CommandLies, ElementLaid, KeptElement, KeptRows, Row, Rule, elements_of, fields_of}
-use Rattle.tbl_layout.specs.Entries.{Row as OneRow, Rule as OneRule}
+use Rattle.tbl_layout.specs.Entries.{Row as OneRow}
 use Rattle.tbl_layout.specs.KeptEntries.{all_entries}
-use Rattle.tbl_layout.specs.declared.bars.Bars.{Bars}
 use Rattle.tbl_layout.specs.declared.data_lines.RuleSign.{RuleSign}
 use Rattle.tbl_layout.specs.declared.data_lines.RuleSign.TheVariants.{Single}
 use Rattle.tbl_layout.specs.declared.entry.Entry.{Entry}
-use Rattle.tbl_picture.specs.ElementsWalked.{BehindRow, CanWalk, HasEnded, RowAtElement, RowBegin, RuleAtElement, RuleRowsCome, StandsAt, Steps, boxed_from, lines_on, started, steps_behind, steps_by, steps_left, steps_on, still_to_come, to_come_by}
-use Rattle.tbl_lines.specs.PictureLines.{Neighbour, NoRow, Sheet, Whole, frame_sign, line_below, lines_behind, picture_lines, rule_line}
+use Rattle.tbl_picture.specs.ElementsWalked.{BehindRow, CanWalk, HasEnded, RowAtElement, RowBegin, RuleAtElement, RuleRowsCome, StandsAt, Steps, lines_on, steps_behind, steps_by, steps_left, steps_on, still_to_come, to_come_by}
+use Rattle.tbl_lines.specs.PictureLines.{Neighbour, NoRow, Sheet, Whole, frame_sign, line_below, lines_behind, rule_line}
 use Rattle.tbl_pieces.specs.PieceQueue.{Adds, KeptPieces}
 use Rattle.tbl_pieces.specs.Pieces.{AreWithin}
 use Rattle.tbl_picture.specs.RulesWalked.{is_row, line_beside, sheet_of}
@@ -28,18 +27,6 @@ use Rattle.tbl_picture.proofs.StepsGiven.{gives}
 second-true : (s t : Bool) → (s && t) ≡ true → t ≡ true
 second-true true t is = is
 second-true false t is = absurd (cc)
-
--- a picture begins
-module _ (bars : Bars) (width : ℕ) (bytes : List ℕ) (formats : List FormatRow) (rows : KeptRows) (w : KeptWalk) where
-  started-by : (t : Bool) → to_come_by (if t then AtElement else AtTop) bytes formats rows (started bars width w) rows.elements
-      ≡ lines_behind (record { bars = bars; width = width; columns = rows.columns }) NoRow
-      ((if t then [] else OneRule (frame_sign bars.boxing.bars) ∷ []) ++ boxed_from bars.boxing false (elements_of bytes formats rows.elements))
-  started-by true = refl
-  started-by false = refl
-
-  pub started-lines : still_to_come bytes formats rows (started bars width w)
-      ≡ picture_lines (record { bars = bars; width = width; columns = rows.columns }) (elements_of bytes formats rows.elements)
-  started-lines = started-by (bars.boxing.bars == 0)
 
 module _ (bytes frame : List ℕ) (formats : List FormatRow) (rows : KeptRows) (w : KeptWalk) (can : CanWalk bytes formats rows w)
     (before after : KeptPieces) (within : AreWithin bytes frame before.pieces) where

@@ -1,7 +1,6 @@
 -- What is kept of the data of a table says the same where the bytes grow.
-use Rattle.std.specs.List.{slice_range}
+use Rattle.std.specs.List.{slice_range, AllByRecursion}
 use Rattle.std.proofs.Common.{Bool, suc, ◌≡◌, ℕ, ◌≤◌, List, [], ◌∷◌, ◌++◌, length, map, Option, None, sym, ap, ◌∙◌, arith, length-append}
-use Rattle.std.specs.List.{AllByRecursion}
 use Rattle.tbl_data.specs.TableData.{BadFits, DataFits, ElementEnds, EndsBy, EntryEnds, FitsBehind, FormatFits, begun_by, table_by}
 use Rattle.tbl_data.specs.TableRead.{RowBegun, TableRead}
 use Rattle.tbl_data.specs.declared.phase.Phase.{Phase}

@@ -3,7 +3,7 @@ use Rattle.std.proofs.Common.{◌≡◌, ◌==◌, ℕ, suc, ◌+◌, ◌<◌, �
 use Rattle.std.proofs.lemmas.List.Elements.{All-nil}
 use Rattle.input_source.specs.Bytes.{newline}
 use Rattle.tbl_data.specs.TableData.{FormatFits}
-use Rattle.tbl_data.specs.TableRead.{TableRead, with_notes}
+use Rattle.tbl_data.specs.TableRead.{TableRead, with_notes, RowBegun}
 use Rattle.tbl_data.specs.declared.phase.Phase.{Phase}
 use Rattle.tbl_data.specs.declared.phase.Phase.TheVariants.{Bad, InFormat}
 use Rattle.tbl_data.specs.declared.table_data.TableData.{TableData}
@@ -25,11 +25,9 @@ use Rattle.tbl_kept.specs.TableText.{KeptText, block_of, text_whole}
 use Rattle.tbl_table.specs.Begun.{begun_in}
 use Rattle.tbl_table.specs.Kept.{FormatReads, HasRooms, PartsFit, PhaseFits, TextFits, block_open, data_read, kept_in, row_open}
 use Rattle.tbl_table.specs.MayTell.{fault_may_come}
-use Rattle.tbl_table.specs.Reading.{Reading, last_read}
 use Rattle.tbl_table.specs.Steps.{fault_noted, head_letters, options_told, phase_at_last}
 use Rattle.tbl_table.specs.Table.{behind_format, closed, closed_line, format_line, head_line, head_place, is_bad, is_bad_phase, left_out_notes, line_in, line_read, notes, with_options}
 use Rattle.tbl_data.specs.DataRead.{closed_block}
-use Rattle.tbl_data.specs.TableRead.{RowBegun}
 use Rattle.tbl_table.specs.declared.begun.Begun.{Begun}
 use Rattle.tbl_table.proofs.BegunLines.{options_end-within}
 use Rattle.tbl_table.proofs.DataGrows.{BadFits-more, FormatFits-more}
@@ -271,15 +269,6 @@ line-by t p n line is = ap (λ (q : Phase). line_in q n line t) is
 
 pub bad-last : (t : TableRead) (n : ℕ) (line : List ℕ) → t.phase ≡ Bad → IsDone t → closed (line_read n line t) ≡ t
 bad-last t n line is done = ap closed (line-by t Bad n line is) ∙ closed-same t done
-
--- the last line, if one is begun
-last-of : (line : List ℕ) (t : TableRead) (n : ℕ) → 0 < length line
-    → elim line [ [] ↦ closed t | b ∷ bytes ↦ closed (line_read n (b ∷ bytes) t) ] ≡ closed (line_read n line t)
-last-of [] t n some = absurd (omega (arith, some))
-last-of (b ∷ line) t n some = refl
-
-pub last-some : (r : Reading) (n : ℕ) → 0 < length r.line → last_read n r ≡ closed (line_read n r.line r.table)
-last-some r n some = last-of r.line r.table n some
 
 -- the block of a first line alone
 pub head-whole : (text : KeptText) → text.settled ≡ [] → text.pending ≡ None → block_of text ≡ text.line

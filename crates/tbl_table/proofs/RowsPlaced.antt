@@ -7,14 +7,12 @@ use Rattle.std.proofs.lemmas.Bool.Decides.{nat_tests}
 use Rattle.std.proofs.lemmas.List.{length-map}
 use Rattle.tbl_format.specs.Cells.{cell_behind, cell_from, start_of}
 use Rattle.tbl_format.specs.Format.{FormatRow, columns_of_keys}
-use Rattle.tbl_format.specs.FormatLaws.{RowHeld, most_beside}
-use Rattle.tbl_format.specs.FormatLaws.{bars_among}
+use Rattle.tbl_format.specs.FormatLaws.{RowHeld, most_beside, bars_among}
 use Rattle.tbl_format.specs.declared.format.Asked.{Asked}
 use Rattle.tbl_format.specs.declared.format.FormatKey.{FormatKey}
 use Rattle.tbl_format.proofs.CellColumns.{cells-few, start_behind, start_behind-next, start_behind-none, start_of-behind, start_of-ones}
 use Rattle.tbl_layout.specs.declared.columns.Column.{Column}
 use Rattle.tbl_layout.proofs.PlacesBetween.{bars_of_asked, bars_of_columns}
-use Rattle.tbl_format.specs.FormatLaws.{bars_among}
 use Rattle.tbl_lines.specs.RulePlaces.{HasPlaces, bars_behind}
 use Rattle.tbl_lines.proofs.RulesMet.{few-bars}
 

@@ -10,12 +10,12 @@ use Rattle.tbl_format.specs.declared.format.Key.TheVariants.{Left as LeftKey}
 use Rattle.tbl_kept.proofs.HeightSteps.{length-in_front}
 use Rattle.tbl_kept.proofs.CellHeights.{above-seen}
 use Rattle.tbl_kept.specs.KeptHeights.{cell_above_kept, field_kept}
-use Rattle.tbl_kept.specs.Rows.{Command as CommandKept, ElementLaid, KeptElement, Row as RowKept, Rule as RuleKept}
-use Rattle.tbl_kept.specs.RowsLaying.{ElementWithin, element_at, goes_on}
+use Rattle.tbl_kept.specs.Rows.{Command as CommandKept, KeptElement, Row as RowKept, Rule as RuleKept}
+use Rattle.tbl_kept.specs.RowsLaying.{element_at, goes_on}
 use Rattle.tbl_layout.specs.Entries.{key_at}
 use Rattle.tbl_layout.specs.KeptEntries.{all_entries, no_entry}
 use Rattle.tbl_layout.specs.declared.entry.Entry.{Entry}
-use Rattle.tbl_lines.specs.CellsLeft.{Left, all_keys, cell_by, gone_on, keys_behind}
+use Rattle.tbl_lines.specs.CellsLeft.{Left, all_keys, gone_on, keys_behind}
 use Rattle.tbl_line_cells.specs.KeptCells.{AllLeft, IsKeyAt, IsLeft}
 use Rattle.tbl_tall.specs.LinesOver.{HasInFront}
 use Rattle.tbl_tall.specs.RowsNext.{GoesOnWith, HasKey, HasKeys, NoneAbove, OneAbove, RowAbove, RowIsAt, above_kept, cells_by}
@@ -83,15 +83,6 @@ left-past bytes [] (l ∷ lefts) at f new past all = absurd all
 left-past bytes (c ∷ cells) [] at f new past all = absurd all
 left-past bytes (c ∷ cells) (l ∷ lefts) zero f new past all = absurd (omega (arith, past))
 left-past bytes (c ∷ cells) (l ∷ lefts) (suc at) f new past all = left-past bytes cells lefts at f new (omega (arith, past)) all.1
-
--- none is above a row where no cell is
-pub none-left : (bytes : List ℕ) (other : Option ℕ) (cells : List CellLeft) (lefts : List Left) (new : Left) → cells ≡ [] → AllLeft bytes cells lefts
-    → cell_by other lefts new ≡ new
-none-left bytes None cells lefts new none all = refl
-none-left bytes (Some at) cells lefts new none all =
-    let empty : length cells ≡ 0 = ap length none in
-    let few : length cells ≤ at = omega (arith, empty) in
-    left-past bytes cells lefts at (gone_on new.key) new few all
 
 -- one cell more
 module _ (bytes : List ℕ) (f : ℕ → FormatKey → Left) (keys : List FormatKey) (all : List Left) (cells : List CellLeft) (cell : ℕ) where
@@ -191,14 +182,6 @@ letter-at columns format cell k is =
     sym (letter-there (all_keys columns format) cell k (drop (suc cell) (all_keys columns format)) is)
     ∙ letters-append format.keys (keys_behind (columns - own) format.bars own) cell (λ n. letters-behind (columns - own) format.bars own n)
 
--- rows that lie so are within the formats, with as many rows of rule keys in front of them as they say
-pub within-lie : (formats : List FormatRow) (columns : ℕ) (elements : List KeptElement) → AllByRecursion (ElementLies formats columns) elements
-    → AllByRecursion (ElementWithin formats) elements
-within-lie formats columns [] lie = tt
-within-lie formats columns (RowKept keys rules height entries ∷ elements) lie = (lie.0.serves, within-lie formats columns elements lie.1)
-within-lie formats columns (RuleKept sign ∷ elements) lie = (tt, within-lie formats columns elements lie.1)
-within-lie formats columns (CommandKept from to ∷ elements) lie = (tt, within-lie formats columns elements lie.1)
-
 pub fronts-lie : (formats : List FormatRow) (columns : ℕ) (elements : List KeptElement) → AllByRecursion (ElementLies formats columns) elements
     → AllByRecursion (HasInFront formats) elements
 fronts-lie formats columns [] lie = tt
@@ -206,18 +189,6 @@ fronts-lie formats columns (RowKept keys rules height entries ∷ elements) lie 
     (length-in_front formats keys rules lie.0.serves lie.0.in_front, fronts-lie formats columns elements lie.1)
 fronts-lie formats columns (RuleKept sign ∷ elements) lie = (tt, fronts-lie formats columns elements lie.1)
 fronts-lie formats columns (CommandKept from to ∷ elements) lie = (tt, fronts-lie formats columns elements lie.1)
-
--- rows that are laid lie so
-laid-lies : (bytes : List ℕ) (formats : List FormatRow) (columns : ℕ) (e : KeptElement) → ElementLaid bytes formats columns e → ElementLies formats columns e
-laid-lies bytes formats columns (RowKept keys rules height entries) laid =
-    record { serves = laid.serves; in_front = laid.in_front; cells = laid.cells }
-laid-lies bytes formats columns (RuleKept sign) laid = tt
-laid-lies bytes formats columns (CommandKept from to) laid = tt
-
-pub rows-lie : (bytes : List ℕ) (formats : List FormatRow) (columns : ℕ) (elements : List KeptElement)
-    → AllByRecursion (ElementLaid bytes formats columns) elements → AllByRecursion (ElementLies formats columns) elements
-rows-lie bytes formats columns [] laid = tt
-rows-lie bytes formats columns (e ∷ elements) laid = (laid-lies bytes formats columns e laid.0, rows-lie bytes formats columns elements laid.1)
 
 -- the cell of the row above is that of its keys
 above-by : (bytes : List ℕ) (formats : List FormatRow) (cell above rules height : ℕ) (entries : List Entry) (row : KeptElement)

@@ -7,9 +7,8 @@ use Rattle.tbl_format.specs.FormatRows.{AreWithin}
 use Rattle.tbl_format.specs.declared.format.FormatKey.{FormatKey}
 use Rattle.tbl_lines.specs.CellsLeft.{Left, all_keys, keys_behind}
 use Rattle.tbl_tall.specs.Bands.{BandHasRoom}
-use Rattle.tbl_line_cells.specs.LinesDrawn.{keys_in}
+use Rattle.tbl_line_cells.specs.LinesDrawn.{keys_in, LineHasRoom}
 use Rattle.tbl_line_cells.specs.KeptCells.{AllLeft}
-use Rattle.tbl_line_cells.specs.LinesDrawn.{LineHasRoom}
 use Rattle.tbl_tall.specs.RowsNext.{HasKeys}
 use Rattle.tbl_tall.specs.TallRows.{HaveKeys}
 use Rattle.tbl_tall.specs.declared.band.Band.{Band}

@@ -3,7 +3,7 @@ use Rattle.std.proofs.Common.{◌≡◌, ℕ, zero, suc, ◌+◌, ◌-◌, ◌<�
 use Rattle.std.specs.List.{AllByRecursion}
 use Rattle.tbl_format.specs.Format.{FormatRow}
 use Rattle.tbl_format.specs.FormatRows.{AreWithin}
-use Rattle.tbl_format.specs.RowsServed.{row_at}
+use Rattle.tbl_format.specs.RowsServed.{row_at, no_keys}
 use Rattle.tbl_format.specs.declared.format.FormatKey.{FormatKey}
 use Rattle.tbl_kept.specs.Rows.{KeptElement, Row as RowKept, elements_of, fields_of, rows_in_front}
 use Rattle.tbl_layout.specs.Entries.{Content, Element, Row}
@@ -22,7 +22,6 @@ use Rattle.tbl_line_cells.specs.KeptCells.{AllLeft, behind_rules}
 use Rattle.tbl_tall.specs.LinesOver.{HasInFront, heights_kept}
 use Rattle.tbl_tall.specs.RowsNext.{RulesThen, cell_kept, cells_by}
 use Rattle.tbl_tall.specs.TallRows.{BarsFit, Comes, HaveKeys, KeptTall, row_below}
-use Rattle.tbl_format.specs.RowsServed.{no_keys}
 
 -- lines of rules of which none was given stand below the line whose bars are kept
 pub band-begins : (formats : List FormatRow) (bars : Bars) (columns : ℕ) (b : KeptBand) (all : List Over) (above below : Beside) → BandFits formats b

@@ -1,13 +1,12 @@
 -- Where what is without width in cells that begin with their row ends at the latest, by the elements that are kept (Lesk, "Tbl": Format).
 use Rattle.std.specs.Prelude.{ℕ, zero, suc, Bool, false, List, [], ◌∷◌, drop}
 use Rattle.tbl_format.specs.Format.{FormatRow}
-use Rattle.tbl_format.specs.RowsServed.{row_at}
+use Rattle.tbl_format.specs.RowsServed.{row_at, no_keys}
 use Rattle.tbl_format.specs.declared.format.FormatKey.{FormatKey}
 use Rattle.tbl_kept.specs.Rows.{Command as CommandKept, KeptElement, Row as RowKept, Rule as RuleKept, fields_of}
 use Rattle.tbl_layout.specs.Entries.{Content, Element}
 use Rattle.tbl_lines.specs.CellsLeft.{Left, all_keys, all_stopped, first_entry}
 use Rattle.tbl_line_cells.specs.declared.cells.CellLeft.{CellLeft}
-use Rattle.tbl_format.specs.RowsServed.{no_keys}
 
 -- an element that is kept is a row
 abbrev pub IsRow : KeptElement → Type 0

@@ -27,11 +27,6 @@ plain-at [] i plain inside = absurd (omega (arith, inside))
 plain-at (b ∷ bytes) zero plain inside = plain.0
 plain-at (b ∷ bytes) (suc i) plain inside = plain-at bytes i plain.1 (omega (arith, inside))
 
-pub plain-take : (n : ℕ) (bytes : List ℕ) → ArePlain bytes → ArePlain (take n bytes)
-plain-take zero bytes plain = tt
-plain-take (suc n) [] plain = tt
-plain-take (suc n) (b ∷ bytes) plain = (plain.0, plain-take n bytes plain.1)
-
 -- it is no tab, and neither dropped nor silent
 no_tab : (b : ℕ) → is_text_byte b ≡ true → (b == tab) ≡ false
 no_tab b plain = grind (arith, nat_tests)
@@ -61,13 +56,6 @@ pub plain-width : (bytes : List ℕ) → ArePlain bytes → width_of (map byte_i
 plain-width [] plain = refl
 plain-width (b ∷ bytes) plain =
     omega (arith, sum_by-cons (λ i. columns i.what) (byte_item b) (map byte_item bytes), sum_by-cons byte_width b bytes, plain-columns b plain.0, plain-width bytes plain.1)
-
--- one more of them
-pub plain-more : (bytes : List ℕ) (n : ℕ) → n < length bytes → ArePlain (take n bytes) → is_text_byte (get_or bytes n 0) ≡ true
-    → ArePlain (take (suc n) bytes)
-plain-more [] n inside front last = absurd (omega (arith, inside))
-plain-more (b ∷ bytes) zero inside front last = (last, tt)
-plain-more (b ∷ bytes) (suc n) inside front last = (front.0, plain-more bytes n (omega (arith, inside)) front.1 last)
 
 -- a byte of ASCII is one column wide
 byte_width-below : (b : ℕ) → b < 128 → byte_width b ≡ 1

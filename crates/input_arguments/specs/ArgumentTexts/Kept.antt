@@ -3,9 +3,7 @@ use Rattle.std.specs.Prelude.{◌≡◌, ℕ, ◌+◌, ◌<◌, ◌≤◌, ◌^�
 use Rattle.std.specs.List.{AllByRecursion}
 use Rattle.input_model.specs.Arguments.{Arguments, HeldFewer, bytes_held, kept, only_kept, AreFewer}
 use Rattle.input_source.specs.Bytes.{is_argument_byte}
-use Rattle.roff_num.specs.Lists.{last_end}
-use Rattle.roff_num.specs.Lists.{EndInOrder}
-use Rattle.roff_num.specs.Lists.{parts_ending}
+use Rattle.roff_num.specs.Lists.{last_end, EndInOrder, parts_ending}
 use Rattle.input_arguments.specs.declared.arguments.ArgumentTexts.TheInside.{Inside}
 
 -- the arguments, and how many bytes there is room for

@@ -1,8 +1,6 @@
 -- What is kept of calls that aren't over.
 use Rattle.std.specs.Prelude.{◌≡◌, ℕ, ◌+◌, ◌*◌, ◌≤◌, List, [], ◌∷◌, drop, length, reverse, take, vec_capacity}
-use Rattle.roff_num.specs.Lists.{last_end}
-use Rattle.roff_num.specs.Lists.{EndInOrder}
-use Rattle.roff_num.specs.Lists.{parts_ending}
+use Rattle.roff_num.specs.Lists.{last_end, EndInOrder, parts_ending}
 use Rattle.input_arguments.specs.declared.calls.CallStart.{CallStart}
 use Rattle.input_arguments.specs.declared.calls.Calls.TheInside.{Inside}
 

@@ -1,14 +1,15 @@
 -- Bytes of a control line that are taken together, and the newline that ends it (manual, section 7).
-use Rattle.std.specs.Prelude.{◌≡◌, ℕ, ◌+◌, ◌-◌, ◌==◌, Bool, true, false, ◌&&◌, ◌||◌, Option, List, [], ◌∷◌, ◌++◌, length, min, drop, take}
+use Rattle.std.specs.Prelude.{◌≡◌, ℕ, ◌+◌, ◌-◌, ◌==◌, Bool, true, false, ◌||◌, Option, List, [], ◌∷◌, ◌++◌, length, min, drop, take, if◌then◌else◌}
 use Rattle.std.specs.List.{AllByRecursion}
 use Rattle.input_arguments.specs.ArgumentTexts.Kept.{StopsAt}
 use Rattle.input_model.specs.Arguments.{Arguments, HeldFewer, bytes_held}
 use Rattle.input_model.specs.Input.{pushed}
 use Rattle.input_model.specs.Unread.{IsWithin, Unread, asks_to_take}
 use Rattle.roff_scan.specs.Unread.Calls.{IsFront, PassesFront, front_bytes}
+use Rattle.roff_scan.specs.Unread.FirstArguments.{first_room}
 use Rattle.roff_scan.specs.declared.unread.lines.BehindHeld.{BehindHeld}
-use Rattle.roff_scan.specs.declared.unread.lines.BehindHeld.TheVariants.{Newline, Named, Other}
-use Rattle.input_source.specs.Bytes.{is_argument_byte, newline}
+use Rattle.roff_scan.specs.declared.unread.lines.BehindHeld.TheVariants.{End, Newline, Named, Comment, Other}
+use Rattle.input_source.specs.Bytes.{backslash, is_argument_byte, newline, quote}
 use Rattle.input_source.specs.Tape.{Tape}
 
 -- a newline stands behind so many bytes that come next, and the limit on bytes allows it
@@ -16,28 +17,33 @@ pub record StandsNewline {E : Type 0} (count : ℕ) (ready : List ℕ) (u : Unre
   pub front : IsFront (count + 1) ready u
   pub last : front_bytes (count + 1) ready u ≡ front_bytes count ready u ++ newline ∷ []
 
--- these bytes, and a newline behind them, if so the line ended
-abbrev pub ended_by : BehindHeld → List ℕ → List ℕ
-ended_by Newline bytes = bytes ++ newline ∷ []
-ended_by Named bytes = bytes
-ended_by Other bytes = bytes
-
--- whether it did
+-- whether a newline stands behind the bytes that are held of a line, and ended it
 abbrev pub is_ended : BehindHeld → Bool
 is_ended Newline = true
-is_ended Named = false
-is_ended Other = false
+is_ended (_) = false
+
+-- these bytes, and the newline behind them, if so the line ended
+abbrev pub ended_by : BehindHeld → List ℕ → List ℕ
+ended_by behind bytes = if is_ended behind then bytes ++ newline ∷ [] else bytes
 
 -- whether a newline is the first of these bytes
 abbrev pub begins_with_newline : List ℕ → Bool
 begins_with_newline [] = false
 begins_with_newline (b ∷ bytes) = b == newline
 
--- whether a backslash and the letter of a register, of a string or of an argument are
-abbrev pub begins_named : List ℕ → Bool
-begins_named [] = false
-begins_named (b ∷ []) = false
-begins_named (b ∷ second ∷ bytes) = (b == 92) && (second == 110 || second == 42 || second == 36)
+-- what a backslash begins with the byte behind it: a comment, or the escape of a register, a string or an argument
+abbrev pub behind_backslash : List ℕ → BehindHeld
+behind_backslash [] = Other
+behind_backslash (b ∷ bytes) = if b == quote then Comment else if b == 110 || (b == 42 || b == 36) then Named else Other
+
+-- what these bytes begin with
+abbrev pub standing : List ℕ → BehindHeld
+standing [] = End
+standing (b ∷ bytes) = if b == newline then Newline else if b == backslash then behind_backslash bytes else Other
+
+-- this stands behind the first so many of the bytes that stand ready, as far as the limits have room for them, where they come next
+abbrev pub TellsBehind : {E : Type 0} → ℕ → List ℕ → BehindHeld → Unread E → Type 0
+TellsBehind count ready behind u = asks_to_take u ≡ true → behind ≡ standing (drop count (take (first_room u) ready))
 
 -- how many bytes of a line the limits have room for, of which all but the first so many are held
 abbrev pub line_room : {E : Type 0} → ℕ → Unread E → ℕ
@@ -61,4 +67,4 @@ pub record HoldsLine {E : Type 0} (most : Option ℕ) (skipped : ℕ) (old new :
   pub within : IsWithin (with_held (bytes_held held before.input.arguments) before)
   pub passes : PassesFront old new (ended_by behind (front_bytes skipped ready before ++ held)) (with_held (bytes_held held before.input.arguments) before) after
   pub stops : asks_to_take before ≡ true → StopsAt most (line_behind skipped before ready) (length held) (bytes_held held before.input.arguments)
-  pub ended : asks_to_take before ≡ true → is_ended behind ≡ begins_with_newline (drop (length held) (line_behind skipped before ready))
+  pub stands : asks_to_take before ≡ true → behind ≡ standing (drop (length held) (line_behind skipped before ready))

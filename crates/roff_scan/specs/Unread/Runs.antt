@@ -6,8 +6,7 @@ use Rattle.input_escapes.specs.ConditionFronts.{HalvesTaken}
 use Rattle.input_escapes.specs.EscapeFronts.{HalvesRead}
 use Rattle.input_escapes.specs.EscapeTexts.{KeptEscapes}
 use Rattle.input_escapes.specs.OpenEscape.{OpenEscape}
-use Rattle.input_model.specs.Arguments.{HeldFewer, bytes_held}
-use Rattle.input_model.specs.Arguments.{Arguments as LineArguments}
+use Rattle.input_model.specs.Arguments.{HeldFewer, bytes_held, Arguments as LineArguments}
 use Rattle.input_arguments.specs.ArgumentTexts.Kept.{KeptArguments}
 use Rattle.input_model.specs.Input.{Input}
 use Rattle.input_model.specs.Input.Names.{adding, stored}

@@ -3,22 +3,26 @@
 
 ghost use Rattle.std.specs.Prelude.{◌≡◌, ◌≤◌, ◌+◌, ◌-◌, ◌++◌, ◌∷◌, [], drop, None, Some, true};
 ghost use Rattle.input_model.specs.Input.{is_none_ahead, pushed};
-ghost use Rattle.roff_scan.specs.Unread.Lines.{begins_named, begins_with_newline, is_ended};
+ghost use Rattle.roff_scan.specs.Unread.Lines.{is_ended, standing};
 ghost use Rattle.input_source.specs.Bytes.{newline};
 
 use super::Unread;
 use super::fronts::front_of;
 use input_source::ByteSource;
 
-/// What stands behind the bytes that were held of a control line.
+/// What stands behind bytes that were held in arguments.
 #[derive(Clone, Copy)]
 pub enum BehindHeld {
-    /// The newline that ended it, which was taken too, and isn't read yet.
+    /// None of the bytes that lie together with them: the end of a text may stand there.
+    End,
+    /// A newline.
     Newline,
     /// A backslash and the letter of a register, a string or an argument: its escape may stand
     /// there.
     Named,
-    /// Anything else, or nothing that is seen.
+    /// A backslash and a quote: a comment begins there.
+    Comment,
+    /// Any other byte.
     Other,
 }
 
@@ -29,7 +33,8 @@ impl<E: Copy> Unread<E> {
 
     /// Takes so many bytes that stand in front, then bytes behind them that are held in the
     /// arguments of the line, as they lie together, and a newline behind these, if one stands
-    /// there: no more than the limits have room for. Whether anything is half read isn't looked at.
+    /// there, which isn't read yet: no more than the limits have room for. Whether anything is half
+    /// read isn't looked at.
     #[inline(never)]
     pub fn hold_line<S: ByteSource>(&mut self, source: &mut S, skipped: usize) -> BehindHeld
         requires front { IsFront skipped (S.ready source.old) self.old }
@@ -85,7 +90,7 @@ impl<E: Copy> Unread<E> {
         let front = front_of(&self.input_ahead, self.looked, source, room);
         let rest = bytes_behind(front, skipped);
         let count = self.arguments.take_front(rest, most);
-        let behind = behind_held(rest, count);
+        let behind = standing_at(rest, count);
         self.pass_to(source, skipped + count, behind);
         behind
     }
@@ -105,8 +110,7 @@ impl<E: Copy> Unread<E> {
     {
         match behind {
             BehindHeld::Newline => self.end_line(source, count),
-            BehindHeld::Named => self.pass_front(source, count, false),
-            BehindHeld::Other => self.pass_front(source, count, false),
+            _ => self.pass_front(source, count, false),
         }
     }
 
@@ -189,26 +193,14 @@ fn bytes_behind(bytes: &[u8], count: usize) -> &[u8]
 
 /// What stands at this place of some bytes.
 #[inline(always)]
-fn behind_held(bytes: &[u8], place: usize) -> BehindHeld
-    ensures { is_ended result ≡ begins_with_newline (drop place bytes.now) }
+pub fn standing_at(bytes: &[u8], place: usize) -> BehindHeld
+    ensures { result ≡ standing (drop place bytes.now) }
 {
-    if place >= bytes.len() {
-        return BehindHeld::Other;
+    match bytes_behind(bytes, place) {
+        [] => BehindHeld::End,
+        [b'\n', ..] => BehindHeld::Newline,
+        [b'\\', b'"', ..] => BehindHeld::Comment,
+        [b'\\', b'n' | b'*' | b'$', ..] => BehindHeld::Named,
+        _ => BehindHeld::Other,
     }
-    if bytes[place] == b'\n' {
-        return BehindHeld::Newline;
-    }
-    if begins_named(bytes, place) {
-        return BehindHeld::Named;
-    }
-    BehindHeld::Other
-}
-
-/// Whether the escape of a register, a string or an argument may begin at this place of some bytes:
-/// a backslash and its letter.
-#[inline(always)]
-pub fn begins_named(bytes: &[u8], place: usize) -> bool
-    ensures { result ≡ begins_named (drop place bytes.now) }
-{
-    matches!(bytes_behind(bytes, place), [b'\\', b'n' | b'*' | b'$', ..])
 }

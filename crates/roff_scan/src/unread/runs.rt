@@ -16,7 +16,7 @@ ghost use Rattle.roff_scan.specs.declared.run_kind.RunKind.TheVariants.{Definiti
 
 use super::Unread;
 use super::fronts::front_of;
-use super::lines::begins_named;
+use super::lines::{BehindHeld, standing_at};
 use crate::run_kind::RunKind;
 use input_arguments::ArgumentTexts;
 use input_escapes::OpenEscapes;
@@ -28,6 +28,7 @@ const COPIED: usize = 64;
 impl<E: Copy> Unread<E> {
     ghost use Rattle.roff_scan.specs.Unread.Runs.{TakesRun};
     ghost use Rattle.roff_scan.specs.Unread.Calls.{TakesPushed};
+    ghost use Rattle.roff_scan.specs.Unread.Lines.{TellsBehind};
     ghost use Rattle.roff_scan.specs.Unread.FirstArguments.{first_room};
 
     /// Takes bytes together that stand in front, as they lie together, and do this: up to the first
@@ -56,12 +57,12 @@ impl<E: Copy> Unread<E> {
     // Each kind that comes often has a copy of its own, for which the compiler knows the kind.
 
     /// Takes bytes together that stand in front and are held in the arguments of a request: no more
-    /// than the limits have room for. Returns how many, and whether the escape of a register, a
-    /// string or an argument may stand behind them.
+    /// than the limits have room for. Returns how many, and what stands behind them.
     #[inline(never)]
-    pub fn take_arguments<S: ByteSource>(&mut self, source: &mut S) -> (usize, bool)
+    pub fn take_arguments<S: ByteSource>(&mut self, source: &mut S) -> (usize, BehindHeld)
         ensures takes { TakesRun Arguments (S.gives source.old) (S.gives source.new)
             (S.ready source.old) result.0 self.old self.new }
+        ensures stands { TellsBehind result.0 (S.ready source.old) result.1 self.old }
         ensures notes { S.notes source.new ≤ S.notes source.old }
         ensures failures { S.failures source.new ≡ S.failures source.old }
     {
@@ -70,15 +71,16 @@ impl<E: Copy> Unread<E> {
 
     /// Takes bytes together that stand in front and are held in the arguments of a call, as long as
     /// fewer than so many are whole: no more than the limits have room for. Returns how many, and
-    /// whether the escape of a register, a string or an argument may stand behind them.
+    /// what stands behind them.
     #[inline(never)]
     pub fn take_call_arguments<S: ByteSource>(
         &mut self,
         most: usize,
         source: &mut S,
-    ) -> (usize, bool)
+    ) -> (usize, BehindHeld)
         ensures takes { TakesRun (CallArguments most) (S.gives source.old) (S.gives source.new)
             (S.ready source.old) result.0 self.old self.new }
+        ensures stands { TellsBehind result.0 (S.ready source.old) result.1 self.old }
         ensures notes { S.notes source.new ≤ S.notes source.old }
         ensures failures { S.failures source.new ≡ S.failures source.old }
     {
@@ -138,25 +140,26 @@ impl<E: Copy> Unread<E> {
     }
 
     /// Takes bytes of the source or of a body together that do this, as they lie together, but for
-    /// those of a definition. Returns how many, and whether the escape of a register, a string or
-    /// an argument may stand behind them.
+    /// those of a definition. Returns how many, and what stands behind them.
     #[inline(always)]
-    fn take_held<S: ByteSource>(&mut self, kind: RunKind, source: &mut S) -> (usize, bool)
+    fn take_held<S: ByteSource>(&mut self, kind: RunKind, source: &mut S) -> (usize, BehindHeld)
         requires { kind ≡ Definition → ⊥ }
         ensures takes { TakesRun kind (S.gives source.old) (S.gives source.new)
             (S.ready source.old) result.0 self.old self.new }
+        ensures stands { is_held kind ≡ true
+            → TellsBehind result.0 (S.ready source.old) result.1 self.old }
         ensures notes { S.notes source.new ≤ S.notes source.old }
         ensures failures { S.failures source.new ≡ S.failures source.old }
     {
         let most = self.room_for(kind);
         let front = front_of(&self.input_ahead, self.looked, source, most);
         if front.is_empty() {
-            return (0, false);
+            return (0, BehindHeld::End);
         }
         let count = take_part(kind, front, &mut self.arguments, &mut self.escapes);
-        let meets_name = begins_named(front, count);
+        let behind = standing_at(front, count);
         self.pass_front(source, count, kind.has_newlines());
-        (count, meets_name)
+        (count, behind)
     }
 
     /// Takes bytes of the source or of a body together that do this, as they lie together, but for

@@ -5,12 +5,11 @@ use Rattle.roff_num.specs.declared.limits.Limits.{Limits}
 use Rattle.roff_num.specs.declared.short_name.ShortName.{ShortName}
 use Rattle.page_model.specs.DueTexts.{text_due}
 use Rattle.page_model.specs.Lines.{Finished}
-use Rattle.page_model.specs.Happenings.{Happening, Does, Places}
+use Rattle.page_model.specs.Happenings.{Happening, Does, Places, is_eject, is_eject_event}
 use Rattle.page_model.specs.Layout.{Layout}
 use Rattle.roff_pages.specs.Pages.Kept.{Kept}
 use Rattle.roff_pages.specs.Pages.Printing.{DidTo}
 use Rattle.roff_pages.specs.Pages.Stands.{Happens, SameLimits, StandsAs}
-use Rattle.page_model.specs.Happenings.{is_eject, is_eject_event}
 use Rattle.page_model.specs.Puts.{appended, within_stop}
 use Rattle.page_model.specs.Queries.{nl}
 use Rattle.page_model.specs.Springs.{is_on_top, springs_on_page}

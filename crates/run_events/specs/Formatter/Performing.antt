@@ -18,10 +18,9 @@ use Rattle.page_model.specs.Behind.{has_open_word}
 use Rattle.page_model.specs.declared.event.Event.TheVariants.{WordEnd}
 use Rattle.run_model.specs.declared.status.Status.TheVariants.{Done}
 use Rattle.run_events.specs.Formatter.Sprung.{GoesOnNamed, IsAmong, MovesOn, StopsBehind, behind_sprung, first_left, left_behind, most_back, open_weight}
-use Rattle.run_model.specs.TurnsToCome.{most_left}
+use Rattle.run_model.specs.TurnsToCome.{most_left, lines_left}
 use Rattle.run_events.specs.declared.sprung.Sprung.{Sprung}
 use Rattle.run_model.specs.declared.event.PageEvent.TheVariants.{Text, Title}
-use Rattle.run_model.specs.TurnsToCome.{lines_left}
 use Rattle.run_model.specs.Registers.{AllRegisters}
 use Rattle.run_model.specs.PageEvents.{PageEvent, PageHistory}
 use Rattle.run_model.specs.declared.title.WhichTitle.{WhichTitle}

@@ -4,8 +4,6 @@ use Rattle.input_model.specs.Arguments.{no_arguments}
 use Rattle.input_source.specs.Bytes.{newline}
 use Rattle.input_model.specs.Input.Names.{calling}
 use Rattle.input_model.specs.Input.Calls.{arguments_given}
-use Rattle.input_model.specs.Input.Names.{calling}
-use Rattle.input_model.specs.Input.Calls.{arguments_given}
 use Rattle.input_escapes.specs.declared.open_escape.CopyUnit.{CopyUnit}
 use Rattle.input_escapes.specs.declared.open_escape.CopyUnit.TheVariants.{Byte, Kept}
 use Rattle.roff_store.specs.TextCalls.{Call}

@@ -3,8 +3,6 @@ use Rattle.std.specs.Prelude.{Option, Some, None, nat_le, length, if◌then◌el
 use Rattle.input_source.specs.Bytes.{newline, quote}
 use Rattle.input_model.specs.Input.Names.{body_named}
 use Rattle.input_model.specs.Input.Calls.{calling_body}
-use Rattle.input_model.specs.Input.Names.{body_named}
-use Rattle.input_model.specs.Input.Calls.{calling_body}
 use Rattle.input_escapes.specs.declared.open_escape.CopyUnit.{CopyUnit}
 use Rattle.input_escapes.specs.declared.open_escape.CopyUnit.TheVariants.{Byte, Kept}
 use Rattle.run_model.specs.Reading.Items.{PageInput, Taking, going_on}

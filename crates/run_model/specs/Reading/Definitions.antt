@@ -2,7 +2,6 @@
 use Rattle.std.specs.Prelude.{ℕ, Bool, false, List, [], ◌∷◌, Some, None, Option}
 use Rattle.input_model.specs.Arguments.{no_arguments}
 use Rattle.input_model.specs.Input.Names.{adding, dropping}
-use Rattle.input_model.specs.Input.Names.{adding, dropping}
 use Rattle.run_model.specs.Reading.Items.{PageInput, Taking, going_on}
 use Rattle.run_model.specs.Reading.Strings.{string_begun}
 use Rattle.roff_num.specs.ShortNames.{name_at, name_or_none}

@@ -3,8 +3,6 @@ use Rattle.std.specs.Prelude.{ℕ, get_or, ◌-◌, ◌&&◌, nat_le, List, [], 
 use Rattle.input_model.specs.Input.{pushing}
 use Rattle.input_model.specs.Input.Names.{body_named}
 use Rattle.input_model.specs.Input.Calls.{arguments_live}
-use Rattle.input_model.specs.Input.Names.{body_named}
-use Rattle.input_model.specs.Input.Calls.{arguments_live}
 use Rattle.input_escapes.specs.declared.escapes.NameUse.{NameUse}
 use Rattle.input_escapes.specs.declared.escapes.NameUse.TheVariants.{Register, Text as OfText, Argument as OfArgument}
 use Rattle.roff_num.specs.declared.direction.Direction.{Direction}

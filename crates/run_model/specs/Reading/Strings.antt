@@ -5,8 +5,6 @@ use Rattle.input_source.specs.Bytes.{newline, blank, quote}
 use Rattle.input_escapes.specs.OpenEscape.{unit_bytes}
 use Rattle.input_model.specs.Input.Names.{texts_of, calling, adding, entering}
 use Rattle.input_model.specs.Input.Calls.{arguments_given}
-use Rattle.input_model.specs.Input.Names.{texts_of, calling, adding, entering}
-use Rattle.input_model.specs.Input.Calls.{arguments_given}
 use Rattle.input_escapes.specs.declared.open_escape.CopyUnit.{CopyUnit}
 use Rattle.input_escapes.specs.declared.open_escape.CopyUnit.TheVariants.{Byte, Kept}
 use Rattle.roff_store.specs.TextCalls.{Open, Set}

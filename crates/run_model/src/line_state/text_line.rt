@@ -3,7 +3,6 @@
 ghost use Rattle.std.specs.Prelude.{◌≡◌, ◌↔◌, true};
 ghost use Rattle.run_model.specs.Reading.TextLines.{fresh_line};
 ghost use Rattle.run_model.specs.Reading.Beginnings.{line_begun_as};
-ghost use Rattle.run_model.specs.Stages.{blanks_counted, counts_blanks};
 ghost use Rattle.run_model.specs.Telling.{PrintsText};
 ghost use Rattle.run_model.specs.declared.line_state.LineState.TheVariants.{Text as InText};
 
@@ -51,27 +50,5 @@ impl TextLine {
         behind.has_glyph = true;
         behind.leading = 0;
         LineState::Text(behind)
-    }
-
-    /// Whether blanks only count: in front of the first glyph, behind another blank.
-    #[inline(always)]
-    pub fn counts_blanks(self) -> bool
-        ensures { result ≡ counts_blanks (InText self) }
-    {
-        !self.has_glyph && self.leading > 0
-    }
-
-    /// This line behind so many leading blanks more. Beyond 2147483647 they don't count.
-    #[inline(always)]
-    pub fn behind_blanks(self, count: usize) -> Self
-        ensures { result ≡ record self { leading = blanks_counted count self.leading } }
-    {
-        if count == 0 {
-            return self;
-        }
-        let counted = (self.leading as usize).saturating_add(count);
-        let mut behind = self;
-        behind.leading = counted.min(MOST_LEADING as usize) as u32;
-        behind
     }
 }

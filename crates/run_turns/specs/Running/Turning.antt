@@ -14,7 +14,7 @@ use Rattle.run_model.specs.declared.status.Status.{Status}
 use Rattle.run_items.specs.Outcome.{Beginning, Seen, seen, IsLeftOf, Reaches, OutcomeOf}
 use Rattle.run_items.specs.Performing.{Opens, going}
 use Rattle.run_items.specs.Room.{FewFor}
-use Rattle.run_model.specs.TurnsToCome.{most_left}
+use Rattle.run_model.specs.TurnsToCome.{most_left, begun, lines_left, phases_left, turns_to_come, turns_within}
 use Rattle.page_bytes.specs.Sinks.{Sunk}
 use Rattle.page_bytes.specs.Told.{told_by}
 use Rattle.page_bytes.specs.declared.message_sink.MessageSink as message_sink
@@ -22,7 +22,6 @@ use Rattle.page_bytes.specs.declared.sink.ByteSink as byte_sink
 use Rattle.read_lines.specs.Reader.State.{fresh_reader}
 use Rattle.read_lines.specs.Reader.Taken.{IsReady}
 use Rattle.run_model.specs.Reading.Items.{PageUnread}
-use Rattle.run_model.specs.TurnsToCome.{begun, lines_left, phases_left, turns_to_come, turns_within}
 use Rattle.run_model.specs.declared.line_state.LineState.{LineState}
 use Rattle.run_model.specs.declared.line_state.LineState.TheVariants.{LineStart, Braced}
 use Rattle.run_model.specs.declared.phase.Phase.TheVariants.{Closing}

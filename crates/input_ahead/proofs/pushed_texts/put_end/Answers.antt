@@ -1,5 +1,3 @@
-use Rattle.std.proofs.lemmas.Int.{ints}
-use Rattle.std.proofs.lemmas.Grind.{common_steps}
 use Rattle.std.proofs.Common.{◌≡◌, ◌<◌, ◌+◌, ◌^◌, ℕ, List, arith, sym, ◌∙◌, ◌∷◌, ◌++◌, [], length, refl, reverse}
 use Rattle.input_model.specs.Input.{ends_ahead}
 use Rattle.input_ahead.specs.PushedTexts.Standing.{standing, items_of}
@@ -26,9 +24,3 @@ overflow_add-more g c =
     let top = ends_on_top c.args.pushed_texts.now.items c.in-Some.field-0-1.now c.in-Some.slot.now c.args.bytes.now c.in-Ends.more (sym c.as_slice.ensures.value ∙ cases.0) c.in-Ends.is c.if-slot-bytes.true in
     let few = rw top at c.requires.few in
     omega (arith, ends_within (reverse c.in-Some.field-0-1.now) c.args.bytes.now c.in-Ends.more few)
-
-pub put_mark-requires-clause-stacked : goal.put_mark-requires-clause-stacked
-put_mark-requires-clause-stacked g c = grind (ints, arith, common_steps)
-
-pub returns-in-Ends-clause-items : goal.returns-in-Ends-clause-items
-returns-in-Ends-clause-items g c = grind (ints, arith, common_steps)

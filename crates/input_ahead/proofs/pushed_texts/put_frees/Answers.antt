@@ -1,5 +1,3 @@
-use Rattle.std.proofs.lemmas.Int.{ints}
-use Rattle.std.proofs.lemmas.Grind.{common_steps}
 use Rattle.std.proofs.Common.{◌≡◌, ◌+◌, ℕ, List, [], ◌∷◌, ◌++◌, length, length-append, map, sym, ap, refl, ◌∙◌, arith, append_assoc}
 use Rattle.std.proofs.lemmas.List.{map-append}
 use Rattle.input_model.specs.Input.{Ahead, FreeAhead}
@@ -24,6 +22,3 @@ loop-free-preserved g c =
       room = omega (arith, c.put_mark.ensures.len, c.put_mark.ensures.capacity, c.loop-free.invariant.room, one_fewer rest left c.in-Some.free.now c.in-Some.ensures.steps);
       capacity = c.put_mark.ensures.capacity ∙ c.loop-free.invariant.capacity;
     }
-
-pub returns-clause-items : goal.returns-clause-items
-returns-clause-items g c = grind (ints, arith, common_steps)

@@ -48,7 +48,7 @@ returns-in-Deciding-clause-read g c =
     let read = c.read_condition in
     let told = read.ensures in
     condition-read g.S.ByteSource c.args.source.now read.new.source c.args.composer.now c.args.reader.now read.new.reader c.args.unread.now read.new.unread
-    told.notes told.failures read.result told.read told.taken told.past told.condition told.decides told.line told.escape told.call told.dropped
+    told.notes told.failures read.result told.read told.taken told.past told.condition told.decides told.line told.held told.call told.dropped
 
 pub drop_line-requires : goal.drop_line-requires
 drop_line-requires g c = name-leads c.args.front c.args.reading _ _ c.args.unread.now c.requires c.in-Dropped.is

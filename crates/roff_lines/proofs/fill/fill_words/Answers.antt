@@ -1,5 +1,3 @@
-use Rattle.std.proofs.lemmas.Grind.{common_steps}
-use Rattle.std.proofs.lemmas.Int.{ints}
 use Rattle.std.proofs.Common.{◌-◌, ◌^◌, ◌∷◌, ◌++◌, [], ap, sym, subst, ◌∙◌, min, arith, length-append}
 use Rattle.std.specs.Iterator.{Yields}
 use Rattle.roff_lines.proofs.FirstLine.{Yields-more, first_line_count-cut, first_line_count-all}
@@ -24,6 +22,3 @@ returns g c =
     let gave = subst (λ s. Yields g.I.Iterator.next_gives s c.loop-word.yielded c.loop-word.word-iterator)
     c.into_iter-word-iterator.ensures.into_iter_gives c.loop-word.yielded_by in
     (c.loop-word.yielded, (_, gave, λ _. (_, c.in-None.ensures.steps)), filled.counted ∙ ap (λ n. min n (2 ^ 64 - 1)) (sym all))
-
-pub loop-word-preserved : goal.loop-word-preserved
-loop-word-preserved c = grind (ints, arith, common_steps)

@@ -1,5 +1,3 @@
-use Rattle.std.proofs.lemmas.Grind.{common_steps}
-use Rattle.std.proofs.lemmas.Int.{ints}
 use Rattle.std.proofs.Common.{◌<◌, length, arith, nat_lt}
 use Rattle.std.proofs.lemmas.List.Sums.{prefix_len-le-length}
 use Rattle.std.proofs.lemmas.Simd.{length-chunk}
@@ -26,12 +24,3 @@ loop-count-2-preserved c =
       text = omega (arith, within);
       glyphs = glyphs_in_front-more text l.count l.invariant.glyphs within c.if-text-count-gt32.true;
     }
-
-pub overflow_add-count : goal.overflow_add-count
-overflow_add-count c = grind (ints, arith, common_steps)
-
-pub returns-then-run-lt-STEP-clause-glyphs : goal.returns-then-run-lt-STEP-clause-glyphs
-returns-then-run-lt-STEP-clause-glyphs c = grind (ints, arith, common_steps)
-
-pub returns-clause-glyphs : goal.returns-clause-glyphs
-returns-clause-glyphs c = grind (ints, arith, common_steps)

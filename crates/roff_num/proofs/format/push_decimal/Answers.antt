@@ -1,6 +1,4 @@
 use Rattle.std.proofs.Common.{ℕ, List, ◌++◌, ap, sym, ◌∙◌, arith}
-use Rattle.std.proofs.lemmas.Grind.{common_steps}
-use Rattle.std.proofs.lemmas.Int.{ints}
 use Rattle.roff_num.proofs.SmallNumbers.{field-small}
 use Rattle.roff_num.proofs.format.push_decimal.Goals as goal
 
@@ -9,12 +7,3 @@ returns-then-size-lt10-clause-text c =
     let old = c.args.text.now.items in
     c.push.ensures.items
     ∙ ap (λ (digits : List ℕ). old ++ digits) (sym (field-small c.args.digits c.args.size (omega (arith, c.if-digits-eq1.true)) (omega (arith, c.if-size-lt10.true))))
-
-pub push_all-requires : goal.push_all-requires
-push_all-requires c = grind (ints, arith, common_steps)
-
-pub returns-clause-text : goal.returns-clause-text
-returns-clause-text c = grind (ints, arith, common_steps)
-
-pub returns-clause-short : goal.returns-clause-short
-returns-clause-short c = grind (ints, arith, common_steps)

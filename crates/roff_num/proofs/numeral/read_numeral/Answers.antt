@@ -1,7 +1,5 @@
-use Rattle.std.proofs.lemmas.Int.{ints}
-use Rattle.std.proofs.lemmas.Grind.{common_steps}
-use Rattle.std.proofs.Common.{◌≡◌, ◌<◌, false, arith, rules, w32, FitsSigned, sym, ◌∙◌}
 use Rattle.std.proofs.lemmas.Int.{to_z-of_z}
+use Rattle.std.proofs.Common.{◌≡◌, ◌<◌, false, arith, rules, w32, FitsSigned, sym, ◌∙◌}
 use Rattle.roff_num.specs.Operators.{begins_with}
 use Rattle.roff_num.proofs.Numerals.{numeral_at-whole}
 use Rattle.roff_num.proofs.numeral.read_numeral.Goals as goal
@@ -24,6 +22,3 @@ returns-in-Err-clause-value c =
     let other : begins_with 46 c.split_at.result.1.now ≡ false = sym c.begins_with.ensures.value ∙ c.if-begins_with.false in
     let whole = numeral_at-whole c.args.text.now c.args.scale c.args.negative _ _ _ _ _ n.number n.count c.split_at.ensures.back other u.value u.some u.one_or_more c.value_of_whole.ensures some in
     rw c.in-Err.is at whole
-
-pub split_at-requires : goal.split_at-requires
-split_at-requires c = grind (ints, arith, common_steps)

@@ -1,7 +1,5 @@
-use Rattle.std.proofs.lemmas.Int.{ints}
-use Rattle.std.proofs.lemmas.Grind.{common_steps}
-use Rattle.std.proofs.Common.{arith, ◌+◌, ◌<◌, rules, length, w32, FitsSigned, take, drop, ap, ◌∙◌}
 use Rattle.std.proofs.lemmas.Int.{to_z-of_z}
+use Rattle.std.proofs.Common.{arith, ◌+◌, ◌<◌, rules, length, w32, FitsSigned, take, drop, ap, ◌∙◌}
 use Rattle.roff_num.proofs.Digits.{AllDigits-take, digits_at-take}
 use Rattle.roff_num.proofs.Numerals.{numeral_at-parts}
 use Rattle.roff_num.proofs.numeral.read_with_decimals.Goals as goal
@@ -27,6 +25,3 @@ returns-in-Err-clause-value c =
     let d = c.split_decimals-dot.ensures in
     let parts = numeral_at-parts c.args.text.now c.args.scale c.args.negative _ _ _ _ _ _ _ whole behind d.dot d.decimals d.rest c.read_unit-letters.ensures.value c.value_of.ensures some in
     rw c.in-Err.is at parts
-
-pub split_at-requires : goal.split_at-requires
-split_at-requires c = grind (ints, arith, common_steps)

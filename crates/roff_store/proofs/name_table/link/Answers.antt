@@ -1,5 +1,3 @@
-use Rattle.std.proofs.lemmas.Int.{ints}
-use Rattle.std.proofs.lemmas.Grind.{common_steps}
 use Rattle.std.proofs.Common.{◌≡◌, Some, refl, arith, rules}
 use Rattle.std.specs.List.{slice_get}
 use Rattle.std.proofs.lemmas.Option.{slice_get_read}
@@ -16,6 +14,3 @@ loop-place-preserved g c =
     rw (← c.index-slots-place.is, bucket)
     (Linked-step (entries_in c.args.slots.now) c.loop-place.slots c.loop-place.heads c.loop-place.place c.index-slots-place.result
     here (rw (← bucket) c.bucket_of.ensures.within) c.loop-place.invariant)
-
-pub returns-clause-index : goal.returns-clause-index
-returns-clause-index g c = grind (ints, arith, common_steps)

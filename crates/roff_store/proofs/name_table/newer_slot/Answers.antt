@@ -1,5 +1,3 @@
-use Rattle.std.proofs.lemmas.Int.{ints}
-use Rattle.std.proofs.lemmas.Grind.{common_steps}
 use Rattle.std.proofs.Common.{◌-◌, refl, arith}
 use Rattle.std.proofs.lemmas.Option.{slice_get_read}
 use Rattle.roff_store.proofs.Search.{Reached-step, link_at}
@@ -22,6 +20,3 @@ loop-last-preserved g c =
     c.loop-last.last (c.loop-last.last - 1) c.index-slots-last.result c.requires.index c.requires.within c.requires.lies
     c.loop-last.invariant (omega arith) c.loop-last-test.true
     (slice_get_read c.args.slots.now _ (c.loop-last.last - 1) c.index-slots-last.result refl (omega arith) c.index-slots-last.is))
-
-pub loop-last-init : goal.loop-last-init
-loop-last-init g c = grind (ints, arith, common_steps)

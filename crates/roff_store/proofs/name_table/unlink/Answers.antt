@@ -1,6 +1,4 @@
-use Rattle.std.proofs.lemmas.Int.{ints}
-use Rattle.std.proofs.lemmas.Grind.{common_steps}
-use Rattle.std.proofs.Common.{◌≡◌, ◌∙◌, false, set, refl, sym, ap, arith}
+use Rattle.std.proofs.Common.{◌≡◌, ◌∙◌, false, set, refl, sym, ap}
 use Rattle.std.proofs.lemmas.Option.{get_or_from_slice_get}
 use Rattle.roff_store.specs.Buckets.{bucket_of}
 use Rattle.roff_store.proofs.Linking.{IsIndexed-unlink_head}
@@ -45,6 +43,3 @@ returns-in-Some-clause-index g c =
           c.in-Some.newer leads.slot c.index-slots-newer.result unlinked.still,
     )
     unlinked.index
-
-pub offset_bounds-slots-newer : goal.offset_bounds-slots-newer
-offset_bounds-slots-newer g c = grind (ints, arith, common_steps)

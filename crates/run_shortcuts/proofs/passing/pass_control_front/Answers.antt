@@ -34,21 +34,13 @@ returns-in-Held g c =
     let out = g.O.ByteSink.sunk c.args.out.now in
     let err = told_by g.E.MessageSink c.args.err.now in
     comes_behind g.S.ByteSource c.args.source.now read.new.source out err c.args.run.now read.new.unread read.new.reader _ read.ensures.read _ _ _ _ _
-    c.end_comment.ensures (ap is_past c.in-Held.is)
+    c.pass_behind.ensures (ap is_past c.in-Held.is)
 
-pub pass_named-requires : goal.pass_named-requires
-pass_named-requires g c = c.read_control_front.ensures.read.escape c.in-HeldToEscape.is
+pub pass_behind-requires : goal.pass_behind-requires
+pass_behind-requires g c = c.read_control_front.ensures.read.held _ c.in-Held.is
 
-pub returns-in-HeldToEscape : goal.returns-in-HeldToEscape
-returns-in-HeldToEscape g c =
-    let read = c.read_control_front in
-    let out = g.O.ByteSink.sunk c.args.out.now in
-    let err = told_by g.E.MessageSink c.args.err.now in
-    comes_behind g.S.ByteSource c.args.source.now read.new.source out err c.args.run.now read.new.unread read.new.reader _ read.ensures.read _ _ _ _ _
-    c.pass_named.ensures (ap is_past c.in-HeldToEscape.is)
-
-pub pass_call_named-requires : goal.pass_call_named-requires
-pass_call_named-requires g c = c.read_control_front.ensures.read.call c.in-HeldForCall.is
+pub pass_behind-requires-in-HeldForCall : goal.pass_behind-requires-in-HeldForCall
+pass_behind-requires-in-HeldForCall g c = c.read_control_front.ensures.read.call _ c.in-HeldForCall.is
 
 pub returns-in-HeldForCall : goal.returns-in-HeldForCall
 returns-in-HeldForCall g c =
@@ -56,7 +48,7 @@ returns-in-HeldForCall g c =
     let out = g.O.ByteSink.sunk c.args.out.now in
     let err = told_by g.E.MessageSink c.args.err.now in
     comes_behind g.S.ByteSource c.args.source.now read.new.source out err c.args.run.now read.new.unread read.new.reader _ read.ensures.read _ _ _ _ _
-    c.pass_call_named.ensures (ap is_past c.in-HeldForCall.is)
+    c.pass_behind-in-HeldForCall.ensures (ap is_past c.in-HeldForCall.is)
 
 pub returns-in-HeldToEnd : goal.returns-in-HeldToEnd
 returns-in-HeldToEnd g c =

@@ -28,7 +28,21 @@ returns-in-Held g c =
     let out = g.O.ByteSink.sunk c.args.out.now in
     let err = told_by g.E.MessageSink c.args.err.now in
     comes_behind g.S.ByteSource c.args.source.now read.new.source out err c.args.run.now read.new.unread read.new.reader _
-    (read.ensures.read c.args.run.now.interpreter.formatter.composer) _ _ _ _ _ c.end_comment.ensures (ap is_past c.in-Held.is)
+    (read.ensures.read c.args.run.now.interpreter.formatter.composer) _ _ _ _ _ c.pass_behind.ensures (ap is_past c.in-Held.is)
+
+pub pass_behind-requires : goal.pass_behind-requires
+pass_behind-requires g c = (c.read_short_front.ensures.read c.args.run.now.interpreter.formatter.composer).held _ c.in-Held.is
+
+pub pass_behind-requires-in-HeldForCall : goal.pass_behind-requires-in-HeldForCall
+pass_behind-requires-in-HeldForCall g c = (c.read_short_front.ensures.read c.args.run.now.interpreter.formatter.composer).call _ c.in-HeldForCall.is
+
+pub returns-in-HeldForCall : goal.returns-in-HeldForCall
+returns-in-HeldForCall g c =
+    let read = c.read_short_front in
+    let out = g.O.ByteSink.sunk c.args.out.now in
+    let err = told_by g.E.MessageSink c.args.err.now in
+    comes_behind g.S.ByteSource c.args.source.now read.new.source out err c.args.run.now read.new.unread read.new.reader _
+    (read.ensures.read c.args.run.now.interpreter.formatter.composer) _ _ _ _ _ c.pass_behind-in-HeldForCall.ensures (ap is_past c.in-HeldForCall.is)
 
 pub returns-in_default : goal.returns-in_default
 returns-in_default g c =

@@ -1,9 +1,8 @@
 use Rattle.std.proofs.Common.{◌≡◌, ℕ, suc, ◌≤◌, List, drop, length}
 use Rattle.std.specs.List.{AllByRecursion}
 use Rattle.tbl_format.specs.RowsServed.{all_rows}
-use Rattle.tbl_kept.specs.Rows.{elements_of}
+use Rattle.tbl_kept.specs.Rows.{elements_of, ElementLaid}
 use Rattle.tbl_kept.specs.RowsLaying.{element_at}
-use Rattle.tbl_kept.specs.Rows.{ElementLaid}
 use Rattle.tbl_lines.specs.CellsLeft.{Left}
 use Rattle.tbl_line_cells.specs.KeptCells.{AllLeft}
 use Rattle.tbl_tall.proofs.StopsSet.{AreSame, first_behind}

@@ -1,5 +1,3 @@
-use Rattle.std.proofs.lemmas.Int.{ints}
-use Rattle.std.proofs.lemmas.Grind.{common_steps}
 use Rattle.std.proofs.Common.{◌≤◌, [], ◌∷◌, ◌++◌, length, map, arith, refl, ap, ◌∙◌}
 use Rattle.input_ahead.specs.InputAhead.Calls.{PutsBytes}
 use Rattle.input_ahead.specs.InputAhead.Kept.{AheadAndTexts}
@@ -69,9 +67,3 @@ returns-in-Body g c =
       long = λ is. absurd (cc);
       unchanged = λ is. absurd (cc);
     }
-
-pub invariant_of-self-in-Nothing : goal.invariant_of-self-in-Nothing
-invariant_of-self-in-Nothing g c = grind (ints, arith, common_steps)
-
-pub returns-in-Nothing : goal.returns-in-Nothing
-returns-in-Nothing g c = grind (ints, arith, common_steps)

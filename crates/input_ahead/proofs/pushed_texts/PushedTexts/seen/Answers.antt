@@ -1,5 +1,3 @@
-use Rattle.std.proofs.lemmas.Int.{ints}
-use Rattle.std.proofs.lemmas.Grind.{common_steps}
 use Rattle.std.proofs.Common.{◌≡◌, ◌≤◌, ℕ, List, [], ◌∷◌, ◌++◌, length, refl, arith, reverse}
 use Rattle.input_ahead.specs.PushedTexts.Standing.{standing, IsStacked}
 use Rattle.input_model.specs.Input.{first_but_ends}
@@ -56,15 +54,3 @@ loop-slot-preserved g c =
       seen = rw (← seen_below_return pushed_texts below slot bytes split stacked c.in-Return.field-0 reached c.in-Return.is) c.loop-slot.invariant.seen;
       stacked = stacked_below pushed_texts below slot bytes split stacked reached;
     }
-
-pub returns-then-slot-len : goal.returns-then-slot-len
-returns-then-slot-len g c = grind (ints, arith, common_steps)
-
-pub returns-in-Free : goal.returns-in-Free
-returns-in-Free g c = grind (ints, arith, common_steps)
-
-pub returns-in-Do : goal.returns-in-Do
-returns-in-Do g c = grind (ints, arith, common_steps)
-
-pub returns : goal.returns
-returns g c = grind (ints, arith, common_steps)

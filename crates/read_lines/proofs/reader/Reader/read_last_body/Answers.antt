@@ -1,6 +1,4 @@
-use Rattle.std.proofs.lemmas.Int.{ints}
-use Rattle.std.proofs.lemmas.Grind.{common_steps}
-use Rattle.std.proofs.Common.{Ok, refl, rules, arith}
+use Rattle.std.proofs.Common.{Ok, refl, rules}
 use Rattle.input_model.specs.Input.{without_arguments}
 use Rattle.input_model.specs.Input.Calls.{calling_body}
 use Rattle.input_model.specs.Input.Names.{body_named}
@@ -20,6 +18,3 @@ returns c = λ es.
     let called = calling_body (body_named (name_bytes c.args.name) there.input) there.input in
     TakesAs-less there.input (λ k. going_on called LineStart) es old c.read_on.new.self u c.call.new.self (Ok c.read_on.result) (NoMore-released u.input) refl refl
     (TakesAs-changed called LineStart es old c.read_on.new.self there c.call.new.self c.read_on.result c.in_ok-call.field-0 (search rules) c.read_on.ensures.reading c.read_on.ensures.step)
-
-pub returns-in_err-call : goal.returns-in_err-call
-returns-in_err-call c = grind (ints, arith, common_steps)

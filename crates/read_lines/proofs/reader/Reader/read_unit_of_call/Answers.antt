@@ -1,9 +1,8 @@
 use Rattle.std.proofs.Common.{◌≡◌, ◌∙◌, ◌<◌, ◌≤◌, length, ap, arith, Ok, Err, rules}
 use Rattle.std.proofs.lemmas.List.{length-reverse}
 use Rattle.read_lines.specs.Reader.Taken.{TakesAs}
-use Rattle.run_model.specs.Reading.Items.{PageUnread}
+use Rattle.run_model.specs.Reading.Items.{PageUnread, going_on}
 use Rattle.run_model.specs.Reading.Calls.{call_unit, holding_call}
-use Rattle.run_model.specs.Reading.Items.{going_on}
 use Rattle.run_model.specs.declared.line_state.LineState.TheVariants.{Collecting}
 use Rattle.run_model.specs.declared.purpose.Purpose.TheVariants.{Calling}
 use Rattle.input_escapes.specs.declared.open_escape.CopyUnit.TheVariants.{Byte}

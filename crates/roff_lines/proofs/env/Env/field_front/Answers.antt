@@ -1,8 +1,7 @@
 use Rattle.std.proofs.Common.{◌≡◌, ◌<◌, ◌≤◌, ℕ, List, length, take, drop, sym, ap, subst, ◌∙◌, arith, length-take, take-take}
 use Rattle.std.specs.List.{AllByRecursion}
-use Rattle.roff_lines.specs.Env.Kept.{Kept}
+use Rattle.roff_lines.specs.Env.Kept.{Kept, with_glyphs_told}
 use Rattle.roff_lines.specs.Env.Tells.{EndsInField, Tells}
-use Rattle.roff_lines.specs.Env.Kept.{with_glyphs_told}
 use Rattle.roff_lines.specs.GlyphsInFront.{glyphs_in_front}
 use Rattle.roff_lines.proofs.TextFront.{few-counted, taken-counted}
 use Rattle.roff_lines.proofs.GlyphsInField.{EndsInField-counted, EndsInField-none, Tells-counted, above-in, room-in}

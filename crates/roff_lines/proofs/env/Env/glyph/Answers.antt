@@ -1,5 +1,3 @@
-use Rattle.std.proofs.lemmas.Grind.{common_steps}
-use Rattle.std.proofs.lemmas.Int.{ints}
 use Rattle.std.proofs.Common.{◌≡◌, ◌≤◌, ◌∷◌, None, rules, sym, subst, arith, ◌∙◌, true≢false}
 use Rattle.page_model.specs.declared.event.Event.TheVariants.{Print}
 use Rattle.page_model.specs.declared.glyph.Glyph.{Glyph}
@@ -37,9 +35,3 @@ returns-then-bytes-gap-clause-limit c line_cap h s =
     let limit = limit-glyph_told c.args.glyph line_cap h c.args.self.now s in
     let told = c.glyph_in_field.ensures.limit in
     (λ refused. limit.0 (told.0 refused), λ over. told.1 (limit.1 over))
-
-pub overflow_add-bytes-2 : goal.overflow_add-bytes-2
-overflow_add-bytes-2 c = grind (ints, arith, common_steps)
-
-pub overflow_add-bytes-3 : goal.overflow_add-bytes-3
-overflow_add-bytes-3 c = grind (ints, arith, common_steps)

@@ -17,12 +17,3 @@ overflow_add-self c =
     let room : length text + times ≤ a.room = subst (λ (h : Held). length h.text + times ≤ h.room) (sym c.self.view_is) c.requires in
     let few : a.width + width * times ≤ a.room = omega (arith, c.self.invariant.width, text_width_le text, most, room) in
     grind (ints, arith, common_steps)
-
-pub overflow_add-self-then-byte-eq-GAP : goal.overflow_add-self-then-byte-eq-GAP
-overflow_add-self-then-byte-eq-GAP c = grind (ints, arith, common_steps)
-
-pub invariant_of-self : goal.invariant_of-self
-invariant_of-self c = grind (ints, arith, common_steps)
-
-pub returns : goal.returns
-returns c = grind (ints, arith, common_steps)

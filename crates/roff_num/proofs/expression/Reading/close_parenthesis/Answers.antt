@@ -1,4 +1,3 @@
-use Rattle.std.proofs.lemmas.Grind.{common_steps}
 use Rattle.std.proofs.Common.{◌≡◌, ◌+◌, ◌-◌, suc, length, ap, sym, ◌∙◌, refl, Some, None, Ok, true, false, w32, w64, to_z, of_z, drop, arith}
 use Rattle.std.proofs.lemmas.Int.{ints, to_z-of_z}
 use Rattle.roff_num.specs.declared.expression.Next.TheVariants.{Operand}
@@ -35,6 +34,3 @@ returns-in-None-2-clause-goes_on c = λ scale place.
     let closed : begins_with 41 (drop c.args.self.now.at c.args.text.now) ≡ false =
     ap (begins_with 41) (sym c.text_from-rest.ensures.value) ∙ (sym c.begins_with.ensures.value ∙ c.if-begins_with.false) in
     come_to-not_closed c.args.text.now scale place (32 - length c.args.self.now.frames.items) c.args.frame _ c.args.value c.args.self.now.at c.requires.parenthesis found closed
-
-pub returns-in-None-clause-less_left : goal.returns-in-None-clause-less_left
-returns-in-None-clause-less_left c = grind (ints, arith, common_steps)

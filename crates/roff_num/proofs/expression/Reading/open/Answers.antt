@@ -1,6 +1,5 @@
-use Rattle.std.proofs.lemmas.Grind.{common_steps}
 use Rattle.std.proofs.Common.{◌≡◌, ◌+◌, ap, sym, ◌∙◌, refl, Some, Ok, Err, true, false, w32, to_z, of_z, drop, arith, rules, FitsSigned}
-use Rattle.std.proofs.lemmas.Int.{to_z-of_z, ints}
+use Rattle.std.proofs.lemmas.Int.{to_z-of_z}
 use Rattle.roff_num.specs.declared.expression.Opening.TheVariants.{Bar, Parenthesis}
 use Rattle.roff_num.specs.Expressions.{sign_at}
 use Rattle.roff_num.specs.Numerals.{numeral_at}
@@ -64,9 +63,3 @@ returns-in-Err-clause-goes_on c =
     ap (numeral_at c.args.scale sign.0) (sym c.text_from-rest.ensures.value) ∙ (sym c.read_numeral.ensures.value ∙ c.in-Err.is) in
     let same = outcome_opened-numeral c.args.text.now c.args.scale c.args.place c.args.self.now at sign signs refl (omega arith) other bar in
     rw read at same
-
-pub returns-then-begins_with-clause-less_left : goal.returns-then-begins_with-clause-less_left
-returns-then-begins_with-clause-less_left c = grind (ints, arith, common_steps)
-
-pub returns-in-Some-clause-less_left : goal.returns-in-Some-clause-less_left
-returns-in-Some-clause-less_left c = grind (ints, arith, common_steps)

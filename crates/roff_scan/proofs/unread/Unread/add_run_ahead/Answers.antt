@@ -1,5 +1,3 @@
-use Rattle.std.proofs.lemmas.Int.{ints}
-use Rattle.std.proofs.lemmas.Grind.{common_steps}
 use Rattle.std.proofs.Common.{◌≡◌, ◌+◌, ◌≤◌, length, take, ap, ◌∙◌, arith, length-take-le}
 use Rattle.input_model.specs.Input.Names.{stored}
 use Rattle.input_source.specs.Bytes.{is_text_byte}
@@ -54,12 +52,3 @@ returns-in-Err-clause-takes g c =
     omega (arith, long, few, c.front_of-front.ensures.few, c.min.ensures, c.min-most.ensures, c.stored.ensures, c.self.invariant.within.stored) in
     let ok = added-ok kept c.add.new.self c.at_most-2.result.now c.add.result (rw (← c.self.view_is) at c.add.ensures.change) c.self.invariant.within fits in
     absurd (let isnt = c.in-Err.is in cc)
-
-pub returns-then-count-eq0-clause-takes : goal.returns-then-count-eq0-clause-takes
-returns-then-count-eq0-clause-takes g c = grind (ints, arith, common_steps)
-
-pub copied-copy-requires : goal.copied-copy-requires
-copied-copy-requires g c = grind (ints, arith, common_steps)
-
-pub pass_front-requires-clause-front : goal.pass_front-requires-clause-front
-pass_front-requires-clause-front g c = grind (ints, arith, common_steps)

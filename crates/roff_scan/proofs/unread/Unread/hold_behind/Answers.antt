@@ -1,6 +1,4 @@
-use Rattle.std.proofs.lemmas.Int.{ints}
-use Rattle.std.proofs.lemmas.Grind.{common_steps}
-use Rattle.std.proofs.Common.{◌≡◌, ◌+◌, take, ap, subst, arith}
+use Rattle.std.proofs.Common.{◌≡◌, ◌+◌, take, ap, subst}
 use Rattle.input_arguments.specs.ArgumentTexts.Kept.{KeptArguments, StopsAt}
 use Rattle.input_model.specs.Arguments.{Arguments, bytes_held}
 use Rattle.roff_scan.specs.Unread.Calls.{NoNewline, PassesFront, front_bytes}
@@ -44,17 +42,8 @@ returns-clause-holds g c =
     rw (← c.self.view_is)
     (holds_line c.args.most ready kept c.front_of-front.result.now c.bytes_behind-rest.result.now c.args.skipped c.take_front-count.result c.line_room-room.result
     c.bytes_behind-rest.ensures c.front_of-front.ensures.bytes c.front_of-front.ensures.among c.front_of-front.ensures.few part.few
-    (g.S.ByteSource.gives c.args.source.now) (g.S.ByteSource.gives c.pass_to.new.source) c.behind_held-behind.result c.pass_to.new.self part.plain part.fewer c.self.invariant.within stack
+    (g.S.ByteSource.gives c.args.source.now) (g.S.ByteSource.gives c.pass_to.new.source) c.standing_at-behind.result c.pass_to.new.self part.plain part.fewer c.self.invariant.within stack
     (subst (λ (a : Arguments). PassesFront (g.S.ByteSource.gives c.args.source.now) (g.S.ByteSource.gives c.pass_to.new.source)
-    (ended_by c.behind_held-behind.result (front_bytes (c.args.skipped + c.take_front-count.result) ready kept)) (with_held a kept) c.pass_to.new.self) there c.pass_to.ensures.passes)
+    (ended_by c.standing_at-behind.result (front_bytes (c.args.skipped + c.take_front-count.result) ready kept)) (with_held a kept) c.pass_to.new.self) there c.pass_to.ensures.passes)
     c.front_of-front.ensures.whole room
-    (subst (λ (a : Arguments). StopsAt c.args.most c.bytes_behind-rest.result.now c.take_front-count.result a) there c.take_front-count.ensures.stops) c.behind_held-behind.ensures)
-
-pub take_front-count-requires : goal.take_front-count-requires
-take_front-count-requires g c = grind (ints, arith, common_steps)
-
-pub pass_to-requires-clause-front : goal.pass_to-requires-clause-front
-pass_to-requires-clause-front g c = grind (ints, arith, common_steps)
-
-pub pass_to-requires-clause-ended : goal.pass_to-requires-clause-ended
-pass_to-requires-clause-ended g c = grind (ints, arith, common_steps)
+    (subst (λ (a : Arguments). StopsAt c.args.most c.bytes_behind-rest.result.now c.take_front-count.result a) there c.take_front-count.ensures.stops) c.standing_at-behind.ensures)

@@ -1,6 +1,4 @@
-use Rattle.std.proofs.lemmas.Int.{ints}
-use Rattle.std.proofs.lemmas.Grind.{common_steps}
-use Rattle.std.proofs.Common.{◌≡◌, true, length, ap, sym, subst, ◌∙◌, take, arith}
+use Rattle.std.proofs.Common.{◌≡◌, true, length, ap, sym, subst, ◌∙◌, take}
 use Rattle.input_model.specs.Input.{counting, is_none_ahead}
 use Rattle.input_model.specs.declared.looked.Looked.TheVariants.{Nothing}
 use Rattle.input_model.specs.Unread.{Unread}
@@ -36,9 +34,3 @@ returns-in-Some-clause-passes g c =
     subst (λ (u : Unread _). PassesSource gave gives (front_bytes count ready c.args.self.now) c.args.self.now u)
     (sym (c.count.ensures.counts ∙ ap (λ n. record kept { input = counting last (counted (length front) n kept.input); looked = Nothing }) c.newlines_among.ensures))
     (rw (← c.self.view_is) (passes_lines ready kept count stands c.requires.some none gave gives front c.split_at.result.0.now last cut c.in-Some.ensures.cases.0 c.pass.ensures.gives))
-
-pub overflow_add-self-in-Some : goal.overflow_add-self-in-Some
-overflow_add-self-in-Some g c = grind (ints, arith, common_steps)
-
-pub invariant_of-self : goal.invariant_of-self
-invariant_of-self g c = grind (ints, arith, common_steps)

@@ -1,5 +1,3 @@
-use Rattle.std.proofs.lemmas.Int.{ints}
-use Rattle.std.proofs.lemmas.Grind.{common_steps}
 use Rattle.std.proofs.Common.{◌≡◌, ◌∙◌, ◌+◌, ◌<◌, ◌++◌, ◌∷◌, [], sym, ap, arith, sum, set, subst, length-set}
 use Rattle.std.specs.Vec.{vec_len}
 use Rattle.roff_store.specs.Chains.{Chunks, shares_in}
@@ -100,15 +98,3 @@ returns-in-Some-clause-others c =
     rw popped at (free_kept c.self.inside c.self.invariant) in
     let last = last_free c.self.inside.shares.items rest c.in-Some.chunk free in
     LeavesOthers-claimed (kept_by c.self.inside) c.args.self.now c.in-Some.chunk _ c.clear.new.self _ c.self.view_is last.1
-
-pub returns-in-None-clause-fresh : goal.returns-in-None-clause-fresh
-returns-in-None-clause-fresh c = grind (ints, arith, common_steps)
-
-pub returns-in-None-clause-shares : goal.returns-in-None-clause-shares
-returns-in-None-clause-shares c = grind (ints, arith, common_steps)
-
-pub returns-in-None-clause-sum : goal.returns-in-None-clause-sum
-returns-in-None-clause-sum c = grind (ints, arith, common_steps)
-
-pub returns-in-None-clause-others : goal.returns-in-None-clause-others
-returns-in-None-clause-others c = grind (ints, arith, common_steps)

@@ -1,5 +1,3 @@
-use Rattle.std.proofs.lemmas.Int.{ints}
-use Rattle.std.proofs.lemmas.Grind.{common_steps}
 use Rattle.std.proofs.Common.{◌∙◌, set, arith, length-set}
 use Rattle.roff_store.proofs.Free.{AreFree, AreFree-let_go, free_kept, last_share, room_for_free, sum-set}
 use Rattle.roff_store.proofs.chunks.Chunks.let_go.Goals as goal
@@ -37,21 +35,3 @@ invariant_of-self c =
       shares_reserved = sound.shares_reserved;
       free_reserved = omega arith;
     }
-
-pub index_mut-shares-requires : goal.index_mut-shares-requires
-index_mut-shares-requires c = grind (ints, arith, common_steps)
-
-pub invariant_of-self-else-shares-eq0 : goal.invariant_of-self-else-shares-eq0
-invariant_of-self-else-shares-eq0 c = grind (ints, arith, common_steps)
-
-pub returns-then-shares-eq0-clause-shares : goal.returns-then-shares-eq0-clause-shares
-returns-then-shares-eq0-clause-shares c = grind (ints, arith, common_steps)
-
-pub returns-then-shares-eq0-clause-sum : goal.returns-then-shares-eq0-clause-sum
-returns-then-shares-eq0-clause-sum c = grind (ints, arith, common_steps)
-
-pub returns-else-shares-eq0-clause-shares : goal.returns-else-shares-eq0-clause-shares
-returns-else-shares-eq0-clause-shares c = grind (ints, arith, common_steps)
-
-pub returns-else-shares-eq0-clause-sum : goal.returns-else-shares-eq0-clause-sum
-returns-else-shares-eq0-clause-sum c = grind (ints, arith, common_steps)

@@ -1,5 +1,3 @@
-use Rattle.std.proofs.lemmas.Int.{ints}
-use Rattle.std.proofs.lemmas.Grind.{common_steps}
 use Rattle.std.proofs.Common.{◌≡◌, [], ◌++◌, set, get_or, refl, sym, ap, ◌∙◌, subst, arith, get_or-set_other, get_or-set_same}
 use Rattle.std.proofs.lemmas.List.{get_or_read}
 use Rattle.roff_store.specs.Chains.{content}
@@ -66,6 +64,3 @@ returns-clause-extended c =
     (set mc.links c.args.strand.last c.claim-chunk.result) claimed.there holds
     (λ other apart. get_or-set_other mc.links c.args.strand.last other c.claim-chunk.result _ apart))
     c.requires.strand c.requires.shared (omega arith) c.requires.full c.requires.some c.requires.fits linked
-
-pub unwrap-requires : goal.unwrap-requires
-unwrap-requires c = grind (ints, arith, common_steps)

@@ -1,5 +1,3 @@
-use Rattle.std.proofs.lemmas.Int.{ints}
-use Rattle.std.proofs.lemmas.Grind.{common_steps}
 use Rattle.std.proofs.Common.{◌≡◌, ◌+◌, ◌∙◌, sym, ap, length, arith}
 use Rattle.std.specs.Vec.{with_items}
 use Rattle.std.proofs.lemmas.List.{with_items_is}
@@ -46,6 +44,3 @@ invariant_of-self-2 g c =
       once = rw entries (EachOnce-with_entry c.args.name.now c.args.entry (entries_in c.self.inside.slots.items) c.self.invariant.once);
       index = rw (with_items_is (with_items c.self.inside.heads c.make_room.new.heads) c.add.new.heads long) c.add.ensures.index;
     }
-
-pub add-requires-clause-index : goal.add-requires-clause-index
-add-requires-clause-index g c = grind (ints, arith, common_steps)

@@ -1,5 +1,3 @@
-use Rattle.std.proofs.lemmas.Int.{ints}
-use Rattle.std.proofs.lemmas.Grind.{common_steps}
 use Rattle.std.proofs.Common.{◌≡◌, ◌∙◌, sym, ap, arith}
 use Rattle.std.proofs.lemmas.List.{with_items_is}
 use Rattle.roff_store.specs.Named.{without_entry}
@@ -36,6 +34,3 @@ invariant_of-self g c =
       once = rw (slots, entries) (EachOnce-without_entry c.args.name.now (entries_in c.self.inside.slots.items) c.self.invariant.once);
       index = rw (slots, heads) c.unlink.ensures.index;
     }
-
-pub returns-in-Some : goal.returns-in-Some
-returns-in-Some g c = grind (ints, arith, common_steps)

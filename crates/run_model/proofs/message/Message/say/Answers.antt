@@ -1,6 +1,4 @@
-use Rattle.std.proofs.Common.{◌≡◌, ℕ, List, ◌++◌, sym, ap, ◌∙◌, append_assoc, arith}
-use Rattle.std.proofs.lemmas.Grind.{common_steps}
-use Rattle.std.proofs.lemmas.Int.{ints}
+use Rattle.std.proofs.Common.{◌≡◌, ℕ, List, ◌++◌, sym, ap, ◌∙◌, append_assoc}
 use Rattle.run_model.specs.Messages.{message_text, name_bytes}
 use Rattle.run_model.specs.declared.message.Message.{Message}
 use Rattle.run_model.proofs.message.Message.say.Goals as goal
@@ -16,9 +14,6 @@ returns-in-UnknownCharacter-clause-said c =
     ∙ ap (λ (items : List ℕ). items ++ name_bytes name) c.append-in-UnknownCharacter.ensures.items
     ∙ append_assoc c.args.text.now.items _ (name_bytes name)
     ∙ ap (λ (message : Message). c.args.text.now.items ++ message_text message) (sym c.in-UnknownCharacter.is)
-
-pub returns-in-LeftOut-clause-said : goal.returns-in-LeftOut-clause-said
-returns-in-LeftOut-clause-said c = grind (ints, arith, common_steps)
 
 pub returns-in-PageTooShort-clause-said : goal.returns-in-PageTooShort-clause-said
 returns-in-PageTooShort-clause-said c = of_kind _ _ _ _ c.in-PageTooShort.is c.append-in-PageTooShort.ensures.items

@@ -1,5 +1,3 @@
-use Rattle.std.proofs.lemmas.Int.{ints}
-use Rattle.std.proofs.lemmas.Grind.{common_steps}
 use Rattle.std.proofs.Common.{arith, Some, None, refl, sym, ap, ◌∙◌}
 use Rattle.std.proofs.lemmas.Option.{MatchOption-at_none}
 use Rattle.input_source.specs.declared.source.Taken.TheVariants.{End, Fault, Stop}
@@ -228,6 +226,3 @@ returns-in-Stop-clause-limits g c =
 pub returns-in-Stop-clause-line_length : goal.returns-in-Stop-clause-line_length
 returns-in-Stop-clause-line_length g c =
     rw (← c.self.view_is) (length_given c.cut-in-Stop.new.self c.next-in-Stop.new.self c.next-in-Stop.result c.next-in-Stop.ensures.next ∙ ap (λ (t : TablesState). t.line_length) c.cut-in-Stop.ensures)
-
-pub returns-in-None-clause-falls : goal.returns-in-None-clause-falls
-returns-in-None-clause-falls g c = grind (ints, arith, common_steps)

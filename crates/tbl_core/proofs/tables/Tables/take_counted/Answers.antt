@@ -1,6 +1,4 @@
-use Rattle.std.proofs.lemmas.Int.{ints}
-use Rattle.std.proofs.lemmas.Grind.{common_steps}
-use Rattle.std.proofs.Common.{rules, ◌≡◌, ◌==◌, ◌&&◌, false, Some, sym, ap, ◌∙◌, [], arith}
+use Rattle.std.proofs.Common.{rules, ◌≡◌, ◌==◌, ◌&&◌, false, Some, sym, ap, ◌∙◌, []}
 use Rattle.input_source.specs.Bytes.{newline}
 use Rattle.tbl_core.specs.declared.place.Position.{Position}
 use Rattle.tbl_core.specs.Lines.{ends_name, is_name}
@@ -52,18 +50,3 @@ returns-in-None-clause-out c =
     let none = nothing_pending c.self.inside.table.told c.self.inside.own c.self.inside.table.to_come (ap (λ (s : TablesState). s.at.pending) c.self.view_is ∙ c.requires) in
     let is = read_pending c.self.inside.table c.read_on.new.table c.self.inside.own none c.read_on.ensures.told c.read_on.ensures.to_come in
     search rules
-
-pub read_on-requires : goal.read_on-requires
-read_on-requires c = grind (ints, arith, common_steps)
-
-pub invariant_of-self-in-None : goal.invariant_of-self-in-None
-invariant_of-self-in-None c = grind (ints, arith, common_steps)
-
-pub returns-then-ends_name-clause-alone : goal.returns-then-ends_name-clause-alone
-returns-then-ends_name-clause-alone c = grind (ints, arith, common_steps)
-
-pub returns-in-RestOfStart-clause-out : goal.returns-in-RestOfStart-clause-out
-returns-in-RestOfStart-clause-out c = grind (ints, arith, common_steps)
-
-pub returns-in-RestOfStart-clause-alone : goal.returns-in-RestOfStart-clause-alone
-returns-in-RestOfStart-clause-alone c = grind (ints, arith, common_steps)

@@ -1,7 +1,6 @@
 use Rattle.std.proofs.Common.{ap, arith, length, drop}
 use Rattle.tbl_format.specs.Format.{asked_by}
-use Rattle.roff_num.specs.Lists.{last_end}
-use Rattle.roff_num.specs.Lists.{parts_ending}
+use Rattle.roff_num.specs.Lists.{last_end, parts_ending}
 use Rattle.tbl_format.proofs.KeyCounting.{length-asking}
 use Rattle.tbl_format.proofs.RowsWithin.{all-more, within-more}
 use Rattle.tbl_format.proofs.format_rows.FormatRows.ask.Goals as goal

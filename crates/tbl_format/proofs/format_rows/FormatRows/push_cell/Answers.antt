@@ -2,9 +2,8 @@ use Rattle.std.proofs.Common.{◌≡◌, ℕ, ◌-◌, ◌<◌, false, ◌&&◌,
 use Rattle.std.specs.List.{AllByRecursion}
 use Rattle.tbl_format.specs.Format.{Format, columns_of_keys, has_some, is_spanned, plain_key, widened}
 use Rattle.tbl_format.specs.FormatRows.{AreWithin, KeptFormat}
-use Rattle.roff_num.specs.Lists.{last_end}
+use Rattle.roff_num.specs.Lists.{last_end, parts_ending}
 use Rattle.tbl_format.specs.Parts.{EndWithin}
-use Rattle.roff_num.specs.Lists.{parts_ending}
 use Rattle.tbl_format.specs.declared.format.FormatKey.{FormatKey}
 use Rattle.tbl_format.proofs.FormatBlocks.{columns-last, format-cell, format-wide, key_count-all, row-key, set-changed}
 use Rattle.tbl_format.proofs.KeysWith.{has_some-columns, length-columns, own-first, own-other}

@@ -1,7 +1,6 @@
 use Rattle.std.proofs.Common.{ℕ, length, drop, ap, arith}
 use Rattle.tbl_format.specs.Format.{with_columns}
-use Rattle.roff_num.specs.Lists.{last_end}
-use Rattle.roff_num.specs.Lists.{parts_ending}
+use Rattle.roff_num.specs.Lists.{last_end, parts_ending}
 use Rattle.tbl_format.proofs.KeyCounting.{length-with_columns}
 use Rattle.tbl_format.proofs.RowsWithin.{all-more, within-more}
 use Rattle.tbl_format.proofs.format_rows.FormatRows.push_key.Goals as goal

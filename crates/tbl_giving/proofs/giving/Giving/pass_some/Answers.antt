@@ -1,6 +1,4 @@
-use Rattle.std.proofs.lemmas.Int.{ints}
-use Rattle.std.proofs.lemmas.Grind.{common_steps}
-use Rattle.std.proofs.Common.{sym, arith}
+use Rattle.std.proofs.Common.{sym}
 use Rattle.tbl_kept.specs.TableText.{block_of}
 use Rattle.tbl_giving.proofs.GivingLeft.{IsLast-some}
 use Rattle.tbl_giving.proofs.giving.Giving.pass_some.Goals as goal
@@ -15,15 +13,3 @@ returns-else-not-has_piece-clause-can c =
       rest = can.rest;
       last = IsLast-some c.pass-count.new.self.pieces a.rest (sym c.if-not-has_piece.ensures);
     }
-
-pub returns-then-not-has_piece-clause-within : goal.returns-then-not-has_piece-clause-within
-returns-then-not-has_piece-clause-within c = grind (ints, arith, common_steps)
-
-pub returns-then-not-has_piece-clause-coming : goal.returns-then-not-has_piece-clause-coming
-returns-then-not-has_piece-clause-coming c = grind (ints, arith, common_steps)
-
-pub returns-else-not-has_piece-clause-within : goal.returns-else-not-has_piece-clause-within
-returns-else-not-has_piece-clause-within c = grind (ints, arith, common_steps)
-
-pub returns-else-not-has_piece-clause-coming : goal.returns-else-not-has_piece-clause-coming
-returns-else-not-has_piece-clause-coming c = grind (ints, arith, common_steps)

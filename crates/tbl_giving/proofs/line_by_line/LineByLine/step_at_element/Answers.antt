@@ -1,6 +1,6 @@
 use Rattle.std.proofs.Common.{◌≡◌, ◌+◌, ℕ, List, [], ◌∷◌, ◌++◌, drop, length, suc, Some, refl, sym, ap, subst, ◌∙◌, arith}
 use Rattle.tbl_format.specs.RowsServed.{all_rows}
-use Rattle.tbl_kept.specs.Rows.{KeptElement}
+use Rattle.tbl_kept.specs.Rows.{KeptElement, Command as CommandKept, ElementLaid, Rule as RuleKept}
 use Rattle.tbl_giving.specs.LinesWalked.{CanGo, KeptLineByLine, LineSteps, kept_by}
 use Rattle.tbl_giving.specs.declared.line_by_line.Place.{Place}
 use Rattle.tbl_giving.specs.declared.line_by_line.Place.TheVariants.{AtElement}
@@ -10,7 +10,6 @@ use Rattle.std.specs.List.{slice_range}
 use Rattle.input_source.specs.Bytes.{newline}
 use Rattle.tbl_format.proofs.Elements.{each-at}
 use Rattle.tbl_format.proofs.Parts.{length-slice_range}
-use Rattle.tbl_kept.specs.Rows.{Command as CommandKept, ElementLaid, Rule as RuleKept}
 use Rattle.tbl_pieces.proofs.Adding.{adds-fewer, adds-more}
 use Rattle.tbl_picture.specs.RulesWalked.{IsRowFirst}
 use Rattle.tbl_giving.proofs.LineStepsMade.{command-step}

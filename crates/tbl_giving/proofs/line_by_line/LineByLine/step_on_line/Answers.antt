@@ -1,7 +1,6 @@
 use Rattle.std.proofs.Common.{◌≡◌, sym, ap, subst, ◌∙◌}
-use Rattle.tbl_giving.specs.LinesWalked.{KeptLineByLine, LineUnderWay, kept_by}
+use Rattle.tbl_giving.specs.LinesWalked.{KeptLineByLine, LineUnderWay, kept_by, bars_by, row_laid}
 use Rattle.tbl_layout.specs.declared.bars.Bars.{Bars}
-use Rattle.tbl_giving.specs.LinesWalked.{bars_by, row_laid}
 use Rattle.tbl_picture.specs.Walks.{IsUnderWay, RowEndsOrGoesOn, WalkedRow, lent_row}
 use Rattle.tbl_line_cells.specs.LinesDrawn.{Draws, laid_row}
 use Rattle.tbl_giving.proofs.line_by_line.LineByLine.step_on_line.Goals as goal

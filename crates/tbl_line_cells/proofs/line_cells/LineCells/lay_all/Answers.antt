@@ -7,8 +7,7 @@ use Rattle.tbl_layout.specs.Spans.{cells_of}
 use Rattle.tbl_lines.specs.LinesLeft.{bars_there, between, row_shown, shown}
 use Rattle.tbl_lines.specs.PictureLines.{Cell}
 use Rattle.tbl_line_cells.specs.LaidCells.{on_line}
-use Rattle.tbl_line_cells.specs.LinesDrawn.{RunInOrder, kept_line}
-use Rattle.tbl_line_cells.specs.LinesDrawn.{keys_in}
+use Rattle.tbl_line_cells.specs.LinesDrawn.{RunInOrder, kept_line, keys_in}
 use Rattle.tbl_line_cells.specs.declared.line_cells.LineCells.{LineCells}
 use Rattle.tbl_line_cells.proofs.CellsInColumns.{few-cells, no_cell}
 use Rattle.tbl_line_cells.proofs.RowDrawn.{row-fronts-are, row-shown-is}

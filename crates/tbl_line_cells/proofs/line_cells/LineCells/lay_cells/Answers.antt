@@ -2,8 +2,7 @@ use Rattle.std.proofs.Common.{rules, ◌≡◌, ℕ, suc, ◌+◌, ◌-◌, ◌<
 use Rattle.tbl_layout.specs.Spans.{cells_of}
 use Rattle.tbl_layout.specs.declared.columns.Column.{Column}
 use Rattle.tbl_lines.specs.LinesLeft.{between, row_shown}
-use Rattle.tbl_line_cells.specs.LinesDrawn.{SoFar, kept_line}
-use Rattle.tbl_line_cells.specs.LinesDrawn.{keys_in}
+use Rattle.tbl_line_cells.specs.LinesDrawn.{SoFar, kept_line, keys_in}
 use Rattle.tbl_line_cells.proofs.CellsInColumns.{few-cells, first-column, next-column, no_cell}
 use Rattle.tbl_line_cells.proofs.RowLaid.{many-left, row-all, row-next, two-at}
 use Rattle.tbl_line_cells.proofs.line_cells.LineCells.lay_cells.Goals as goal

@@ -5,8 +5,7 @@ use Rattle.tbl_lines.specs.LinesLeft.{between, row_shown}
 use Rattle.tbl_lines.specs.PictureLines.{Cell}
 use Rattle.tbl_lines.specs.RowsWalked.{IsNarrow}
 use Rattle.tbl_line_cells.specs.KeptCells.{AllLeft}
-use Rattle.tbl_line_cells.specs.LinesDrawn.{SoFar, kept_line}
-use Rattle.tbl_line_cells.specs.LinesDrawn.{keys_in}
+use Rattle.tbl_line_cells.specs.LinesDrawn.{SoFar, kept_line, keys_in}
 use Rattle.tbl_line_cells.proofs.line_cells.LineCells.lay_cells.Given as goal
 
 abbrev pub invariant-loop-at : goal.invariant-loop-at

@@ -4,8 +4,7 @@ use Rattle.tbl_lines.specs.LinesLeft.{over_at, over_shown, overs}
 use Rattle.tbl_lines.specs.PictureLines.{Sheet}
 use Rattle.tbl_lines.specs.declared.fronts.Front.{Front}
 use Rattle.tbl_line_cells.specs.declared.laid_cells.LaidCell.{LaidCell}
-use Rattle.tbl_line_cells.specs.LinesDrawn.{SoFar, kept_line}
-use Rattle.tbl_line_cells.specs.LinesDrawn.{keys_in}
+use Rattle.tbl_line_cells.specs.LinesDrawn.{SoFar, kept_line, keys_in}
 use Rattle.tbl_line_cells.specs.RulesDrawn.{LaidTo, RuleGiven, end_at}
 use Rattle.tbl_line_cells.specs.declared.line_cells.LineCells.{LineCells}
 use Rattle.tbl_line_cells.proofs.CellsOver.{first-column}

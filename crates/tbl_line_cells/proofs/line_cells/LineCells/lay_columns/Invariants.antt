@@ -3,8 +3,7 @@ use Rattle.tbl_layout.specs.declared.bars.Bars.{Bars}
 use Rattle.tbl_lines.specs.CellsLeft.{Left}
 use Rattle.tbl_lines.specs.LinesLeft.{Beside}
 use Rattle.tbl_lines.specs.PictureLines.{Cell, RuleLine}
-use Rattle.tbl_line_cells.specs.LinesDrawn.{SoFar, kept_line}
-use Rattle.tbl_line_cells.specs.LinesDrawn.{keys_in}
+use Rattle.tbl_line_cells.specs.LinesDrawn.{SoFar, kept_line, keys_in}
 use Rattle.tbl_line_cells.specs.RulesDrawn.{HasColumn, LaidTo, RuleGiven}
 use Rattle.tbl_line_cells.proofs.line_cells.LineCells.lay_columns.Given as goal
 

@@ -3,8 +3,7 @@ use Rattle.tbl_layout.specs.Spans.{as_one}
 use Rattle.tbl_layout.specs.declared.columns.Column.{Column}
 use Rattle.tbl_layout.specs.declared.data_lines.RuleSign.{RuleSign}
 use Rattle.tbl_lines.specs.LinesLeft.{Shown, if_drawn, shown}
-use Rattle.tbl_line_cells.specs.LinesDrawn.{SoFar, kept_line}
-use Rattle.tbl_line_cells.specs.LinesDrawn.{keys_in}
+use Rattle.tbl_line_cells.specs.LinesDrawn.{SoFar, kept_line, keys_in}
 use Rattle.tbl_line_cells.specs.RulesDrawn.{begin_from}
 use Rattle.tbl_line_cells.proofs.CellsOver.{begins-most, less-by, over-cell}
 use Rattle.tbl_line_cells.proofs.FrontsOf.{no_cell}

@@ -1,5 +1,3 @@
-use Rattle.std.proofs.lemmas.Int.{ints}
-use Rattle.std.proofs.lemmas.Grind.{common_steps}
 use Rattle.std.proofs.Common.{◌≡◌, ◌+◌, ◌-◌, ◌≤◌, ℕ, List, [], ◌∷◌, ◌++◌, map, take, drop, length, length-append, refl, ap, ◌∙◌, arith}
 use Rattle.std.proofs.lemmas.List.{length-map}
 use Rattle.std.specs.List.{slice_range}
@@ -183,9 +181,3 @@ returns c =
     (keys-read a.limits a.phase a.begun a.text a.kept fits g noted c.args.number reads (λ n. front-kept a.phase n front) extends (columns-read [] f line) room counted few within to_tell refl a.options a.options
     (told_of_all a.text.settled a.kept.notes.notes ++ told_of_letters c.args.number letters)
     (letters-said settled a.kept.notes.notes c.args.number letters (told_of_all a.text.settled a.kept.notes.notes) (told-longer a.text.settled more a.kept.notes.notes reads.fits.notes)) g.place))
-
-pub slice_bounds-take_keys-count : goal.slice_bounds-take_keys-count
-slice_bounds-take_keys-count c = grind (ints, arith, common_steps)
-
-pub slice_bounds-take_keys-start : goal.slice_bounds-take_keys-start
-slice_bounds-take_keys-start c = grind (ints, arith, common_steps)

@@ -1,5 +1,3 @@
-use Rattle.std.proofs.lemmas.Int.{ints}
-use Rattle.std.proofs.lemmas.Grind.{common_steps}
 use Rattle.std.proofs.Common.{◌≡◌, suc, ◌+◌, ◌-◌, ◌≤◌, ℕ, List, [], ◌∷◌, ◌++◌, map, take, drop, length, length-append, length-drop, refl, sym, ap, subst, ◌∙◌, arith}
 use Rattle.std.proofs.lemmas.List.{length-map}
 use Rattle.std.specs.List.{slice_range}
@@ -174,15 +172,3 @@ returns c =
     ∙ ap (λ (reading : Reading). made_of reading (told_of_all a.text.settled a.kept.notes.to_tell) [])
     (options-made a.limits a.phase a.begun a.text a.kept fits nothing all ks kept_notes c.args.number room within to_tell c.push_ignored.ensures.room c.read_options-options.result a.options said says (drop (suc end) line) refl counted few
     ∙ ap with_read options_is))
-
-pub push_ignored-requires-clause-block : goal.push_ignored-requires-clause-block
-push_ignored-requires-clause-block c = grind (ints, arith, common_steps)
-
-pub push_ignored-requires-clause-room : goal.push_ignored-requires-clause-room
-push_ignored-requires-clause-room c = grind (ints, arith, common_steps)
-
-pub slice_bounds-take_keys-count : goal.slice_bounds-take_keys-count
-slice_bounds-take_keys-count c = grind (ints, arith, common_steps)
-
-pub slice_bounds-take_keys-start : goal.slice_bounds-take_keys-start
-slice_bounds-take_keys-start c = grind (ints, arith, common_steps)

@@ -8,9 +8,8 @@ use Rattle.tbl_tall.proofs.KeysCover.{cover-all, cover-some, fewer-room}
 use Rattle.tbl_tall.proofs.RowsFilled.{filled-comes}
 use Rattle.tbl_tall.proofs.tall_row.TallRow.come_to.Goals as goal
 use Rattle.tbl_tall.specs.Bands.{KeptBand, ShowBars, kept_band}
-use Rattle.tbl_line_cells.specs.LinesDrawn.{keys_in}
+use Rattle.tbl_line_cells.specs.LinesDrawn.{keys_in, kept_line}
 use Rattle.tbl_line_cells.specs.KeptCells.{AllLeft, behind_rules}
-use Rattle.tbl_line_cells.specs.LinesDrawn.{kept_line}
 use Rattle.tbl_tall.specs.TallRows.{KeptTall, kept_by}
 use Rattle.tbl_line_cells.specs.declared.cells.CellLeft.{CellLeft}
 

@@ -9,9 +9,8 @@ use Rattle.tbl_tall.proofs.KeysCover.{cover-all, cover-some, fewer-room, left-ha
 use Rattle.tbl_tall.proofs.RowsGoOn.{line-passed, row-ended}
 use Rattle.tbl_tall.proofs.tall_row.TallRow.pass_line.Goals as goal
 use Rattle.tbl_tall.specs.Bands.{ShowBars, kept_band}
-use Rattle.tbl_line_cells.specs.LinesDrawn.{keys_in}
+use Rattle.tbl_line_cells.specs.LinesDrawn.{keys_in, kept_line}
 use Rattle.tbl_line_cells.specs.KeptCells.{AllLeft}
-use Rattle.tbl_line_cells.specs.LinesDrawn.{kept_line}
 use Rattle.tbl_tall.specs.TallRows.{KeptTall, kept_by}
 use Rattle.tbl_line_cells.specs.declared.cells.CellLeft.{CellLeft}
 
