@@ -25,19 +25,19 @@ use Rattle.tbl_kept.proofs.KeptFields.{AreOpened-kept}
 use Rattle.tbl_kept.specs.TableText.{KeptText, block_of, text_closed}
 use Rattle.tbl_layout.specs.KeptEntries.{content_of}
 use Rattle.tbl_table.specs.Begun.{FewKeys, begun_in}
-use Rattle.tbl_table.specs.Kept.{HasRooms, PartsFit, block_open, reading_of, row_open, table_of}
+use Rattle.tbl_table.specs.Kept.{PartsFit, block_open, reading_of, row_open, table_of}
 use Rattle.tbl_table.specs.MayTell.{line_may_tell}
 use Rattle.tbl_table.specs.Reading.{Reading}
 use Rattle.tbl_data.specs.OpenBlocks.{is_open}
 use Rattle.tbl_table.specs.Steps.{BlockEnds, CanEnd}
 use Rattle.tbl_table.specs.Table.{closed, closed_line}
 use Rattle.tbl_table.specs.declared.begun.Begun.{Begun}
+use Rattle.tbl_table.specs.declared.table.Table.TheInside.{Inside}
 use Rattle.tbl_table.proofs.DataGrows.{Lies-behind, behind-less, none-begun, table-more}
 use Rattle.tbl_table.proofs.DataLies.{lies-kept}
-use Rattle.tbl_table.proofs.FormatLines.{IsCounted}
-use Rattle.tbl_table.proofs.LineEnds.{Taken, all-kept, fault-most, new-counted, new-elements, new-rooms, one-fault, one-read, phase-fits, read-most, slice-last, table-taken}
+use Rattle.tbl_table.proofs.LineEnds.{LineTaken, all-kept, fault-most, new-counted, new-elements, new-rooms, one-fault, one-read, phase-fits, read-most, slice-last, table-taken}
 use Rattle.tbl_table.proofs.NotesKept.{NotesWithin-more, told-longer}
-use Rattle.tbl_table.proofs.TableFits.{FewKeys-more, behind-append, kept-most}
+use Rattle.tbl_table.proofs.TableFits.{FewKeys-more, IsCounted, KeysFit-by, behind-append, kept-most, rooms-same}
 
 -- none is open
 pub none-open : (block : OpenBlock) → is_open block ≡ false → block ≡ NoBlock
@@ -127,7 +127,7 @@ closes-by true InFormat bytes old new is fits ends done none = absurd (no-open o
 closes-by true InData bytes old new is fits ends done none = closes-data bytes old new fits is (done is)
 closes-by true Bad bytes old new is fits ends done none = absurd (no-open old.open fits.closed is)
 
-pub closes : (p : Phase) (bytes : List ℕ) (old new : TableData) → FitsBehind p bytes old → EndsBy (length bytes) old
+closes : (p : Phase) (bytes : List ℕ) (old new : TableData) → FitsBehind p bytes old → EndsBy (length bytes) old
     → (is_open old.open ≡ true → BlockEnds old new) → (is_open old.open ≡ false → new ≡ old) → Closes p bytes old new
 closes p bytes old new fits ends done none = closes-by (is_open old.open) p bytes old new refl fits ends done none
 
@@ -177,140 +177,112 @@ no-head InData bytes d fits is = absurd (cc)
 no-head Bad bytes d fits is = absurd (cc)
 
 -- where a line goes on
-module _ (l : TblLimits) (phase : Phase) (begun : Begun) (text : KeptText) (d : TableData) (fits : PartsFit l phase begun text d) (is : phase ≡ InData) (some : is_some text.pending ≡ true) (options : Options) (from to : ℕ) (from_is : from ≡ length text.settled) (to_is : to ≡ length (text_closed text).settled) (p : Phase) (mid : TableData) (taken : Taken text options.separator from to 0 p d mid) where
+module _ {a : Inside} {from to : ℕ} {p : Phase} {mid : TableData} (line : LineTaken a from to 0 p mid) (some : is_some a.text.pending ≡ true) (to_is : to ≡ length (text_closed a.text).settled) where
   abbrev front : List ℕ
-  front = (text_closed text).settled
+  front = (text_closed a.text).settled
 
-  whole-is : behind_joined text.pending text.line ≡ behind_joined text.pending [] ++ text.line
-  whole-is = behind-append text.pending [] text.line
+  abbrev before : TableRead
+  before = table_of a.phase a.options a.text a.kept
 
-  block-is : block_of text ≡ front ++ text.line
+  whole-is : behind_joined a.text.pending a.text.line ≡ behind_joined a.text.pending [] ++ a.text.line
+  whole-is = behind-append a.text.pending [] a.text.line
+
+  block-is : block_of a.text ≡ front ++ a.text.line
   block-is =
-      ap (λ (xs : List ℕ). text.settled ++ xs) whole-is ∙ sym (append_assoc text.settled (behind_joined text.pending []) text.line)
+      ap (λ (xs : List ℕ). a.text.settled ++ xs) whole-is ∙ sym (append_assoc a.text.settled (behind_joined a.text.pending []) a.text.line)
 
-  pub mid-ends : EndsBy (length front) mid
-  mid-ends = subst (λ (n : ℕ). EndsBy n mid) to_is taken.settled
+  mid-ends : EndsBy (length front) mid
+  mid-ends = subst (λ (n : ℕ). EndsBy n mid) to_is line.settled
 
-  pub mid-fits : FitsBehind p front mid
-  mid-fits = behind-less front text.line mid mid-ends p (subst (λ (bytes : List ℕ). FitsBehind p bytes mid) block-is taken.fits)
+  mid-fits : FitsBehind p front mid
+  mid-fits = behind-less front a.text.line mid mid-ends p (subst (λ (bytes : List ℕ). FitsBehind p bytes mid) block-is line.behind)
 
-  line-len : to - from ≡ length (behind_joined text.pending [])
-  line-len = omega (arith, from_is, to_is, length-append text.settled (behind_joined text.pending []))
+  line-len : to - from ≡ length (behind_joined a.text.pending [])
+  line-len = omega (arith, line.from_is, to_is, length-append a.text.settled (behind_joined a.text.pending []))
 
-  slice-is : slice_range (block_of text) from to ≡ behind_joined text.pending []
+  slice-is : slice_range (block_of a.text) from to ≡ behind_joined a.text.pending []
   slice-is =
-      let whole = behind_joined text.pending [] in
-      ap (λ (n : ℕ). slice_range (block_of text) n to) from_is
-      ∙ ap (λ (n : ℕ). slice_range (block_of text) (length text.settled) n) (to_is ∙ length-append text.settled whole)
-      ∙ ap (λ (xs : List ℕ). slice_range (text.settled ++ xs) (length text.settled) (length text.settled + length whole)) whole-is
-      ∙ slice-last text.settled whole text.line
+      let settled = a.text.settled in
+      let whole = behind_joined a.text.pending [] in
+      ap (λ (n : ℕ). slice_range (block_of a.text) n to) line.from_is
+      ∙ ap (λ (n : ℕ). slice_range (block_of a.text) (length settled) n) (to_is ∙ length-append settled whole)
+      ∙ ap (λ (xs : List ℕ). slice_range (settled ++ xs) (length settled) (length settled + length whole)) whole-is
+      ∙ slice-last settled whole a.text.line
 
-  pub table-mid : table_by p options front mid ≡ closed_line text.pending (table_of phase options text d)
+  table-mid : table_by p a.options front mid ≡ closed_line a.text.pending before
   table-mid =
-      sym (table-more front text.line mid p options (Lies-behind front text.line mid p mid-fits mid-ends.elements))
-      ∙ ap (λ (bytes : List ℕ). table_by p options bytes mid) (sym block-is)
-      ∙ table-taken l phase begun text d fits is options from to 0 p mid taken
-      ∙ ap (λ (line : List ℕ). whole_line (ends_joined text.pending) 0 line (table_of phase options text d)) slice-is
-      ∙ closed-as text.pending (table_of phase options text d) some
+      sym (table-more front a.text.line mid p a.options (Lies-behind front a.text.line mid p mid-fits mid-ends.elements))
+      ∙ ap (λ (bytes : List ℕ). table_by p a.options bytes mid) (sym block-is)
+      ∙ table-taken line
+      ∙ ap (λ (bytes : List ℕ). whole_line (ends_joined a.text.pending) 0 bytes before) slice-is
+      ∙ closed-as a.text.pending before some
+
+  mid-counted : IsCounted a.limits (length a.text.read) mid.format.format
+  mid-counted = new-counted line (length a.text.read) (omega arith)
 
   -- what the block's end asks for
   pub mid-formats : length (all_rows mid.format.format) < 4294967296
   mid-formats =
-      let counted = new-counted l phase begun text d fits is options from to 0 p mid taken (length text.read) (omega arith) in
-      omega (arith, counted.rows.few, counted.keys, fits.bytes.few, fits.rooms.small, length-append mid.format.format.earlier mid.format.format.rows)
+      omega (arith, mid-counted.rows.few, mid-counted.keys, line.fits.bytes.few, line.fits.rooms.small, length-append mid.format.format.earlier mid.format.format.rows)
 
   pub mid-can : is_open mid.open ≡ true → CanEnd mid
   mid-can opened =
+      let fits = line.fits in
+      let all = all-kept fits line.is in
       let held : DataFits front mid =
       subst (λ (q : Phase). FitsBehind q front mid) (open-behind p front mid mid-fits opened) mid-fits in
       can-end front mid held
-      (omega (
-        arith,
-        new-elements l phase begun text d fits is options from to 0 p mid taken,
-        one-open mid.open opened,
-        all-kept l phase begun text d fits is (length d.rows.elements),
-        fits.rows.elements,
-        one-read l phase begun text d fits is,
-        fits.bytes.few,
-        (new-rooms l phase begun text d fits is options from to 0 p mid taken).elements,
-      ))
-      (omega (
-        arith,
-        taken.entries,
-        line-len,
-        may-tell-some text.pending some,
-        fits.rows.entries,
-        all-kept l phase begun text d fits is (entries_of d.rows),
-        fits.bytes.few,
-        fits.rooms.small,
-      ))
+      (omega (arith, new-elements line, one-open mid.open opened, all (length a.kept.rows.elements), fits.rows.elements, one-read fits line.is, fits.bytes.few, (new-rooms line).elements))
+      (omega (arith, line.entries, line-len, may-tell-some a.text.pending some, fits.rows.entries, all (entries_of a.kept.rows), fits.bytes.few, fits.rooms.small))
 
-  module _ (new : TableData) (closing : Closes p front mid new) where
-    pub closed-rooms : HasRooms l text.text_room new
-    closed-rooms =
-        let rooms = new-rooms l phase begun text d fits is options from to 0 p mid taken in
-        record {
-          text = rooms.text;
-          keys = closing.rooms.keys ∙ rooms.keys;
-          asked = closing.rooms.asked ∙ rooms.asked;
-          entries = closing.rooms.entries ∙ rooms.entries;
-          elements = closing.rooms.elements ∙ rooms.elements;
-          columns = closing.rooms.columns ∙ rooms.columns;
-          notes = closing.rooms.notes ∙ rooms.notes;
-          small = rooms.small;
-          narrow = rooms.narrow;
-          wide = rooms.wide;
-        }
+  -- it is closed
+  pub line-closes : (new : TableData) → (is_open mid.open ≡ true → BlockEnds mid new) → (is_open mid.open ≡ false → new ≡ mid) → Closes p front mid new
+  line-closes new done none = closes p front mid new mid-fits mid-ends done none
 
-    pub closed-counted : IsCounted l (length text.read) new.format.format
-    closed-counted =
-        subst (λ (k : KeptFormat). IsCounted l (length text.read) k.format) (sym closing.format)
-        (new-counted l phase begun text d fits is options from to 0 p mid taken (length text.read) (omega arith))
+  module _ {new : TableData} (closing : Closes p front mid new) where
+    pub closed-counted : IsCounted a.limits (length a.text.read) new.format.format
+    closed-counted = subst (λ (k : KeptFormat). IsCounted a.limits (length a.text.read) k.format) (sym closing.format) mid-counted
 
-    pub close-fits : (next : Begun) → next ≡ begun_in p new.format.format text.line → FewKeys (length new.format.format.asked + length text.line) (length text.line) next
-        → PartsFit l p next (text_closed text) new
+    pub close-fits : (next : Begun) → next ≡ begun_in p new.format.format a.text.line
+        → FewKeys (length new.format.format.asked + length a.text.line) (length a.text.line) next
+        → PartsFit a.limits p next (text_closed a.text) new
     close-fits next next_is few =
-        let may = may-tell-some text.pending some in
+        let fits = line.fits in
+        let all = all-kept fits line.is in
+        let one = one-read fits line.is in
+        let may = may-tell-some a.text.pending some in
+        let len = length a.text.line in
         record {
-          rooms = closed-rooms;
+          rooms = rooms-same closing.rooms (new-rooms line);
           bytes = record {
             few = fits.bytes.few;
             most = fits.bytes.most;
             block = omega (arith, fits.bytes.block, length-append front []);
-            one_line = own-line text.pending text.line fits.bytes.one_line;
+            one_line = own-line a.text.pending a.text.line fits.bytes.one_line;
           };
-          keys = record {
-            is = next_is;
-            few = FewKeys-more (length new.format.format.asked + length text.line) (l.columns + length text.line) (length text.line) (length text.line) next (omega (arith, closed-counted.columns)) (omega arith) few;
-            keys = closed-counted.keys;
-            asked = closed-counted.asked;
-            columns = closed-counted.columns;
-            rows = closed-counted.rows;
-            ended = closed-counted.ended;
-            stands = closed-counted.stands;
-            made = closed-counted.made;
-          };
+          keys = KeysFit-by next_is
+              (FewKeys-more (length new.format.format.asked + len) (a.limits.columns + len) len len next (omega (arith, closed-counted.columns)) (omega arith) few) closed-counted;
           rows = record {
-            entries = omega (arith, kept-most p (entries_of new.rows), all-kept l phase begun text d fits is (entries_of d.rows), closing.entries, taken.entries, line-len, may, fits.rows.entries, one-read l phase begun text d fits is, read-most p);
-            elements = omega (arith, kept-most p (length new.rows.elements), all-kept l phase begun text d fits is (length d.rows.elements), closing.elements, ap block_open closing.closed, new-elements l phase begun text d fits is options from to 0 p mid taken, fits.rows.elements, row-some text.pending d.open some, one-read l phase begun text d fits is, read-most p);
+            entries = omega (arith, kept-most p (entries_of new.rows), all (entries_of a.kept.rows), closing.entries, line.entries, line-len, may, fits.rows.entries, one, read-most p);
+            elements = omega (arith, kept-most p (length new.rows.elements), all (length a.kept.rows.elements), closing.elements, ap block_open closing.closed, new-elements line, fits.rows.elements, row-some a.text.pending a.kept.open some, one, read-most p);
           };
           messages = record {
-            few = omega (arith, ap (λ (k : KeptNotes). length k.notes) closing.notes, taken.notes, line-len, may, fits.messages.few, one-fault l phase begun text d fits is, fault-most p);
+            few = omega (arith, ap (λ (k : KeptNotes). length k.notes) closing.notes, line.notes, line-len, may, fits.messages.few, one-fault fits line.is, fault-most p);
             telling =
-                subst (λ (ns : List KeptNote). NotesWithin (length front) ns) (sym (ap (λ (k : KeptNotes). k.to_tell) closing.notes ∙ taken.to_tell))
-                (NotesWithin-more (length text.settled) (length front) d.notes.to_tell (omega (arith, length-append text.settled (behind_joined text.pending []))) fits.messages.telling);
+                subst (λ (ns : List KeptNote). NotesWithin (length front) ns) (sym (ap (λ (k : KeptNotes). k.to_tell) closing.notes ∙ line.to_tell))
+                (NotesWithin-more (length a.text.settled) (length front) a.kept.notes.to_tell (omega (arith, length-append a.text.settled (behind_joined a.text.pending []))) fits.messages.telling);
           };
           by_phase = phase-fits p front new closing.fits closing.lies (no-behind front (length front) new closing.closed);
         }
 
-    pub close-read : reading_of p options (text_closed text) new
-        ≡ (let whole = closed_line text.pending (table_of phase options text d) in
-        record (reading_of phase options text d) { table = closed_block whole.begun whole })
+    pub close-read : reading_of p a.options (text_closed a.text) new
+        ≡ (let whole = closed_line a.text.pending before in
+        record (reading_of a.phase a.options a.text a.kept) { table = closed_block whole.begun whole })
     close-read =
-        ap (λ (t : TableRead). let r : Reading = record (reading_of phase options text d) { table = t } in r)
-        (closing.table options ∙ ap (λ (t : TableRead). closed_block t.begun t) table-mid)
+        ap (λ (t : TableRead). let r : Reading = record (reading_of a.phase a.options a.text a.kept) { table = t } in r)
+        (closing.table a.options ∙ ap (λ (t : TableRead). closed_block t.begun t) table-mid)
 
-    pub close-told : told_of_all front new.notes.to_tell ≡ told_of_all text.settled d.notes.to_tell
+    pub close-told : told_of_all front new.notes.to_tell ≡ told_of_all a.text.settled a.kept.notes.to_tell
     close-told =
-        ap (λ (ns : List KeptNote). told_of_all front ns) (ap (λ (k : KeptNotes). k.to_tell) closing.notes ∙ taken.to_tell)
-        ∙ told-longer text.settled (behind_joined text.pending []) d.notes.to_tell fits.messages.telling
+        ap (λ (ns : List KeptNote). told_of_all front ns) (ap (λ (k : KeptNotes). k.to_tell) closing.notes ∙ line.to_tell)
+        ∙ told-longer a.text.settled (behind_joined a.text.pending []) a.kept.notes.to_tell line.fits.messages.telling

@@ -26,7 +26,7 @@ use Rattle.tbl_table.specs.Table.{closed}
 use Rattle.tbl_table.specs.declared.begun.Begun.{Begun}
 use Rattle.tbl_table.proofs.DataGrows.{none-begun}
 use Rattle.tbl_table.proofs.LineEnds.{all-kept, data-reads, one-read}
-use Rattle.tbl_table.proofs.TableFits.{kept-most}
+use Rattle.tbl_table.proofs.TableFits.{kept-most, rooms-same}
 use Rattle.tbl_table.proofs.BlockCloses.{can-end, closes-data, no-behind, no-open, none-open}
 
 -- one that is open is open in the data
@@ -41,27 +41,23 @@ row-none None block none = refl
 row-none (Some j) block none = absurd (cc)
 
 -- where no line goes on
-module _ (l : TblLimits) (phase : Phase) (begun : Begun) (text : KeptText) (d : TableData) (fits : PartsFit l phase begun text d) where
-  pub rest-formats : length (all_rows d.format.format) < 4294967296
-  rest-formats =
-      omega (arith, fits.keys.rows.few, fits.keys.keys, fits.bytes.few, fits.rooms.small, length-append d.format.format.earlier d.format.format.rows)
-
+module _ {l : TblLimits} {phase : Phase} {begun : Begun} {text : KeptText} {d : TableData} (fits : PartsFit l phase begun text d) where
   pub rest-data : is_open d.open ≡ true → phase ≡ InData
   rest-data some = open-phase phase text.settled text.pending d fits.by_phase some
 
   pub rest-can : is_open d.open ≡ true → CanEnd d
   rest-can some =
       let is = rest-data some in
-      can-end text.settled d (data-reads l phase begun text d fits is).fits
+      can-end text.settled d (data-reads fits is).fits
       (omega (
         arith,
         fits.rows.elements,
         fits.rooms.elements,
         fits.bytes.few,
-        one-read l phase begun text d fits is,
-        all-kept l phase begun text d fits is (length d.rows.elements),
+        one-read fits is,
+        all-kept fits is (length d.rows.elements),
       ))
-      (omega (arith, fits.rows.entries, all-kept l phase begun text d fits is (entries_of d.rows), fits.bytes.few, fits.rooms.small))
+      (omega (arith, fits.rows.entries, all-kept fits is (entries_of d.rows), fits.bytes.few, fits.rooms.small))
 
   -- what the end of a block has made
   pub record Rests (new : TableData) : Type 0 where
@@ -80,26 +76,15 @@ module _ (l : TblLimits) (phase : Phase) (begun : Begun) (text : KeptText) (d : 
   rests-some : (new : TableData) → text.pending ≡ None → is_open d.open ≡ true → BlockEnds d new → Rests new
   rests-some new none some ends =
       let is = rest-data some in
-      let closing = closes-data text.settled d new (data-reads l phase begun text d fits is).fits some ends in
+      let closing = closes-data text.settled d new (data-reads fits is).fits some ends in
       record {
         parts = record {
-          rooms = record {
-            text = fits.rooms.text;
-            keys = closing.rooms.keys ∙ fits.rooms.keys;
-            asked = closing.rooms.asked ∙ fits.rooms.asked;
-            entries = closing.rooms.entries ∙ fits.rooms.entries;
-            elements = closing.rooms.elements ∙ fits.rooms.elements;
-            columns = closing.rooms.columns ∙ fits.rooms.columns;
-            notes = closing.rooms.notes ∙ fits.rooms.notes;
-            small = fits.rooms.small;
-            narrow = fits.rooms.narrow;
-            wide = fits.rooms.wide;
-          };
+          rooms = rooms-same closing.rooms fits.rooms;
           bytes = fits.bytes;
           keys = subst (λ (k : KeptFormat). KeysFit l text.read text.line phase begun k.format) (sym closing.format) fits.keys;
           rows = record {
-            entries = omega (arith, kept-most phase (entries_of new.rows), all-kept l phase begun text d fits is (entries_of d.rows), closing.entries, fits.rows.entries);
-            elements = omega (arith, kept-most phase (length new.rows.elements), all-kept l phase begun text d fits is (length d.rows.elements), closing.elements, row-none text.pending d.open none, row-none text.pending new.open none, ap block_open closing.closed, fits.rows.elements);
+            entries = omega (arith, kept-most phase (entries_of new.rows), all-kept fits is (entries_of d.rows), closing.entries, fits.rows.entries);
+            elements = omega (arith, kept-most phase (length new.rows.elements), all-kept fits is (length d.rows.elements), closing.elements, row-none text.pending d.open none, row-none text.pending new.open none, ap block_open closing.closed, fits.rows.elements);
           };
           messages = record {
             few = omega (arith, ap (λ (k : KeptNotes). length k.notes) closing.notes, fits.messages.few);

@@ -5,7 +5,7 @@ use Rattle.std.specs.List.{slice_range}
 use Rattle.tbl_format.proofs.Parts.{slice_range-rest}
 use Rattle.tbl_format.proofs.RowsHeld.{read-held}
 use Rattle.input_source.specs.Bytes.{newline}
-use Rattle.tbl_data.specs.TableData.{FormatFits, OpenBehind, begun_by}
+use Rattle.tbl_data.specs.TableData.{FitsBehind, FormatFits, OpenBehind, begun_by}
 use Rattle.tbl_data.specs.TableRead.{TableRead}
 use Rattle.tbl_data.specs.declared.phase.Phase.{Phase}
 use Rattle.tbl_data.specs.declared.table_data.OpenBlock.{OpenBlock}
@@ -32,45 +32,16 @@ use Rattle.tbl_table.specs.Kept.{EndFits, FormatReads, HasKeys, HasRooms, KeysFi
 use Rattle.tbl_table.specs.Steps.{data_behind, ended_with, phase_behind}
 use Rattle.tbl_table.specs.Table.{behind_format}
 use Rattle.tbl_table.specs.declared.begun.Begun.{Begun}
+use Rattle.tbl_table.specs.declared.table.Table.TheInside.{Inside}
 use Rattle.tbl_table.proofs.DataGrows.{FormatFits-more, Lies-format}
 use Rattle.tbl_table.proofs.DataLies.{body-more, lies-kept}
 use Rattle.tbl_table.proofs.FormatEnds.{Extends}
 use Rattle.tbl_table.proofs.FormatTaken.{Fits-behind, made, made-same, read_on, table-behind}
-use Rattle.tbl_table.proofs.TableFits.{behind-len, ended-read, few-start}
-
--- what the format is, where all of it is counted
-pub record IsCounted (l : TblLimits) (len : ℕ) (g : Format) : Type 0 where
-  pub keys : key_count g ≤ len
-  pub asked : length g.asked ≤ len
-  pub columns : length g.asked ≤ l.columns
-  pub rows : HasKeys g
-  pub ended : EndFits g.place g
-  pub stands : StandsOnLine 0 g.place
-  pub made : IsRead g
-
-pub counted-longer : (l : TblLimits) (len more : ℕ) (g : Format) → len ≤ more → IsCounted l len g → IsCounted l more g
-counted-longer l len more g less is = record {
-  keys = omega (arith, less, is.keys);
-  asked = omega (arith, less, is.asked);
-  columns = is.columns;
-  rows = is.rows;
-  ended = is.ended;
-  stands = is.stands;
-  made = is.made;
-}
+use Rattle.tbl_table.proofs.TableFits.{IsCounted, KeysFit-by, behind-len, counted-longer, ended-read, few-start, rooms-by}
 
 pub KeysFit-start : (l : TblLimits) (read : List ℕ) (p : Phase) (g : Format) → IsCounted l (length read) g → KeysFit l read [] p (begun_in p g []) g
-KeysFit-start l read p g is = record {
-  is = refl;
-  few = few-start (l.columns + 0) p g (read-held g is.made).row.short (omega (arith, is.columns)) is.stands;
-  keys = is.keys;
-  asked = is.asked;
-  columns = is.columns;
-  rows = is.rows;
-  ended = is.ended;
-  stands = is.stands;
-  made = is.made;
-}
+KeysFit-start l read p g is =
+    KeysFit-by refl (few-start (l.columns + 0) p g (read-held g is.made).row.short (omega (arith, is.columns)) is.stands) is
 
 pub format-behind : (place : FormatPlace) (number : ℕ) (notes : KeptNotes) (g : Format) (d : TableData) → (data_behind place number (read_on g notes d)).format.format ≡ g
 format-behind (InRows part) number notes g d = refl
@@ -97,7 +68,7 @@ keys-line text from none is =
     ∙ ap (λ (xs : List ℕ). drop (length text.settled) xs) whole
     ∙ drop_at text.settled (text.line ++ newline ∷ []) (length text.settled) refl
 
-module _ (l : TblLimits) (phase : Phase) (begun : Begun) (text : KeptText) (d : TableData) (fits : PartsFit l phase begun text d) where
+module _ {l : TblLimits} {phase : Phase} {begun : Begun} {text : KeptText} {d : TableData} (fits : PartsFit l phase begun text d) where
   -- behind the newline of a line that is done
   pub whole-len : length text.settled + length (behind_joined text.pending text.line) ≤ length text.read + length text.line
   whole-len = omega (arith, behind-len text.pending text.line, fits.bytes.block, length-append text.settled (behind_joined text.pending []))
@@ -113,130 +84,94 @@ module _ (l : TblLimits) (phase : Phase) (begun : Begun) (text : KeptText) (d : 
   pub longer-settled : length text.settled ≤ length (text_ended text).settled
   longer-settled = omega (arith, length-append text.settled (behind_joined text.pending text.line ++ newline ∷ []))
 
+-- keys of a line that has ended are read, or the options and the keys behind them
+pub record KeysTaken (a : Inside) (notes : KeptNotes) (g : Format) : Type 0 where
+  pub fits : PartsFit a.limits a.phase a.begun a.text a.kept
+  pub reads : FormatReads a.text.settled a.text.pending a.kept
+  pub all : (n : ℕ) → kept_in a.phase n ≡ n
+  pub is : Extends a.kept.format.format g
+  pub wider : length a.kept.format.format.asked ≤ length g.asked
+  pub room : length (a.text.read ++ a.text.line) < a.limits.text
+  pub counted : IsCounted a.limits (length a.text.read + length a.text.line + 1) g
+  pub few : length notes.notes ≤ length a.text.read + length a.text.line + 1
+  pub within : NotesWithin (length (text_ended a.text).settled) notes.notes
+  pub to_tell : NotesWithin (length (text_ended a.text).settled) notes.to_tell
+  pub same : notes.note_room ≡ a.kept.notes.note_room
+
+module _ {a : Inside} {notes : KeptNotes} {g : Format} (keys : KeysTaken a notes g) (number : ℕ) where
+  abbrev behind : FormatPlace → TableData
+  behind place = data_behind place number (read_on g notes a.kept)
+
   -- of what was read there are as many bytes as before, and some more
-  pub rooms-on : (notes : KeptNotes) (g : Format) → notes.note_room ≡ d.notes.note_room → HasRooms l text.text_room (read_on g notes d)
-  rooms-on notes g same = record {
-    text = fits.rooms.text;
-    keys = fits.rooms.keys;
-    asked = fits.rooms.asked;
-    entries = fits.rooms.entries;
-    elements = fits.rooms.elements;
-    columns = fits.rooms.columns;
-    notes = same ∙ fits.rooms.notes;
-    small = fits.rooms.small;
-    narrow = fits.rooms.narrow;
-    wide = fits.rooms.wide;
+  rooms-behind : (place : FormatPlace) → HasRooms a.limits a.text.text_room (behind place)
+  rooms-behind (InRows part) = rooms-by keys.fits.rooms refl refl refl keys.same refl refl
+  rooms-behind AtEnd = rooms-by keys.fits.rooms refl refl refl keys.same refl refl
+  rooms-behind AtFault = rooms-by keys.fits.rooms refl refl refl keys.same refl refl
+
+  grown : FormatFits (text_ended a.text).settled a.kept
+  grown = FormatFits-more a.text.settled (behind_joined a.text.pending a.text.line ++ newline ∷ []) a.kept keys.reads.fits
+
+  few-entries : entries_of a.kept.rows + 1 ≤ length (text_ended a.text).read
+  few-entries = omega (arith, keys.fits.rows.entries, keys.all (entries_of a.kept.rows), ended-read a.text)
+
+  few-elements : length a.kept.rows.elements + block_open a.kept.open + 1 ≤ length (text_ended a.text).read
+  few-elements =
+      omega (arith, keys.fits.rows.elements, keys.all (length a.kept.rows.elements), ap block_open keys.reads.fits.closed, ended-read a.text)
+
+  rows-behind : (place : FormatPlace) → RowsFit None (text_ended a.text).read (phase_behind place) (behind place)
+  rows-behind (InRows part) = record { entries = omega (arith, few-entries); elements = omega (arith, few-elements) }
+  rows-behind AtEnd = record { entries = omega (arith, few-entries); elements = omega (arith, few-elements) }
+  rows-behind AtFault = record { entries = omega (arith, few-entries); elements = omega (arith, few-elements) }
+
+  notes-behind : (place : FormatPlace) → NotesFit (text_ended a.text).settled None (text_ended a.text).read (phase_behind place) (behind place)
+  notes-behind (InRows part) = record { few = omega (arith, keys.few, ended-read a.text); telling = keys.to_tell }
+  notes-behind AtEnd = record { few = omega (arith, keys.few, ended-read a.text); telling = keys.to_tell }
+  notes-behind AtFault = record {
+    few = omega (arith, keys.few, ended-read a.text, length-append notes.notes (record { line = number; cause = BadFormat } ∷ []));
+    telling = keys.to_tell;
   }
 
-  rooms-behind : (place : FormatPlace) (number : ℕ) (notes : KeptNotes) (g : Format) → notes.note_room ≡ d.notes.note_room
-      → HasRooms l text.text_room (data_behind place number (read_on g notes d))
-  rooms-behind (InRows part) number notes g same = rooms-on notes g same
-  rooms-behind AtEnd number notes g same = record {
-    text = fits.rooms.text;
-    keys = fits.rooms.keys;
-    asked = fits.rooms.asked;
-    entries = fits.rooms.entries;
-    elements = fits.rooms.elements;
-    columns = fits.rooms.columns;
-    notes = same ∙ fits.rooms.notes;
-    small = fits.rooms.small;
-    narrow = fits.rooms.narrow;
-    wide = fits.rooms.wide;
+  fits-behind : (place : FormatPlace) → EndFits place g → FitsBehind (phase_behind place) (text_ended a.text).settled (behind place)
+  fits-behind place ended = Fits-behind (text_ended a.text).settled a.kept g notes grown keys.is keys.wider keys.within place number ended
+
+  phase-behind : (place : FormatPlace) → EndFits place g → PhaseFits (phase_behind place) (text_ended a.text).settled None (behind place)
+  phase-behind (InRows part) ended = record { alone = refl; fits = fits-behind (InRows part) ended }
+  phase-behind AtEnd ended = record {
+    fits = fits-behind AtEnd ended;
+    behind = subst (λ (o : OpenBlock). OpenBehind (text_ended a.text).settled (length (text_ended a.text).settled) o a.kept.rows.row) (sym keys.reads.fits.closed) tt;
   }
-  rooms-behind AtFault number notes g same = record {
-    text = fits.rooms.text;
-    keys = fits.rooms.keys;
-    asked = fits.rooms.asked;
-    entries = fits.rooms.entries;
-    elements = fits.rooms.elements;
-    columns = fits.rooms.columns;
-    notes = same ∙ fits.rooms.notes;
-    small = fits.rooms.small;
-    narrow = fits.rooms.narrow;
-    wide = fits.rooms.wide;
+  phase-behind AtFault ended = record {
+    alone = refl;
+    lies = lies-kept (text_ended a.text).settled (all_rows a.kept.format.format) a.kept.rows grown.kept.all;
+    fits = fits-behind AtFault ended;
   }
 
-  -- a line of the format is done, or the options and the keys behind them
-  module _ (g : Format) (notes : KeptNotes) (number : ℕ) (reads : FormatReads text.settled text.pending d) (all : (n : ℕ) → kept_in phase n ≡ n) (is : Extends d.format.format g) (wider : length d.format.format.asked ≤ length g.asked) (room : length (text.read ++ text.line) < l.text) (counted : IsCounted l (length text.read + length text.line + 1) g) (few : length notes.notes ≤ length text.read + length text.line + 1) (within : NotesWithin (length (text_ended text).settled) notes.notes) (to_tell : NotesWithin (length (text_ended text).settled) notes.to_tell) (same : notes.note_room ≡ d.notes.note_room) where
-    grown : FormatFits (text_ended text).settled d
-    grown = FormatFits-more text.settled (behind_joined text.pending text.line ++ newline ∷ []) d reads.fits
+  pub keys-fits : PartsFit a.limits (phase_behind g.place) (begun_in (phase_behind g.place) g []) (text_ended a.text) (behind g.place)
+  keys-fits = record {
+    rooms = rooms-behind g.place;
+    bytes = text-ends keys.fits keys.room;
+    keys =
+        subst (KeysFit a.limits (text_ended a.text).read [] (phase_behind g.place) (begun_in (phase_behind g.place) g [])) (sym (format-behind g.place number notes g a.kept))
+        (KeysFit-start a.limits (text_ended a.text).read (phase_behind g.place) g (counted-longer keys.counted (omega (arith, ended-read a.text))));
+    rows = rows-behind g.place;
+    messages = notes-behind g.place;
+    by_phase = phase-behind g.place keys.counted.ended;
+  }
 
-    counted-read : IsCounted l (length (text_ended text).read) g
-    counted-read = record {
-      keys = omega (arith, counted.keys, ended-read text);
-      asked = omega (arith, counted.asked, ended-read text);
-      columns = counted.columns;
-      rows = counted.rows;
-      ended = counted.ended;
-      stands = counted.stands;
-      made = counted.made;
-    }
+  -- the table behind it
+  module _ (options : Options) (said : List Told) (says : told_of_all (text_ended a.text).settled notes.notes ≡ said) where
+    abbrev front_read : TableRead
+    front_read =
+        made a.phase options g (a.kept.keys - a.kept.rules - length a.kept.format.format.earlier) a.text.pending
+        (begun_by a.kept.open (map (content_of a.text.settled) a.kept.rows.row)) (elements_of a.text.settled (all_rows a.kept.format.format) a.kept.rows.elements) said
 
-    none-open : block_open d.open ≡ 0
-    none-open = ap block_open reads.fits.closed
-
-    rows-behind : (place : FormatPlace) → RowsFit None (text_ended text).read (phase_behind place) (data_behind place number (read_on g notes d))
-    rows-behind (InRows part) = record {
-      entries = omega (arith, fits.rows.entries, all (entries_of d.rows), ended-read text);
-      elements = omega (arith, fits.rows.elements, all (length d.rows.elements), none-open, ended-read text);
-    }
-    rows-behind AtEnd = record {
-      entries = omega (arith, fits.rows.entries, all (entries_of d.rows), ended-read text);
-      elements = omega (arith, fits.rows.elements, all (length d.rows.elements), none-open, ended-read text);
-    }
-    rows-behind AtFault = record {
-      entries = omega (arith, fits.rows.entries, all (entries_of d.rows), ended-read text);
-      elements = omega (arith, fits.rows.elements, all (length d.rows.elements), none-open, ended-read text);
-    }
-
-    notes-behind : (place : FormatPlace)
-        → NotesFit (text_ended text).settled None (text_ended text).read (phase_behind place) (data_behind place number (read_on g notes d))
-    notes-behind (InRows part) = record { few = omega (arith, few, ended-read text); telling = to_tell }
-    notes-behind AtEnd = record { few = omega (arith, few, ended-read text); telling = to_tell }
-    notes-behind AtFault = record {
-      few = omega (arith, few, ended-read text, length-append notes.notes (record { line = number; cause = BadFormat } ∷ []));
-      telling = to_tell;
-    }
-
-    phase-behind : (place : FormatPlace) → EndFits place g
-        → PhaseFits (phase_behind place) (text_ended text).settled None (data_behind place number (read_on g notes d))
-    phase-behind (InRows part) ended = record { alone = refl; fits = Fits-behind (text_ended text).settled d g notes grown is wider within (InRows part) number ended }
-    phase-behind AtEnd ended = record {
-      fits = Fits-behind (text_ended text).settled d g notes grown is wider within AtEnd number ended;
-      behind = subst (λ (o : OpenBlock). OpenBehind (text_ended text).settled (length (text_ended text).settled) o d.rows.row) (sym reads.fits.closed) tt;
-    }
-    phase-behind AtFault ended = record {
-      alone = refl;
-      lies = lies-kept (text_ended text).settled (all_rows d.format.format) d.rows grown.kept.all;
-      fits = Fits-behind (text_ended text).settled d g notes grown is wider within AtFault number ended;
-    }
-
-    pub keys-fits : (place : FormatPlace) → EndFits place g
-        → PartsFit l (phase_behind place) (begun_in (phase_behind place) g []) (text_ended text) (data_behind place number (read_on g notes d))
-    keys-fits place ended = record {
-      rooms = rooms-behind place number notes g same;
-      bytes = text-ends room;
-      keys = subst (λ (f : Format). KeysFit l (text_ended text).read [] (phase_behind place) (begun_in (phase_behind place) g []) f) (sym (format-behind place number notes g d))
-          (KeysFit-start l (text_ended text).read (phase_behind place) g counted-read);
-      rows = rows-behind place;
-      messages = notes-behind place;
-      by_phase = phase-behind place ended;
-    }
-
-    -- the table behind it
-    module _ (options before : Options) (said : List Told) (says : told_of_all (text_ended text).settled notes.notes ≡ said) where
-      abbrev pub front_read : TableRead
-      front_read =
-          made phase options g (d.keys - d.rules - length d.format.format.earlier) text.pending (begun_by d.open (map (content_of text.settled) d.rows.row))
-          (elements_of text.settled (all_rows d.format.format) d.rows.elements) said
-
-      pub keys-read : (place : FormatPlace)
-          → reading_of (phase_behind place) options (text_ended text) (data_behind place number (read_on g notes d))
-          ≡ ended_with (behind_format place number front_read) (reading_of phase before text d)
-      keys-read place =
-          let lies = Lies-format text.settled (behind_joined text.pending text.line ++ newline ∷ []) d reads.fits in
-          ap (λ (t : TableRead). ended_with t (reading_of phase before text d))
-          (table-behind (text_ended text).settled d g notes grown is wider within phase options text.pending reads.alone said says place number
-          ∙ ap (λ (t : TableRead). behind_format place number t)
-          (made-same phase options g _ _ text.pending text.pending _ _ _ _ said said refl refl lies.begun
-          (body-more text.settled (behind_joined text.pending text.line ++ newline ∷ []) (all_rows d.format.format) d.rows.elements lies.lies) refl))
+    pub keys-read : reading_of (phase_behind g.place) options (text_ended a.text) (behind g.place)
+        ≡ ended_with (behind_format g.place number front_read) (reading_of a.phase a.options a.text a.kept)
+    keys-read =
+        let more = behind_joined a.text.pending a.text.line ++ newline ∷ [] in
+        let lies = Lies-format a.text.settled more a.kept keys.reads.fits in
+        ap (λ (t : TableRead). ended_with t (reading_of a.phase a.options a.text a.kept))
+        (table-behind (text_ended a.text).settled a.kept g notes grown keys.is keys.wider keys.within a.phase options a.text.pending keys.reads.alone said says g.place number
+        ∙ ap (λ (t : TableRead). behind_format g.place number t)
+        (made-same a.phase options g _ _ a.text.pending a.text.pending _ _ _ _ said said refl refl lies.begun
+        (body-more a.text.settled more (all_rows a.kept.format.format) a.kept.rows.elements lies.lies) refl))

@@ -46,7 +46,7 @@ use Rattle.tbl_table.specs.declared.begun.Begun.TheVariants.{Nothing}
 use Rattle.tbl_table.proofs.DataLies.{lies-laid}
 use Rattle.tbl_table.proofs.LineEnds.{data-reads}
 use Rattle.tbl_table.proofs.RowsPlaced.{rows-have}
-use Rattle.tbl_table.proofs.TableFits.{behind-len}
+use Rattle.tbl_table.proofs.TableFits.{KeysFit-by, behind-len, counted-keys, rooms-by}
 
 -- as many columns as are asked for
 length-widths : (asked : List Asked) (columns : List Column) → length (with_widths asked columns) ≡ length columns
@@ -136,7 +136,7 @@ none-open-by None Kept none closed = absurd (cc)
 none-open-by None (Dropped had_surplus) none closed = absurd (cc)
 none-open-by (Some j) block none closed = absurd (cc)
 
-module _ (l : TblLimits) (phase : Phase) (begun : Begun) (text : KeptText) (d : TableData) (fits : PartsFit l phase begun text d) (is : phase ≡ InData) (none : text.pending ≡ None) (closed : d.open ≡ NoBlock) where
+module _ {l : TblLimits} {phase : Phase} {begun : Begun} {text : KeptText} {d : TableData} (fits : PartsFit l phase begun text d) (is : phase ≡ InData) (none : text.pending ≡ None) (closed : d.open ≡ NoBlock) where
   -- its bytes
   pub settled-is : (n : ℕ) → n ≡ length (text.settled ++ behind_joined text.pending []) → take n (block_of text) ≡ text.settled
   settled-is n n_is =
@@ -148,42 +148,21 @@ module _ (l : TblLimits) (phase : Phase) (begun : Begun) (text : KeptText) (d : 
   some-asked : 0 < length d.format.format.asked
   some-asked =
       let f = d.format.format in
-      let served : d.keys < length (all_rows f) = (data-reads l phase begun text d fits is).fits.served.serves in
+      let served : d.keys < length (all_rows f) = (data-reads fits is).fits.served.serves in
       fits.keys.rows.wide (omega (arith, served, length-append f.earlier f.rows))
 
   -- it passes as one behind a fault
   pub notes-settled : NotesWithin (length text.settled) d.notes.notes
-  notes-settled = (data-reads l phase begun text d fits is).fits.notes
+  notes-settled = (data-reads fits is).fits.notes
 
   pub laid-fits : (rows : KeptRows) (escapes : KeptEscapes) (told : List KeptNote) → NotesWithin (length text.settled) told
       → SameRoom d.rows rows → AllByRecursion (ElementEnds (length text.settled)) rows.elements
       → PartsFit l Bad Nothing text (record d { rows = rows; escapes = escapes; notes = record d.notes { to_tell = told } })
   laid-fits rows escapes told within rooms lies =
       record {
-        rooms = record {
-          text = fits.rooms.text;
-          keys = fits.rooms.keys;
-          asked = fits.rooms.asked;
-          entries = rooms.entries ∙ fits.rooms.entries;
-          elements = rooms.elements ∙ fits.rooms.elements;
-          columns = rooms.columns ∙ fits.rooms.columns;
-          notes = fits.rooms.notes;
-          small = fits.rooms.small;
-          narrow = fits.rooms.narrow;
-          wide = fits.rooms.wide;
-        };
+        rooms = rooms-by fits.rooms rooms.entries rooms.elements rooms.columns refl refl refl;
         bytes = fits.bytes;
-        keys = record {
-          is = refl;
-          few = tt;
-          keys = fits.keys.keys;
-          asked = fits.keys.asked;
-          columns = fits.keys.columns;
-          rows = fits.keys.rows;
-          ended = fits.keys.ended;
-          stands = fits.keys.stands;
-          made = fits.keys.made;
-        };
+        keys = KeysFit-by refl tt (counted-keys fits.keys);
         rows = record {
           entries = omega (arith, ap line_may_tell none);
           elements = omega (arith, none-open-by text.pending d.open none closed);

@@ -1,11 +1,12 @@
 -- The parts of a table whose last line has no newline.
-use Rattle.std.proofs.Common.{◌≡◌, ◌==◌, ℕ, suc, ◌+◌, ◌<◌, ◌≤◌, false, List, [], ◌∷◌, ◌++◌, length, take, drop, Option, Some, None, refl, sym, ap, subst, ◌∙◌, arith, append-nil, length-append, IfSome, unwrap_or}
+use Rattle.std.proofs.Common.{◌≡◌, ◌==◌, ℕ, suc, ◌+◌, ◌<◌, ◌≤◌, false, List, [], ◌∷◌, ◌++◌, length, map, take, drop, Option, Some, None, refl, sym, ap, subst, ◌∙◌, arith, append-nil, length-append, IfSome, unwrap_or}
 use Rattle.std.proofs.lemmas.List.Elements.{All-nil}
 use Rattle.input_source.specs.Bytes.{newline}
 use Rattle.tbl_data.specs.TableData.{FormatFits}
 use Rattle.tbl_data.specs.TableRead.{TableRead, with_notes, RowBegun}
 use Rattle.tbl_data.specs.declared.phase.Phase.{Phase}
 use Rattle.tbl_data.specs.declared.phase.Phase.TheVariants.{Bad, InFormat}
+use Rattle.tbl_data.specs.declared.table_data.OpenBlock.TheVariants.{Nothing as NoBlock}
 use Rattle.tbl_data.specs.declared.table_data.TableData.{TableData}
 use Rattle.tbl_format.specs.Format.{Format, format_read, letters_left_out, no_format}
 use Rattle.tbl_options.specs.Notes.{NotesWithin, told_of_all}
@@ -22,22 +23,24 @@ use Rattle.tbl_kept.specs.Joined.{Joined, behind_joined}
 use Rattle.tbl_kept.specs.Rows.{entries_of}
 use Rattle.tbl_kept.specs.TableNotes.{KeptNotes}
 use Rattle.tbl_kept.specs.TableText.{KeptText, block_of, text_whole}
+use Rattle.tbl_layout.specs.KeptEntries.{content_of}
 use Rattle.tbl_table.specs.Begun.{begun_in}
-use Rattle.tbl_table.specs.Kept.{FormatReads, HasRooms, PartsFit, PhaseFits, TextFits, block_open, data_read, kept_in, row_open}
+use Rattle.tbl_table.specs.Kept.{FormatReads, HasRooms, PartsFit, PhaseFits, TextFits, block_open, data_read, kept_in, row_open, table_of}
 use Rattle.tbl_table.specs.MayTell.{fault_may_come}
 use Rattle.tbl_table.specs.Steps.{fault_noted, head_letters, options_told, phase_at_last}
 use Rattle.tbl_table.specs.Table.{behind_format, closed, closed_line, format_line, head_line, head_place, is_bad, is_bad_phase, left_out_notes, line_in, line_read, notes, with_options}
 use Rattle.tbl_data.specs.DataRead.{closed_block}
 use Rattle.tbl_table.specs.declared.begun.Begun.{Begun}
+use Rattle.tbl_table.specs.declared.table.Table.TheInside.{Inside}
 use Rattle.tbl_table.proofs.BegunLines.{options_end-within}
-use Rattle.tbl_table.proofs.DataGrows.{BadFits-more, FormatFits-more}
+use Rattle.tbl_table.proofs.DataGrows.{BadFits-more, FormatFits-more, none-begun}
 use Rattle.tbl_table.proofs.DataLies.{lies-kept, lies-longer}
-use Rattle.tbl_table.proofs.FormatLines.{IsCounted, KeysFit-start, whole-len}
+use Rattle.tbl_table.proofs.FormatLines.{KeysFit-start, whole-len}
 use Rattle.tbl_table.proofs.NotesKept.{NotesWithin-append, NotesWithin-more, told-more, told_of_letters}
 use Rattle.tbl_table.proofs.OtherLines.{begun-start, begun-none, fault-read, few-none}
-use Rattle.tbl_table.proofs.TableFits.{kept-most}
+use Rattle.tbl_table.proofs.TableFits.{IsCounted, KeysFit-by, counted-keys, counted-longer, kept-most, rooms-by}
 
-module _ (l : TblLimits) (phase : Phase) (begun : Begun) (text : KeptText) (d : TableData) (fits : PartsFit l phase begun text d) where
+module _ {l : TblLimits} {phase : Phase} {begun : Begun} {text : KeptText} {d : TableData} (fits : PartsFit l phase begun text d) where
   pub whole-longer : length text.settled ≤ length (block_of text)
   whole-longer = omega (arith, length-append text.settled (behind_joined text.pending text.line))
 
@@ -49,34 +52,12 @@ module _ (l : TblLimits) (phase : Phase) (begun : Begun) (text : KeptText) (d : 
   whole-bytes room = record {
     few = room;
     most = omega (arith, room);
-    block = omega (arith, whole-len l phase begun text d fits, whole-read, length-append text.settled (behind_joined text.pending text.line), length-append (block_of text) []);
+    block = omega (arith, whole-len fits, whole-read, length-append text.settled (behind_joined text.pending text.line), length-append (block_of text) []);
     one_line = All-nil (λ b. (b == newline) ≡ false);
   }
 
   counted-whole : IsCounted l (length (text_whole text).read) d.format.format
-  counted-whole = record {
-    keys = omega (arith, fits.keys.keys, whole-read);
-    asked = omega (arith, fits.keys.asked, whole-read);
-    columns = fits.keys.columns;
-    rows = fits.keys.rows;
-    ended = fits.keys.ended;
-    stands = fits.keys.stands;
-    made = fits.keys.made;
-  }
-
-  noted-rooms : (noted : KeptNotes) → noted.note_room ≡ d.notes.note_room → HasRooms l text.text_room (record d { notes = noted })
-  noted-rooms noted same = record {
-    text = fits.rooms.text;
-    keys = fits.rooms.keys;
-    asked = fits.rooms.asked;
-    entries = fits.rooms.entries;
-    elements = fits.rooms.elements;
-    columns = fits.rooms.columns;
-    notes = same ∙ fits.rooms.notes;
-    small = fits.rooms.small;
-    narrow = fits.rooms.narrow;
-    wide = fits.rooms.wide;
-  }
+  counted-whole = counted-longer (counted-keys fits.keys) (omega (arith, whole-read))
 
   -- a line of the options or the format
   module _ (reads : FormatReads text.settled text.pending d) (all : (n : ℕ) → kept_in phase n ≡ n) (kept : KeptNotes) (number : ℕ) (room : length (text.read ++ text.line) ≤ l.text) (few : length kept.notes ≤ length text.read + length text.line) (within : NotesWithin (length (block_of text)) kept.notes) (to_tell : NotesWithin (length (block_of text)) kept.to_tell) (same : kept.note_room ≡ d.notes.note_room) where
@@ -90,7 +71,7 @@ module _ (l : TblLimits) (phase : Phase) (begun : Begun) (text : KeptText) (d : 
     noted-fits p noted none rooms less telling by_phase =
         let shut : block_open d.open ≡ 0 = ap block_open reads.fits.closed in
         record {
-          rooms = noted-rooms noted rooms;
+          rooms = rooms-by fits.rooms refl refl refl rooms refl refl;
           bytes = whole-bytes room;
           keys = KeysFit-start l (text_whole text).read p d.format.format counted-whole;
           rows = record {
@@ -125,21 +106,11 @@ module _ (l : TblLimits) (phase : Phase) (begun : Begun) (text : KeptText) (d : 
   -- behind a fault
   pub whole-bad : phase ≡ Bad → length (text.read ++ text.line) ≤ l.text → PartsFit l phase begun (text_whole text) d
   whole-bad is room =
-      let reads = fault-read l phase begun text d fits is in
+      let reads = fault-read fits is in
       record {
         rooms = fits.rooms;
         bytes = whole-bytes room;
-        keys = record {
-          is = begun-start l phase begun text d fits Bad is refl refl;
-          few = few-none l phase begun text d fits (l.columns + 0) (begun-none l phase begun text d fits Bad is refl);
-          keys = omega (arith, fits.keys.keys, whole-read);
-          asked = omega (arith, fits.keys.asked, whole-read);
-          columns = fits.keys.columns;
-          rows = fits.keys.rows;
-          ended = fits.keys.ended;
-          stands = fits.keys.stands;
-          made = fits.keys.made;
-        };
+        keys = KeysFit-by (begun-start fits Bad is refl refl) (few-none fits (l.columns + 0) (begun-none fits Bad is refl)) counted-whole;
         rows = record {
           entries = omega (arith, fits.rows.entries, whole-read);
           elements = omega (arith, fits.rows.elements, whole-read, ap (λ (p : Option Joined). row_open p d.open) reads.alone);
@@ -178,6 +149,9 @@ done-block (Some row) t none = absurd (cc)
 pub record IsDone (t : TableRead) : Type 0 where
   pub alone : t.pending ≡ None
   pub closed : t.begun ≡ None
+
+pub done-by : (a : Inside) → a.text.pending ≡ None → a.kept.open ≡ NoBlock → IsDone (table_of a.phase a.options a.text a.kept)
+done-by a alone closed = record { alone = alone; closed = none-begun a.kept.open (map (content_of a.text.settled) a.kept.rows.row) closed }
 
 pub closed-same : (t : TableRead) → IsDone t → closed t ≡ t
 unfolding closed

@@ -19,7 +19,6 @@ use Rattle.tbl_options.specs.Notes.{NotesWithin, told_of_all}
 use Rattle.tbl_format.specs.RowsServed.{all_rows, row_at}
 use Rattle.tbl_format.specs.declared.limits.TblLimits.{TblLimits}
 use Rattle.tbl_options.specs.declared.notes.KeptNote.{KeptNote}
-use Rattle.tbl_options.specs.declared.options.Options.{Options}
 use Rattle.tbl_format.proofs.FormatReading.{keys_of-append}
 use Rattle.tbl_kept.specs.Joined.{Joined, behind_joined, ends_joined}
 use Rattle.tbl_kept.specs.Rows.{element_of, entries_of}
@@ -32,26 +31,29 @@ use Rattle.tbl_table.specs.Kept.{DataReads, HasRooms, PartsFit, PhaseFits, block
 use Rattle.tbl_table.specs.MayTell.{fault_may_come, line_may_tell}
 use Rattle.tbl_table.specs.Steps.{ended_with}
 use Rattle.tbl_table.specs.declared.begun.Begun.{Begun}
+use Rattle.tbl_table.specs.declared.table.Table.TheInside.{Inside}
 use Rattle.tbl_table.proofs.DataGrows.{DataFits-more, Lies-behind, Lies-data, behind-more, table-more}
 use Rattle.tbl_table.proofs.DataLies.{fields-kept, lies-kept, lies-longer}
-use Rattle.tbl_table.proofs.FormatLines.{IsCounted, KeysFit-start, text-ends}
+use Rattle.tbl_table.proofs.FormatLines.{KeysFit-start, longer-settled, text-ends}
 use Rattle.tbl_table.proofs.NotesKept.{NotesWithin-more, told-longer}
-use Rattle.tbl_table.proofs.TableFits.{ended-read, kept-most}
+use Rattle.tbl_table.proofs.TableFits.{IsCounted, counted-keys, counted-longer, ended-read, kept-most, rooms-same}
 use Rattle.tbl_table.proofs.WholeLines.{Makes, makes-whole, one_begun}
 
--- what a whole line has made of what is kept, which lies there in the bytes
-pub record Taken (text : KeptText) (separator from to number : ℕ) (p : Phase) (old new : TableData) : Type 0 where
-  pub table : (options : Options) → options.separator ≡ separator
-      → table_by p options (block_of text) new
-      ≡ with_whole (begun_by old.open (map (content_of (block_of text)) old.rows.row)) (ends_joined text.pending) number (slice_range (block_of text) from to)
-      (table_by InData options (block_of text) old)
-  pub fits : FitsBehind p (block_of text) new
+-- a whole line that is taken, and what it has made of what is kept
+pub record LineTaken (a : Inside) (from to number : ℕ) (p : Phase) (new : TableData) : Type 0 where
+  pub fits : PartsFit a.limits a.phase a.begun a.text a.kept
+  pub is : a.phase ≡ InData
+  pub from_is : from ≡ length a.text.settled
+  pub table : table_by p a.options (block_of a.text) new
+      ≡ with_whole (begun_by a.kept.open (map (content_of (block_of a.text)) a.kept.rows.row)) (ends_joined a.text.pending) number (slice_range (block_of a.text) from to)
+      (table_by InData a.options (block_of a.text) a.kept)
+  pub behind : FitsBehind p (block_of a.text) new
   pub ends : OpenEndsAt to new.open new.rows.row
   pub settled : EndsBy to new
-  pub entries : entries_of new.rows ≤ entries_of old.rows + (to - from) + 1
-  pub notes : length new.notes.notes ≤ length old.notes.notes + (to - from) + 1
-  pub to_tell : new.notes.to_tell ≡ old.notes.to_tell
-  pub rooms : SameRooms old new
+  pub entries : entries_of new.rows ≤ entries_of a.kept.rows + (to - from) + 1
+  pub notes : length new.notes.notes ≤ length a.kept.notes.notes + (to - from) + 1
+  pub to_tell : new.notes.to_tell ≡ a.kept.notes.to_tell
+  pub rooms : SameRooms a.kept new
 
 -- a line lies at the end of what is done
 pub slice-last : (settled line more : List ℕ) → slice_range (settled ++ (line ++ more)) (length settled) (length settled + length line) ≡ line
@@ -138,7 +140,7 @@ phase-fits InFormat bytes d fits lies behind = record { alone = refl; fits = fit
 phase-fits InData bytes d fits lies behind = record { fits = fits; behind = behind }
 phase-fits Bad bytes d fits lies behind = record { alone = refl; lies = lies; fits = fits }
 
-module _ (l : TblLimits) (phase : Phase) (begun : Begun) (text : KeptText) (d : TableData) (fits : PartsFit l phase begun text d) (is : phase ≡ InData) where
+module _ {l : TblLimits} {phase : Phase} {begun : Begun} {text : KeptText} {d : TableData} (fits : PartsFit l phase begun text d) (is : phase ≡ InData) where
   pub data-reads : DataReads text.settled d
   data-reads = subst (λ (p : Phase). PhaseFits p text.settled text.pending d) is fits.by_phase
 
@@ -165,10 +167,6 @@ module _ (l : TblLimits) (phase : Phase) (begun : Begun) (text : KeptText) (d : 
     notes = data-reads.fits.notes;
   }
 
-  pub few-formats : length (all_rows d.format.format) < 4294967296
-  few-formats =
-      omega (arith, fits.keys.rows.few, fits.keys.keys, fits.bytes.few, fits.rooms.small, length-append d.format.format.earlier d.format.format.rows)
-
   pub block-len : length (block_of text) ≡ length text.settled + length (behind_joined text.pending text.line)
   block-len = length-append text.settled (behind_joined text.pending text.line)
 
@@ -179,120 +177,97 @@ module _ (l : TblLimits) (phase : Phase) (begun : Begun) (text : KeptText) (d : 
       ∙ ap (λ (xs : List ℕ). slice_range (text.settled ++ xs) (length text.settled) (length text.settled + length whole)) (sym (append-nil whole))
       ∙ slice-last text.settled whole []
 
-  pub take-counted : IsCounted l (length text.read) d.format.format
-  take-counted = record {
-    keys = fits.keys.keys;
-    asked = fits.keys.asked;
-    columns = fits.keys.columns;
-    rows = fits.keys.rows;
-    ended = fits.keys.ended;
-    stands = fits.keys.stands;
-    made = fits.keys.made;
-  }
+-- the line is done
+module _ {a : Inside} {from to number : ℕ} {p : Phase} {new : TableData} (line : LineTaken a from to number p new) where
+  -- the table behind it, in all bytes
+  pub table-taken : table_by p a.options (block_of a.text) new
+      ≡ whole_line (ends_joined a.text.pending) number (slice_range (block_of a.text) from to) (table_of a.phase a.options a.text a.kept)
+  table-taken =
+      let made = whole_line (ends_joined a.text.pending) number (slice_range (block_of a.text) from to) in
+      let more = behind_joined a.text.pending a.text.line in
+      line.table
+      ∙ ap made (table-more a.text.settled more a.kept InData a.options (Lies-data a.text.settled more a.kept (data-reads line.fits line.is).fits))
+      ∙ ap (λ (q : Phase). made (table_by q a.options a.text.settled a.kept)) (sym line.is)
 
-  -- the line is done
-  module _ (options : Options) (from to number : ℕ) (p : Phase) (new : TableData) (taken : Taken text options.separator from to number p d new) where
-    -- the table behind it, in all bytes
-    pub table-taken : table_by p options (block_of text) new
-        ≡ whole_line (ends_joined text.pending) number (slice_range (block_of text) from to) (table_of phase options text d)
-    table-taken =
-        taken.table options refl
-        ∙ ap (λ (t : TableRead). whole_line (ends_joined text.pending) number (slice_range (block_of text) from to) t)
-        (table-more text.settled (behind_joined text.pending text.line) d InData options
-        (Lies-data text.settled (behind_joined text.pending text.line) d data-reads.fits))
-        ∙ ap (λ (q : Phase). whole_line (ends_joined text.pending) number (slice_range (block_of text) from to) (table_by q options text.settled d)) (sym is)
+  makes-taken : Makes (table_of a.phase a.options a.text a.kept) (table_by p a.options (block_of a.text) new)
+  makes-taken =
+      subst (Makes (table_of a.phase a.options a.text a.kept)) (sym table-taken)
+      (makes-whole (ends_joined a.text.pending) number (slice_range (block_of a.text) from to) (table_of a.phase a.options a.text a.kept))
 
-    makes-taken : Makes (table_of phase options text d) (table_by p options (block_of text) new)
-    makes-taken =
-        subst (λ (u : TableRead). Makes (table_of phase options text d) u) (sym table-taken)
-        (makes-whole (ends_joined text.pending) number (slice_range (block_of text) from to) (table_of phase options text d))
+  pub new-counted : (len : ℕ) → length a.text.read ≤ len → IsCounted a.limits len new.format.format
+  new-counted len more =
+      counted-by a.limits len a.kept.format.format new.format.format
+      (counted-longer (counted-keys line.fits.keys) more) makes-taken.format
 
-    pub new-counted : (len : ℕ) → length text.read ≤ len → IsCounted l len new.format.format
-    new-counted len more =
-        counted-by l len d.format.format new.format.format
-        (record {
-          keys = omega (arith, take-counted.keys, more);
-          asked = omega (arith, take-counted.asked, more);
-          columns = take-counted.columns;
-          rows = take-counted.rows;
-          ended = take-counted.ended;
-          stands = take-counted.stands;
-          made = take-counted.made;
-        }) makes-taken.format
+  pub new-elements : length new.rows.elements + block_open new.open ≤ length a.kept.rows.elements + 1
+  new-elements =
+      omega (
+        arith,
+        makes-taken.few,
+        length-map new.rows.elements (element_of (block_of a.text) (all_rows new.format.format)),
+        length-map a.kept.rows.elements (element_of a.text.settled (all_rows a.kept.format.format)),
+        begun-open new.open (map (content_of (block_of a.text)) new.rows.row),
+      )
 
-    pub new-elements : length new.rows.elements + block_open new.open ≤ length d.rows.elements + 1
-    new-elements =
-        omega (
-          arith,
-          makes-taken.few,
-          length-map new.rows.elements (element_of (block_of text) (all_rows new.format.format)),
-          length-map d.rows.elements (element_of text.settled (all_rows d.format.format)),
-          begun-open new.open (map (content_of (block_of text)) new.rows.row),
-        )
+  pub new-rooms : HasRooms a.limits a.text.text_room new
+  new-rooms = rooms-same line.rooms line.fits.rooms
 
-    pub new-rooms : HasRooms l text.text_room new
-    new-rooms = record {
-      text = fits.rooms.text;
-      keys = taken.rooms.keys ∙ fits.rooms.keys;
-      asked = taken.rooms.asked ∙ fits.rooms.asked;
-      entries = taken.rooms.entries ∙ fits.rooms.entries;
-      elements = taken.rooms.elements ∙ fits.rooms.elements;
-      columns = taken.rooms.columns ∙ fits.rooms.columns;
-      notes = taken.rooms.notes ∙ fits.rooms.notes;
-      small = fits.rooms.small;
-      narrow = fits.rooms.narrow;
-      wide = fits.rooms.wide;
-    }
+  -- its newline comes
+  module _ (to_is : to ≡ length (block_of a.text)) (room : length (a.text.read ++ a.text.line) < a.limits.text) where
+    line-len : to - from ≡ length (behind_joined a.text.pending a.text.line)
+    line-len = omega (arith, line.from_is, to_is, block-len line.fits line.is)
 
-    -- its newline comes
-    module _ (from_is : from ≡ length text.settled) (to_is : to ≡ length (block_of text)) (room : length (text.read ++ text.line) < l.text) where
-      line-len : to - from ≡ length (behind_joined text.pending text.line)
-      line-len = omega (arith, from_is, to_is, block-len)
+    same-bytes : (text_ended a.text).settled ≡ block_of a.text ++ newline ∷ []
+    same-bytes = sym (append_assoc a.text.settled (behind_joined a.text.pending a.text.line) (newline ∷ []))
 
-      same-bytes : (text_ended text).settled ≡ block_of text ++ newline ∷ []
-      same-bytes = sym (append_assoc text.settled (behind_joined text.pending text.line) (newline ∷ []))
+    ends-block : EndsBy (length (block_of a.text)) new
+    ends-block = subst (λ (n : ℕ). EndsBy n new) to_is line.settled
 
-      ends-block : EndsBy (length (block_of text)) new
-      ends-block = subst (λ (n : ℕ). EndsBy n new) to_is taken.settled
+    lies-new : AllByRecursion (ElementEnds (length (block_of a.text ++ newline ∷ []))) new.rows.elements
+    lies-new =
+        lies-longer (length (block_of a.text)) (length (block_of a.text ++ newline ∷ [])) new.rows.elements
+        (omega (arith, length-append (block_of a.text) (newline ∷ []))) ends-block.elements
 
-      lies-new : AllByRecursion (ElementEnds (length (block_of text ++ newline ∷ []))) new.rows.elements
-      lies-new = lies-longer (length (block_of text)) (length (block_of text ++ newline ∷ [])) new.rows.elements (omega (arith, length-append (block_of text) (newline ∷ []))) ends-block.elements
+    end-phase : PhaseFits p (block_of a.text ++ newline ∷ []) None new
+    end-phase =
+        phase-fits p (block_of a.text ++ newline ∷ []) new (behind-more (block_of a.text) (newline ∷ []) new p line.behind) lies-new
+        (behind-ends (block_of a.text) to new.open new.rows.row to_is line.ends)
 
-      end-phase : PhaseFits p (block_of text ++ newline ∷ []) None new
-      end-phase =
-          phase-fits p (block_of text ++ newline ∷ []) new (behind-more (block_of text) (newline ∷ []) new p taken.fits) lies-new
-          (behind-ends (block_of text) to new.open new.rows.row to_is taken.ends)
+    pub end-fits : PartsFit a.limits p (begun_in p new.format.format []) (text_ended a.text) new
+    end-fits =
+        let fits = line.fits in
+        let all = all-kept fits line.is in
+        let read = ended-read a.text in
+        let one = one-read fits line.is in
+        record {
+          rooms = new-rooms;
+          bytes = text-ends fits room;
+          keys = KeysFit-start a.limits (text_ended a.text).read p new.format.format (new-counted (length (text_ended a.text).read) (omega (arith, read)));
+          rows = record {
+            entries = omega (arith, kept-most p (entries_of new.rows), all (entries_of a.kept.rows), line.entries, line-len, fits.rows.entries, one, read-most p, whole-most a.text.pending a.text.line, read);
+            elements = omega (arith, kept-most p (length new.rows.elements), all (length a.kept.rows.elements), new-elements, fits.rows.elements, one, read-most p, read);
+          };
+          messages = record {
+            few = omega (arith, line.notes, line-len, fits.messages.few, one-fault fits line.is, fault-most p, whole-most a.text.pending a.text.line, read);
+            telling =
+                subst (λ (ns : List KeptNote). NotesWithin (length (text_ended a.text).settled) ns) (sym line.to_tell)
+                (NotesWithin-more (length a.text.settled) (length (text_ended a.text).settled) a.kept.notes.to_tell (longer-settled fits) fits.messages.telling);
+          };
+          by_phase = subst (λ (bytes : List ℕ). PhaseFits p bytes None new) (sym same-bytes) end-phase;
+        }
 
-      pub end-fits : PartsFit l p (begun_in p new.format.format []) (text_ended text) new
-      end-fits = record {
-        rooms = new-rooms;
-        bytes = text-ends l phase begun text d fits room;
-        keys = KeysFit-start l (text_ended text).read p new.format.format (new-counted (length (text_ended text).read) (omega (arith, ended-read text)));
-        rows = record {
-          entries = omega (arith, kept-most p (entries_of new.rows), all-kept (entries_of d.rows), taken.entries, line-len, fits.rows.entries, one-read, read-most p, whole-most text.pending text.line, ended-read text);
-          elements = omega (arith, kept-most p (length new.rows.elements), all-kept (length d.rows.elements), new-elements, fits.rows.elements, one-read, read-most p, ended-read text);
-        };
-        messages = record {
-          few = omega (arith, taken.notes, line-len, fits.messages.few, one-fault, fault-most p, whole-most text.pending text.line, ended-read text);
-          telling =
-              subst (λ (ns : List KeptNote). NotesWithin (length (text_ended text).settled) ns) (sym taken.to_tell)
-              (NotesWithin-more (length text.settled) (length (text_ended text).settled) d.notes.to_tell
-              (omega (arith, length-append text.settled (behind_joined text.pending text.line ++ newline ∷ []))) fits.messages.telling);
-        };
-        by_phase = subst (λ (bytes : List ℕ). PhaseFits p bytes None new) (sym same-bytes) end-phase;
-      }
+    pub end-read : reading_of p a.options (text_ended a.text) new
+        ≡ ended_with (whole_line (ends_joined a.text.pending) number (behind_joined a.text.pending a.text.line) (table_of a.phase a.options a.text a.kept))
+        (reading_of a.phase a.options a.text a.kept)
+    end-read =
+        ap (λ (t : TableRead). ended_with t (reading_of a.phase a.options a.text a.kept))
+        (ap (λ (bytes : List ℕ). table_by p a.options bytes new) same-bytes
+        ∙ table-more (block_of a.text) (newline ∷ []) new p a.options (Lies-behind (block_of a.text) (newline ∷ []) new p line.behind ends-block.elements)
+        ∙ table-taken
+        ∙ ap (λ (bytes : List ℕ). whole_line (ends_joined a.text.pending) number bytes (table_of a.phase a.options a.text a.kept))
+        (ap (λ (n : ℕ). slice_range (block_of a.text) n to) line.from_is ∙ block-line line.fits line.is to to_is))
 
-      pub end-read : reading_of p options (text_ended text) new
-          ≡ ended_with (whole_line (ends_joined text.pending) number (behind_joined text.pending text.line) (table_of phase options text d)) (reading_of phase options text d)
-      end-read =
-          ap (λ (t : TableRead). ended_with t (reading_of phase options text d))
-          (ap (λ (bytes : List ℕ). table_by p options bytes new) same-bytes
-          ∙ table-more (block_of text) (newline ∷ []) new p options (Lies-behind (block_of text) (newline ∷ []) new p taken.fits ends-block.elements)
-          ∙ table-taken
-          ∙ ap (λ (line : List ℕ). whole_line (ends_joined text.pending) number line (table_of phase options text d))
-          (ap (λ (n : ℕ). slice_range (block_of text) n to) from_is ∙ block-line to to_is))
-
-      pub end-told : told_of_all (text_ended text).settled new.notes.to_tell ≡ told_of_all text.settled d.notes.to_tell
-      end-told =
-          ap (λ (ns : List KeptNote). told_of_all (text_ended text).settled ns) taken.to_tell
-          ∙ told-longer text.settled (behind_joined text.pending text.line ++ newline ∷ []) d.notes.to_tell fits.messages.telling
+    pub end-told : told_of_all (text_ended a.text).settled new.notes.to_tell ≡ told_of_all a.text.settled a.kept.notes.to_tell
+    end-told =
+        ap (λ (ns : List KeptNote). told_of_all (text_ended a.text).settled ns) line.to_tell
+        ∙ told-longer a.text.settled (behind_joined a.text.pending a.text.line ++ newline ∷ []) a.kept.notes.to_tell line.fits.messages.telling

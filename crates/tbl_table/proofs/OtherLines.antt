@@ -23,7 +23,7 @@ use Rattle.tbl_table.proofs.DataLies.{lies-longer}
 use Rattle.tbl_table.proofs.FormatLines.{longer-settled, text-ends}
 use Rattle.tbl_table.proofs.LineEnds.{data-reads}
 use Rattle.tbl_table.proofs.NotesKept.{NotesWithin-more}
-use Rattle.tbl_table.proofs.TableFits.{behind-len, ended-read}
+use Rattle.tbl_table.proofs.TableFits.{KeysFit-by, behind-len, counted-keys, counted-longer, ended-read}
 
 -- a joined line but its last byte
 pub joined-cut : (pending : Option Joined) (line : List ℕ) → 0 < length line
@@ -39,7 +39,7 @@ may-tell-less None line some = omega (arith, some, length-take (length line - 1)
 may-tell-less (Some j) line some =
     omega (arith, some, length-take (length line - 1) line, length-append j.bytes (take (length line - 1) line))
 
-module _ (l : TblLimits) (phase : Phase) (begun : Begun) (text : KeptText) (d : TableData) (fits : PartsFit l phase begun text d) where
+module _ {l : TblLimits} {phase : Phase} {begun : Begun} {text : KeptText} {d : TableData} (fits : PartsFit l phase begun text d) where
   pub fault-read : phase ≡ Bad → FaultRead text.settled text.pending d
   fault-read is = subst (λ (p : Phase). PhaseFits p text.settled text.pending d) is fits.by_phase
 
@@ -58,21 +58,11 @@ module _ (l : TblLimits) (phase : Phase) (begun : Begun) (text : KeptText) (d : 
   bad-fits is room =
       let reads = fault-read is in
       let more = behind_joined text.pending text.line ++ newline ∷ [] in
-      let longer = longer-settled l phase begun text d fits in
+      let longer = longer-settled fits in
       record {
         rooms = fits.rooms;
-        bytes = text-ends l phase begun text d fits room;
-        keys = record {
-          is = begun-start Bad is refl refl;
-          few = few-none (l.columns + 0) (begun-none Bad is refl);
-          keys = omega (arith, fits.keys.keys, ended-read text);
-          asked = omega (arith, fits.keys.asked, ended-read text);
-          columns = fits.keys.columns;
-          rows = fits.keys.rows;
-          ended = fits.keys.ended;
-          stands = fits.keys.stands;
-          made = fits.keys.made;
-        };
+        bytes = text-ends fits room;
+        keys = KeysFit-by (begun-start Bad is refl refl) (few-none (l.columns + 0) (begun-none Bad is refl)) (counted-longer (counted-keys fits.keys) (omega (arith, ended-read text)));
         rows = record {
           entries = omega (arith, fits.rows.entries, ended-read text);
           elements = omega (arith, fits.rows.elements, ended-read text, ap (λ (p : Option Joined). row_open p d.open) reads.alone);
@@ -103,7 +93,7 @@ module _ (l : TblLimits) (phase : Phase) (begun : Begun) (text : KeptText) (d : 
   pub join-fits : phase ≡ InData → (number : ℕ) → 0 < length text.line → length (text.read ++ text.line) < l.text
       → PartsFit l phase begun (text_joined number text) d
   join-fits is number some room =
-      let reads = data-reads l phase begun text d fits is in
+      let reads = data-reads fits is in
       let bytes = behind_joined text.pending (take (length text.line - 1) text.line) in
       let few = may-tell-less text.pending text.line some in
       record {
@@ -116,17 +106,7 @@ module _ (l : TblLimits) (phase : Phase) (begun : Begun) (text : KeptText) (d : 
               subst (λ (xs : List ℕ). All (λ b. (b == newline) ≡ false) xs) (joined-cut text.pending text.line some ∙ sym (append-nil bytes))
               (All-take (λ b. (b == newline) ≡ false) (length (behind_joined text.pending text.line) - 1) (behind_joined text.pending text.line) fits.bytes.one_line);
         };
-        keys = record {
-          is = begun-start InData is refl refl;
-          few = few-none (l.columns + 0) (begun-none InData is refl);
-          keys = omega (arith, fits.keys.keys, ended-read text);
-          asked = omega (arith, fits.keys.asked, ended-read text);
-          columns = fits.keys.columns;
-          rows = fits.keys.rows;
-          ended = fits.keys.ended;
-          stands = fits.keys.stands;
-          made = fits.keys.made;
-        };
+        keys = KeysFit-by (begun-start InData is refl refl) (few-none (l.columns + 0) (begun-none InData is refl)) (counted-longer (counted-keys fits.keys) (omega (arith, ended-read text)));
         rows = record {
           entries = omega (arith, fits.rows.entries, few, ended-read text);
           elements = omega (arith, fits.rows.elements, ended-read text);

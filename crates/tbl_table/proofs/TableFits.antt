@@ -3,12 +3,13 @@ use Rattle.std.proofs.Common.{◌≡◌, ◌==◌, ℕ, ◌+◌, ◌-◌, ◌<�
 use Rattle.std.proofs.lemmas.List.Elements.{All-append, All-nil}
 use Rattle.input_escapes.specs.EscapeTexts.{KeptEscapes}
 use Rattle.input_source.specs.Bytes.{newline}
-use Rattle.tbl_data.specs.TableData.{FormatFits}
+use Rattle.tbl_data.specs.TableData.{FormatFits, SameRooms}
 use Rattle.tbl_data.specs.declared.phase.Phase.{Phase}
 use Rattle.tbl_data.specs.declared.phase.Phase.TheVariants.{AtHead, Bad, InData, InFormat}
 use Rattle.tbl_data.specs.declared.table_data.TableData.{TableData}
 use Rattle.tbl_format.specs.Format.{Format, columns_of_keys}
-use Rattle.tbl_format.specs.FormatLaws.{NoByte}
+use Rattle.tbl_format.specs.FormatLaws.{IsRead, NoByte}
+use Rattle.tbl_format.specs.FormatRows.{key_count}
 use Rattle.tbl_format.specs.KeyCounts.{StandsOnLine}
 use Rattle.tbl_options.specs.Notes.{NotesWithin}
 use Rattle.tbl_format.specs.RowsServed.{all_rows}
@@ -20,7 +21,7 @@ use Rattle.tbl_kept.specs.Joined.{Joined, behind_joined}
 use Rattle.tbl_kept.specs.TableText.{KeptText, no_text, text_ended}
 use Rattle.tbl_kept.proofs.RowsKeeping.{RowBegunKept-first, RowsKept-none}
 use Rattle.tbl_table.specs.Begun.{FewKeys, begun_in}
-use Rattle.tbl_table.specs.Kept.{FormatReads, HasRooms, PartsFit, PhaseFits, kept_in}
+use Rattle.tbl_table.specs.Kept.{EndFits, FormatReads, HasKeys, HasRooms, KeysFit, PartsFit, PhaseFits, kept_in}
 use Rattle.tbl_table.specs.MayTell.{fault_may_come}
 use Rattle.tbl_table.specs.Steps.{data_refused, emptied, is_front}
 use Rattle.tbl_table.specs.declared.begun.Begun.{Begun}
@@ -86,6 +87,72 @@ pub behind-append : (pending : Option Joined) (line more : List ℕ) → behind_
 behind-append None line more = refl
 behind-append (Some j) line more = sym (append_assoc j.bytes line more)
 
+-- what the format is, where all of it is counted
+pub record IsCounted (l : TblLimits) (len : ℕ) (g : Format) : Type 0 where
+  pub keys : key_count g ≤ len
+  pub asked : length g.asked ≤ len
+  pub columns : length g.asked ≤ l.columns
+  pub rows : HasKeys g
+  pub ended : EndFits g.place g
+  pub stands : StandsOnLine 0 g.place
+  pub made : IsRead g
+
+pub counted-longer : {l : TblLimits} {len more : ℕ} {g : Format} → IsCounted l len g → len ≤ more → IsCounted l more g
+counted-longer is less = record {
+  keys = omega (arith, less, is.keys);
+  asked = omega (arith, less, is.asked);
+  columns = is.columns;
+  rows = is.rows;
+  ended = is.ended;
+  stands = is.stands;
+  made = is.made;
+}
+
+pub counted-keys : {l : TblLimits} {read line : List ℕ} {phase : Phase} {begun : Begun} {f : Format} → KeysFit l read line phase begun f → IsCounted l (length read) f
+counted-keys fits = record {
+  keys = fits.keys;
+  asked = fits.asked;
+  columns = fits.columns;
+  rows = fits.rows;
+  ended = fits.ended;
+  stands = fits.stands;
+  made = fits.made;
+}
+
+pub KeysFit-by : {l : TblLimits} {read line : List ℕ} {phase : Phase} {begun : Begun} {f : Format} → begun ≡ begun_in phase f line
+    → FewKeys (l.columns + length line) (length line) begun → IsCounted l (length read) f → KeysFit l read line phase begun f
+KeysFit-by is few counted = record {
+  is = is;
+  few = few;
+  keys = counted.keys;
+  asked = counted.asked;
+  columns = counted.columns;
+  rows = counted.rows;
+  ended = counted.ended;
+  stands = counted.stands;
+  made = counted.made;
+}
+
+-- the rooms stay
+pub rooms-by : {l : TblLimits} {room : ℕ} {old new : TableData} → HasRooms l room old → new.rows.entry_room ≡ old.rows.entry_room
+    → new.rows.element_room ≡ old.rows.element_room → new.rows.column_room ≡ old.rows.column_room → new.notes.note_room ≡ old.notes.note_room
+    → new.format.key_room ≡ old.format.key_room → new.format.column_room ≡ old.format.column_room → HasRooms l room new
+rooms-by rooms entries elements columns notes keys asked = record {
+  text = rooms.text;
+  keys = keys ∙ rooms.keys;
+  asked = asked ∙ rooms.asked;
+  entries = entries ∙ rooms.entries;
+  elements = elements ∙ rooms.elements;
+  columns = columns ∙ rooms.columns;
+  notes = notes ∙ rooms.notes;
+  small = rooms.small;
+  narrow = rooms.narrow;
+  wide = rooms.wide;
+}
+
+pub rooms-same : {l : TblLimits} {room : ℕ} {old new : TableData} → SameRooms old new → HasRooms l room old → HasRooms l room new
+rooms-same same rooms = rooms-by rooms same.entries same.elements same.columns same.notes same.keys same.asked
+
 -- where options or a format are read
 pub front-reads : (phase : Phase) (settled : List ℕ) (pending : Option Joined) (d : TableData) → is_front phase ≡ true → PhaseFits phase settled pending d
     → FormatReads settled pending d
@@ -141,26 +208,12 @@ head-untold : (phase : Phase) (settled : List ℕ) (pending : Option Joined) (d 
 head-untold phase settled pending d fits is =
     let nothing = subst (λ (p : Phase). PhaseFits p settled pending d) is fits in (nothing.no_notes, nothing.untold)
 
-module _ (l : TblLimits) (phase : Phase) (begun : Begun) (text : KeptText) (d : TableData) (fits : PartsFit l phase begun text d) where
-  telling-rooms : (to_tell : List KeptNote) (escapes : KeptEscapes) → HasRooms l text.text_room (telling to_tell escapes d)
-  telling-rooms to_tell escapes = record {
-    text = fits.rooms.text;
-    keys = fits.rooms.keys;
-    asked = fits.rooms.asked;
-    entries = fits.rooms.entries;
-    elements = fits.rooms.elements;
-    columns = fits.rooms.columns;
-    notes = fits.rooms.notes;
-    small = fits.rooms.small;
-    narrow = fits.rooms.narrow;
-    wide = fits.rooms.wide;
-  }
-
+module _ {l : TblLimits} {phase : Phase} {begun : Begun} {text : KeptText} {d : TableData} (fits : PartsFit l phase begun text d) where
   -- some messages are to tell
   telling-fits : (to_tell : List KeptNote) (escapes : KeptEscapes) → NotesWithin (length text.settled) to_tell → (phase ≡ AtHead → to_tell ≡ [])
       → PartsFit l phase begun text (telling to_tell escapes d)
   telling-fits to_tell escapes within none = record {
-    rooms = telling-rooms to_tell escapes;
+    rooms = rooms-by fits.rooms refl refl refl refl refl refl;
     bytes = fits.bytes;
     keys = fits.keys;
     rows = record { entries = fits.rows.entries; elements = fits.rows.elements };
@@ -183,6 +236,11 @@ module _ (l : TblLimits) (phase : Phase) (begun : Begun) (text : KeptText) (d : 
   pub few-bytes : length text.line < 4611686018427387904
   few-bytes = omega (arith, fits.bytes.most, fits.rooms.small)
 
+  -- few rows are counted
+  pub few-formats : length (all_rows d.format.format) < 4294967296
+  few-formats =
+      omega (arith, fits.keys.rows.few, fits.keys.keys, fits.bytes.few, fits.rooms.small, length-append d.format.format.earlier d.format.format.rows)
+
   -- more bytes of the line
   pub push-fits : (more : List ℕ) (new : Begun) → length (text.read ++ text.line) + length more ≤ l.text + 4 → All (λ b. (b == newline) ≡ false) more
       → new ≡ begun_in phase d.format.format (text.line ++ more) → FewKeys (l.columns + length text.line + length more) (length text.line + length more) new
@@ -199,19 +257,9 @@ module _ (l : TblLimits) (phase : Phase) (begun : Begun) (text : KeptText) (d : 
               subst (λ (bytes : List ℕ). All (λ b. (b == newline) ≡ false) bytes) (sym (behind-append text.pending text.line more))
               (All-append (λ b. (b == newline) ≡ false) (behind_joined text.pending text.line) more fits.bytes.one_line none);
         };
-        keys = record {
-          is = is;
-          few =
-              FewKeys-more (l.columns + length text.line + length more) (l.columns + length (text.line ++ more)) (length text.line + length more) (length (text.line ++ more)) new
-              (omega (arith, longer)) (omega (arith, longer)) few;
-          keys = fits.keys.keys;
-          asked = fits.keys.asked;
-          columns = fits.keys.columns;
-          rows = fits.keys.rows;
-          ended = fits.keys.ended;
-          stands = fits.keys.stands;
-          made = fits.keys.made;
-        };
+        keys = KeysFit-by is
+            (FewKeys-more (l.columns + length text.line + length more) (l.columns + length (text.line ++ more)) (length text.line + length more) (length (text.line ++ more)) new
+            (omega (arith, longer)) (omega (arith, longer)) few) (counted-keys fits.keys);
         rows = fits.rows;
         messages = fits.messages;
         by_phase = fits.by_phase;
@@ -239,30 +287,9 @@ module _ (l : TblLimits) (phase : Phase) (begun : Begun) (text : KeptText) (d : 
       let note : KeptNote = record { line = number; cause = BadFormat } in
       let within = NotesWithin-append (length text.settled) d.notes.notes note tt reads.fits.notes in
       record {
-        rooms = record {
-          text = fits.rooms.text;
-          keys = fits.rooms.keys;
-          asked = fits.rooms.asked;
-          entries = fits.rooms.entries;
-          elements = fits.rooms.elements;
-          columns = fits.rooms.columns;
-          notes = fits.rooms.notes;
-          small = fits.rooms.small;
-          narrow = fits.rooms.narrow;
-          wide = fits.rooms.wide;
-        };
+        rooms = rooms-by fits.rooms refl refl refl refl refl refl;
         bytes = fits.bytes;
-        keys = record {
-          is = refl;
-          few = tt;
-          keys = fits.keys.keys;
-          asked = fits.keys.asked;
-          columns = fits.keys.columns;
-          rows = fits.keys.rows;
-          ended = fits.keys.ended;
-          stands = fits.keys.stands;
-          made = fits.keys.made;
-        };
+        keys = KeysFit-by refl tt (counted-keys fits.keys);
         rows = record { entries = omega (arith, fits.rows.entries); elements = omega (arith, fits.rows.elements) };
         messages = record {
           few = omega (arith, fits.messages.few, front-fault phase front, length-append d.notes.notes (note ∷ []));

@@ -1,5 +1,5 @@
 -- The first line of a table.
-use Rattle.std.proofs.Common.{◌≡◌, ℕ, suc, ◌+◌, ◌-◌, ◌<◌, ◌≤◌, false, List, [], ◌∷◌, ◌++◌, length, map, take, drop, fold, Option, Some, None, refl, sym, ap, subst, ◌∙◌, arith, append-nil, length-drop, IfSome, unwrap_or}
+use Rattle.std.proofs.Common.{◌≡◌, ℕ, suc, ◌+◌, ◌-◌, ◌<◌, ◌≤◌, false, List, [], ◌∷◌, ◌++◌, length, map, take, drop, fold, Option, Some, None, refl, sym, ap, subst, ◌∙◌, arith, append-nil, length-append, length-drop, IfSome, unwrap_or}
 use Rattle.std.specs.List.{slice_range}
 use Rattle.std.proofs.lemmas.List.{drop-append-le, take-append-le}
 use Rattle.input_source.specs.Bytes.{newline}
@@ -33,9 +33,10 @@ use Rattle.tbl_table.specs.declared.begun.Begun.{Begun}
 use Rattle.tbl_table.specs.declared.begun.Begun.TheVariants.{Front}
 use Rattle.tbl_table.proofs.BegunLines.{columns-some, columns-whole, newline-goes_on}
 use Rattle.tbl_table.proofs.FormatEnds.{format-ended, format-extends, rows-keyed}
-use Rattle.tbl_table.proofs.FormatLines.{IsCounted, format-behind, keys-fits, keys-read, untold-behind}
+use Rattle.tbl_table.proofs.FormatLines.{format-behind, keys-fits, keys-read, untold-behind}
 use Rattle.tbl_table.proofs.FormatTaken.{made}
 use Rattle.tbl_table.proofs.NotesKept.{NotesWithin-letters, letters-said, told_of_letters}
+use Rattle.tbl_table.proofs.TableFits.{IsCounted}
 
 -- the columns of a first line with its newline
 pub columns-head-none : (line : List ℕ) → options_end line ≡ None
@@ -49,43 +50,10 @@ pub columns-head-some : (line : List ℕ) (end : ℕ) → options_end line ≡ S
     → head_columns (options_end (line ++ newline ∷ [])) (line ++ newline ∷ []) ≡ columns_of (format_read no_format (drop (suc end) line ++ newline ∷ []))
 columns-head-some line end is = columns-some line newline end is
 
-module _ (l : TblLimits) (phase : Phase) (begun : Begun) (text : KeptText) (d : TableData) (fits : PartsFit l phase begun text d) where
+module _ {l : TblLimits} {phase : Phase} {begun : Begun} {text : KeptText} {d : TableData} (fits : PartsFit l phase begun text d) where
   -- before the first line
   pub at-head : phase ≡ AtHead → NothingRead text.settled text.pending d
   at-head is = subst (λ (p : Phase). PhaseFits p text.settled text.pending d) is fits.by_phase
-
-  -- its options and the keys behind them are done
-  module _ (nothing : NothingRead text.settled text.pending d) (all : (n : ℕ) → kept_in phase n ≡ n) (keys : List ℕ) (kept : KeptNotes) (number : ℕ) (room : length (text.read ++ text.line) < l.text) (within : NotesWithin (length (text_ended text).settled) kept.notes) (to_tell : NotesWithin (length (text_ended text).settled) kept.to_tell) (same : kept.note_room ≡ d.notes.note_room) where
-    noted-within : (letters : List ℕ) → NotesWithin (length (text_ended text).settled) (letters_noted number letters kept).notes
-    noted-within letters = NotesWithin-letters (length (text_ended text).settled) number kept.notes letters within
-
-    pub options-fits : IsCounted l (length text.read + length text.line + 1) (format_read d.format.format keys)
-        → length (letters_noted number (letters_left_out d.format.format keys) kept).notes ≤ length text.read + length text.line + 1
-        → PartsFit l (phase_behind (format_read d.format.format keys).place)
-        (begun_in (phase_behind (format_read d.format.format keys).place) (format_read d.format.format keys) []) (text_ended text)
-        (with_keys number keys (record d { notes = kept }))
-    options-fits counted few =
-        keys-fits l phase begun text d fits (format_read d.format.format keys) (letters_noted number (letters_left_out d.format.format keys) kept) number
-        (record { alone = nothing.alone; fits = nothing.fits }) all (format-extends d.format.format keys) (columns-read [] d.format.format keys) room counted few
-        (noted-within (letters_left_out d.format.format keys)) to_tell same (format_read d.format.format keys).place (format-ended d.format.format keys fits.keys.ended)
-
-    module _ (options before : Options) (said : List Told) (says : told_of_all (text_ended text).settled kept.notes ≡ said) where
-      -- the table with these options
-      abbrev pub with_options_said : TableRead
-      with_options_said =
-          made phase options d.format.format (d.keys - d.rules - length d.format.format.earlier) text.pending (begun_by d.open (map (content_of text.settled) d.rows.row))
-          (elements_of text.settled (all_rows d.format.format) d.rows.elements) said
-
-      pub options-made : (line : List ℕ) → keys ≡ line ++ newline ∷ [] → IsCounted l (length text.read + length text.line + 1) (format_read d.format.format keys)
-          → length (letters_noted number (letters_left_out d.format.format keys) kept).notes ≤ length text.read + length text.line + 1
-          → reading_of (phase_behind (format_read d.format.format keys).place) options (text_ended text) (with_keys number keys (record d { notes = kept }))
-          ≡ ended_with (format_line number line with_options_said) (reading_of phase before text d)
-      options-made line is counted few =
-          keys-read l phase begun text d fits (format_read d.format.format keys) (letters_noted number (letters_left_out d.format.format keys) kept) number
-          (record { alone = nothing.alone; fits = nothing.fits }) all (format-extends d.format.format keys) (columns-read [] d.format.format keys) room counted few
-          (noted-within (letters_left_out d.format.format keys)) to_tell same options before (said ++ told_of_letters number (letters_left_out d.format.format keys))
-          (letters-said (text_ended text).settled kept.notes number (letters_left_out d.format.format keys) said says) (format_read d.format.format keys).place
-          ∙ ap (λ (ks : List ℕ). ended_with (behind_format (format_read d.format.format ks).place number (made phase options (format_read d.format.format ks) (d.keys - d.rules - length d.format.format.earlier) text.pending (begun_by d.open (map (content_of text.settled) d.rows.row)) (elements_of text.settled (all_rows d.format.format) d.rows.elements) (said ++ told_of_letters number (letters_left_out d.format.format ks)))) (reading_of phase before text d)) is
 
 pub keys-format : (number : ℕ) (keys : List ℕ) (d : TableData) → (with_keys number keys d).format.format ≡ format_read d.format.format keys
 keys-format number keys d =
@@ -96,18 +64,20 @@ keys-untold number keys d =
     untold-behind (format_read d.format.format keys).place number (letters_noted number (letters_left_out d.format.format keys) d.notes) (format_read d.format.format keys) d
 
 -- what is counted of keys
-pub keys-counted : (l : TblLimits) (len : ℕ) (f : Format) (keys line : List ℕ) → keys ≡ line ++ newline ∷ [] → IsCounted l len f
-    → length (format_read f keys).asked ≤ l.columns
-    → IsCounted l (len + length keys) (format_read f keys)
-keys-counted l len f keys line is counted columns = record {
-  keys = omega (arith, keys-read-most [] f keys, counted.keys);
-  asked = omega (arith, columns-read-most [] f keys, counted.asked);
-  columns = columns;
-  rows = rows-keyed f (format_read f keys) (format-extends f keys) counted.rows;
-  ended = format-ended f keys counted.ended;
-  stands = subst (λ (ks : List ℕ). StandsOnLine 0 (format_read f ks).place) (sym is) (line-stands f line);
-  made = Line f keys counted.made;
-}
+pub keys-counted : {l : TblLimits} {len : ℕ} {f : Format} (line : List ℕ) → IsCounted l len f → length (format_read f (line ++ newline ∷ [])).asked ≤ l.columns
+    → IsCounted l (len + length line + 1) (format_read f (line ++ newline ∷ []))
+keys-counted {l} {len} {f} line counted columns =
+    let keys = line ++ newline ∷ [] in
+    let one = length-append line (newline ∷ []) in
+    record {
+      keys = omega (arith, keys-read-most [] f keys, counted.keys, one);
+      asked = omega (arith, columns-read-most [] f keys, counted.asked, one);
+      columns = columns;
+      rows = rows-keyed f (format_read f keys) (format-extends f keys) counted.rows;
+      ended = format-ended f keys counted.ended;
+      stands = line-stands f line;
+      made = Line f keys counted.made;
+    }
 
 -- the block of a first line alone
 pub head-settled : (text : KeptText) → text.settled ≡ [] → text.pending ≡ None → (text_ended text).settled ≡ text.line ++ newline ∷ []

@@ -11,7 +11,7 @@ invariant_of-self c =
     let is = rw (← c.self.view_is) at c.requires.phase in
     let on : goes_on a.text.line ≡ true = ap goes_on (sym c.line.ensures) ∙ sym c.goes_on.ensures ∙ c.if-goes_on.true in
     record {
-      parts = rw c.join.ensures (join-fits a.limits a.phase a.begun a.text a.kept c.self.invariant.parts is c.args.number (goes_on-some a.text.line on) room);
+      parts = rw c.join.ensures (join-fits c.self.invariant.parts is c.args.number (goes_on-some a.text.line on) room);
       giving = c.give_nothing.ensures.nothing.can c.join.new.self a.kept.rows a.kept.format;
       columns = c.give_nothing.ensures.room ∙ c.self.invariant.columns;
     }

@@ -13,7 +13,7 @@ end_format_line-requires-clause-columns c =
     let line : List ℕ = a.text.line in
     let is = rw (← c.self.view_is) at c.requires.phase in
     let columns = rw (← c.self.view_is) at c.requires.columns in
-    let nothing = at-head a.limits a.phase a.begun a.text a.kept c.self.invariant.parts is in
+    let nothing = at-head c.self.invariant.parts is in
     let none : options_end line ≡ None = ap (λ (xs : List ℕ). options_end xs) (sym c.line.ensures) ∙ sym c.options_end.ensures ∙ c.in-None.is in
     rw (← c.self.view_is)
     (subst (λ (g : Format). columns_of (format_read g (line ++ newline ∷ [])) ≤ a.limits.columns) (sym nothing.no_keys)

@@ -8,7 +8,7 @@ invariant_of-self c =
     let front = rw (← c.self.view_is) at c.requires.phase in
     record {
       parts = rw (c.tell.ensures, c.refuse-self-inside.ensures.notes, c.refuse-self-inside.ensures.phase)
-          (refuse-fits a.limits a.phase a.begun a.text a.kept c.self.invariant.parts c.args.number front);
+          (refuse-fits c.self.invariant.parts c.args.number front);
       giving = c.give_read.ensures.can a.kept.rows a.kept.format;
       columns = c.give_read.ensures.room ∙ c.self.invariant.columns;
     }

@@ -10,7 +10,7 @@ pub invariant_of-self : goal.invariant_of-self
 invariant_of-self c =
     let a = c.self.inside in
     record {
-      parts = rw c.tell.ensures (tell-fits a.limits a.phase a.begun a.text a.kept c.self.invariant.parts);
+      parts = rw c.tell.ensures (tell-fits c.self.invariant.parts);
       giving = c.give_read.ensures.can a.kept.rows a.kept.format;
       columns = c.give_read.ensures.room ∙ c.self.invariant.columns;
     }

@@ -13,7 +13,7 @@ invariant_of-self c =
     let few = rw c.line.ensures at c.behind-self-inside.ensures.few in
     record {
       parts = rw c.push.ensures
-          (push-fits a.limits a.phase a.begun a.text a.kept fits (c.args.byte ∷ []) c.behind-self-inside.result (omega (arith, room))
+          (push-fits fits (c.args.byte ∷ []) c.behind-self-inside.result (omega (arith, room))
           (All-cons (λ b. (b == newline) ≡ false) c.args.byte [] c.requires.line (All-nil (λ b. (b == newline) ≡ false)))
           (value a.phase a.kept.format.format fits.keys.made fits.keys.is) (few (a.limits.columns + length a.text.line) fits.keys.few));
       giving = c.give_nothing.ensures.nothing.can c.push.new.self a.kept.rows a.kept.format;

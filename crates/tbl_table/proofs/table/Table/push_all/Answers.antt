@@ -9,7 +9,7 @@ invariant_of-self c =
     let room = rw (← c.self.view_is) at c.requires.room in
     record {
       parts = rw c.push_all.ensures
-          (push-data a.limits a.phase a.begun a.text a.kept c.self.invariant.parts c.args.bytes.now phase room c.requires.one_line);
+          (push-data c.self.invariant.parts c.args.bytes.now phase room c.requires.one_line);
       giving = c.give_nothing.ensures.nothing.can c.push_all.new.self a.kept.rows a.kept.format;
       columns = c.give_nothing.ensures.room ∙ c.self.invariant.columns;
     }

@@ -1,13 +1,11 @@
-use Rattle.std.proofs.Common.{◌++◌, ap, map, sym, ◌∙◌, append-nil, refl}
+use Rattle.std.proofs.Common.{◌++◌, ap, sym, ◌∙◌, append-nil, refl}
 use Rattle.tbl_data.specs.TableRead.{TableRead}
 use Rattle.tbl_options.specs.Notes.{told_of_all}
 use Rattle.tbl_kept.specs.Joined.{behind_joined}
 use Rattle.tbl_kept.specs.TableText.{KeptText}
-use Rattle.tbl_layout.specs.KeptEntries.{content_of}
 use Rattle.tbl_table.specs.Kept.{table_of}
 use Rattle.tbl_table.specs.Table.{is_bad, notes}
-use Rattle.tbl_table.proofs.DataGrows.{none-begun}
-use Rattle.tbl_table.proofs.LastLines.{IsDone, bad-last, is_bad-by, notes-by, whole-bad}
+use Rattle.tbl_table.proofs.LastLines.{bad-last, done-by, is_bad-by, notes-by, whole-bad}
 use Rattle.tbl_table.proofs.NotesKept.{told-longer}
 use Rattle.tbl_table.proofs.OtherLines.{fault-read}
 use Rattle.tbl_table.proofs.table.Table.tell_last_line.Goals as goal
@@ -17,7 +15,7 @@ invariant_of-self c =
     let a = c.self.inside in
     let room = rw (← c.self.view_is) at c.requires.room in
     record {
-      parts = rw c.complete.ensures (whole-bad a.limits a.phase a.begun a.text a.kept c.self.invariant.parts c.in-Bad.is room);
+      parts = rw c.complete.ensures (whole-bad c.self.invariant.parts c.in-Bad.is room);
       giving = c.give_nothing.ensures.nothing.can c.complete.new.self a.kept.rows a.kept.format;
       columns = c.give_nothing.ensures.room ∙ c.self.invariant.columns;
     }
@@ -26,26 +24,24 @@ pub returns-in-Bad-clause-answer : goal.returns-in-Bad-clause-answer
 returns-in-Bad-clause-answer c =
     let a = c.self.inside in
     let is = c.in-Bad.is in
-    let reads = fault-read a.limits a.phase a.begun a.text a.kept c.self.invariant.parts is in
+    let reads = fault-read c.self.invariant.parts is in
     let t : TableRead = table_of a.phase a.options a.text a.kept in
-    let done : IsDone t = record { alone = reads.alone; closed = none-begun a.kept.open (map (content_of a.text.settled) a.kept.rows.row) reads.fits.closed } in
     let new : TableRead = table_of a.phase a.options c.complete.new.self a.kept in
     rw (← c.self.view_is)
-    (is_bad-by new a.phase refl ∙ sym (is_bad-by t a.phase refl) ∙ ap is_bad (sym (bad-last t c.args.number a.text.line is done)))
+    (is_bad-by new a.phase refl ∙ sym (is_bad-by t a.phase refl) ∙ ap is_bad (sym (bad-last t c.args.number a.text.line is (done-by a reads.alone reads.fits.closed))))
 
 pub returns-in-Bad-clause-told : goal.returns-in-Bad-clause-told
 returns-in-Bad-clause-told c =
     let a = c.self.inside in
     let is = c.in-Bad.is in
-    let reads = fault-read a.limits a.phase a.begun a.text a.kept c.self.invariant.parts is in
+    let reads = fault-read c.self.invariant.parts is in
     let t : TableRead = table_of a.phase a.options a.text a.kept in
-    let done : IsDone t = record { alone = reads.alone; closed = none-begun a.kept.open (map (content_of a.text.settled) a.kept.rows.row) reads.fits.closed } in
     let new : TableRead = table_of a.phase a.options c.complete.new.self a.kept in
     rw (← c.self.view_is)
     (notes-by new t.notes
     (ap (λ (k : KeptText). told_of_all k.settled a.kept.notes.notes) c.complete.ensures
     ∙ told-longer a.text.settled (behind_joined a.text.pending a.text.line) a.kept.notes.notes reads.fits.notes)
-    ∙ sym (notes-by t t.notes refl) ∙ ap notes (sym (bad-last t c.args.number a.text.line is done)))
+    ∙ sym (notes-by t t.notes refl) ∙ ap notes (sym (bad-last t c.args.number a.text.line is (done-by a reads.alone reads.fits.closed))))
 
 pub returns-in-Bad-clause-bytes : goal.returns-in-Bad-clause-bytes
 returns-in-Bad-clause-bytes c =
