@@ -15,7 +15,6 @@ use Rattle.tbl_format.specs.Cells.{cell_count}
 use Rattle.tbl_format.specs.FormatRows.{KeptFormat}
 use Rattle.tbl_options.specs.Notes.{NotesWithin, told_of_all}
 use Rattle.tbl_format.specs.RowsServed.{all_rows, row_at}
-use Rattle.tbl_format.specs.declared.limits.TblLimits.{TblLimits}
 use Rattle.tbl_options.specs.declared.notes.KeptNote.{KeptNote}
 use Rattle.tbl_options.specs.declared.options.Options.{Options}
 use Rattle.tbl_kept.specs.Joined.{Joined, behind_joined, ends_joined}

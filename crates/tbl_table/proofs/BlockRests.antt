@@ -1,5 +1,5 @@
 -- A text block that is open ends where no line goes on: the parts hold together, and give the table that is closed.
-use Rattle.std.proofs.Common.{◌≡◌, ℕ, ◌<◌, Bool, true, false, List, length, map, Option, Some, None, refl, sym, ap, subst, ◌∙◌, arith, length-append}
+use Rattle.std.proofs.Common.{◌≡◌, ℕ, Bool, true, false, List, length, map, Option, Some, None, refl, sym, ap, subst, ◌∙◌, arith}
 use Rattle.tbl_data.specs.DataRead.{closed_block}
 use Rattle.tbl_data.specs.TableData.{table_by}
 use Rattle.tbl_data.specs.TableRead.{RowBegun, TableRead}
@@ -10,7 +10,6 @@ use Rattle.tbl_data.specs.declared.table_data.OpenBlock.TheVariants.{Nothing as 
 use Rattle.tbl_data.specs.declared.table_data.TableData.{TableData}
 use Rattle.tbl_format.specs.FormatRows.{KeptFormat}
 use Rattle.tbl_options.specs.Notes.{NotesWithin}
-use Rattle.tbl_format.specs.RowsServed.{all_rows}
 use Rattle.tbl_format.specs.declared.limits.TblLimits.{TblLimits}
 use Rattle.tbl_options.specs.declared.options.Options.{Options}
 use Rattle.tbl_kept.specs.Joined.{Joined}

@@ -11,9 +11,6 @@ use Rattle.tbl_data.specs.declared.phase.Phase.{Phase}
 use Rattle.tbl_data.specs.declared.table_data.OpenBlock.{OpenBlock}
 use Rattle.tbl_data.specs.declared.table_data.TableData.{TableData}
 use Rattle.tbl_format.specs.Format.{Format}
-use Rattle.tbl_format.specs.FormatLaws.{IsRead}
-use Rattle.tbl_format.specs.FormatRows.{key_count}
-use Rattle.tbl_format.specs.KeyCounts.{StandsOnLine}
 use Rattle.tbl_options.specs.Notes.{NotesWithin, told_of_all}
 use Rattle.tbl_format.specs.RowsServed.{all_rows}
 use Rattle.tbl_format.specs.declared.format.FormatPlace.{FormatPlace}
@@ -28,7 +25,7 @@ use Rattle.tbl_kept.specs.TableNotes.{KeptNotes}
 use Rattle.tbl_kept.specs.TableText.{KeptText, block_of, text_ended}
 use Rattle.tbl_layout.specs.KeptEntries.{content_of}
 use Rattle.tbl_table.specs.Begun.{begun_in}
-use Rattle.tbl_table.specs.Kept.{EndFits, FormatReads, HasKeys, HasRooms, KeysFit, NotesFit, PartsFit, PhaseFits, RowsFit, TextFits, block_open, kept_in, reading_of}
+use Rattle.tbl_table.specs.Kept.{EndFits, FormatReads, HasRooms, KeysFit, NotesFit, PartsFit, PhaseFits, RowsFit, TextFits, block_open, kept_in, reading_of}
 use Rattle.tbl_table.specs.Steps.{data_behind, ended_with, phase_behind}
 use Rattle.tbl_table.specs.Table.{behind_format}
 use Rattle.tbl_table.specs.declared.begun.Begun.{Begun}

@@ -32,13 +32,11 @@ use Rattle.tbl_layout.proofs.PlacesBetween.{bars-laid, bars-placed_with, bars_of
 use Rattle.tbl_layout.proofs.Spreading.{length-all_fitted}
 use Rattle.tbl_layout.proofs.Shares.{share-grows, share-most}
 use Rattle.tbl_lines.specs.RowsWalked.{AreNarrow}
-use Rattle.tbl_lines.specs.CutEntries.{cut_entries}
-use Rattle.tbl_lines.specs.PictureLeft.{table_lines}
 use Rattle.tbl_lines.specs.PictureLines.{Sheet}
 use Rattle.tbl_table.specs.Kept.{PartsFit, row_open, table_of}
 use Rattle.tbl_table.specs.Laying.{IsLaid, body_of, columns_by, lacking_by}
 use Rattle.tbl_table.specs.MayTell.{line_may_tell}
-use Rattle.tbl_giving.specs.Giving.{HasCells, IsLaidOut, cuts_laid, lines_laid}
+use Rattle.tbl_giving.specs.Giving.{HasCells, IsLaidOut}
 use Rattle.tbl_lines.specs.RulePlaces.{HavePlaces}
 use Rattle.tbl_table.specs.Table.{body_filled, laid_out}
 use Rattle.tbl_table.specs.declared.begun.Begun.{Begun}
@@ -238,7 +236,7 @@ module _ {l : TblLimits} {phase : Phase} {begun : Begun} {text : KeptText} {d : 
     }
 
     -- whatever is made of its columns and its rows
-    laid-are : {A : Type 0} (made : Sheet → List Element → A) (width more : ℕ) → more ≡ lacking_by bars options.expanded line_length text.settled d
+    pub laid-are : {A : Type 0} (made : Sheet → List Element → A) (width more : ℕ) → more ≡ lacking_by bars options.expanded line_length text.settled d
         → RowsLaid text.settled (all_rows d.format.format) bars.boxing.is_inside (places more)
         → made (record { bars = bars; width = width; columns = (places more).columns }) (elements_of (block_of text) (all_rows d.format.format) (places more).elements)
         ≡ made (record { bars = bars; width = width; columns = (laid_out line_length (table_of phase options text d)).columns })
@@ -251,17 +249,3 @@ module _ {l : TblLimits} {phase : Phase} {begun : Begun} {text : KeptText} {d : 
         (elements_of-laid-more text.settled (behind_joined text.pending text.line) (all_rows d.format.format) bars.boxing.is_inside (places more) rows ∙ laid.body)
         ∙ ap (λ (cs : List Column). made (sheet (placed_with bars more asked cs)) body) laid.columns
         ∙ ap (λ (n : ℕ). made (sheet (placed_with bars n asked (columns_by bars line_length text.settled d))) body) more_is
-
-    pub lines-are : (width more : ℕ) → more ≡ lacking_by bars options.expanded line_length text.settled d
-        → RowsLaid text.settled (all_rows d.format.format) bars.boxing.is_inside (places more)
-        → lines_laid bars width text (places more) d.format
-        ≡ table_lines (record { bars = bars; width = width; columns = (laid_out line_length (table_of phase options text d)).columns })
-        (body_filled line_length (table_of phase options text d))
-    lines-are = laid-are table_lines
-
-    pub cuts-are : (width more : ℕ) → more ≡ lacking_by bars options.expanded line_length text.settled d
-        → RowsLaid text.settled (all_rows d.format.format) bars.boxing.is_inside (places more)
-        → cuts_laid bars width text (places more) d.format
-        ≡ cut_entries (record { bars = bars; width = width; columns = (laid_out line_length (table_of phase options text d)).columns })
-        (body_filled line_length (table_of phase options text d))
-    cuts-are = laid-are cut_entries

@@ -25,7 +25,7 @@ use Rattle.tbl_kept.specs.TableNotes.{KeptNotes}
 use Rattle.tbl_kept.specs.TableText.{KeptText, block_of, text_whole}
 use Rattle.tbl_layout.specs.KeptEntries.{content_of}
 use Rattle.tbl_table.specs.Begun.{begun_in}
-use Rattle.tbl_table.specs.Kept.{FormatReads, HasRooms, PartsFit, PhaseFits, TextFits, block_open, data_read, kept_in, row_open, table_of}
+use Rattle.tbl_table.specs.Kept.{FormatReads, PartsFit, PhaseFits, TextFits, block_open, data_read, kept_in, row_open, table_of}
 use Rattle.tbl_table.specs.MayTell.{fault_may_come}
 use Rattle.tbl_table.specs.Steps.{fault_noted, head_letters, options_told, phase_at_last}
 use Rattle.tbl_table.specs.Table.{behind_format, closed, closed_line, format_line, head_line, head_place, is_bad, is_bad_phase, left_out_notes, line_in, line_read, notes, with_options}

@@ -1,5 +1,5 @@
 -- A table in its data that is laid out, gets its places, and is told of: what is known of it by what the calls that do it answer.
-use Rattle.std.proofs.Common.{◌≡◌, ℕ, ◌+◌, ◌-◌, ◌<◌, ◌≤◌, ◌^◌, min, Bool, List, [], ◌++◌, length, map, replicate, take, Option, None, Some, sym, ap, subst, ◌∙◌, arith, if◌then◌else◌}
+use Rattle.std.proofs.Common.{◌≡◌, ℕ, ◌+◌, ◌-◌, ◌<◌, ◌≤◌, ◌^◌, min, Bool, List, [], ◌++◌, length, map, replicate, take, None, Some, sym, ap, subst, ◌∙◌, arith, if◌then◌else◌}
 use Rattle.roff_num.specs.declared.limit.Limit.TheVariants.{Width}
 use Rattle.std.specs.List.{AllByRecursion}
 use Rattle.tbl_data.specs.TableData.{DataFits, ElementEnds, begun_by}
@@ -28,7 +28,7 @@ use Rattle.tbl_table.specs.Steps.{width_met, with_cut}
 use Rattle.tbl_table.specs.Table.{TableRead, body_filled, cut_told, laid_out, sheet_of}
 use Rattle.tbl_table.specs.declared.begun.Begun.TheVariants.{Nothing}
 use Rattle.tbl_table.specs.declared.table.Table.TheInside.{Inside}
-use Rattle.tbl_table.proofs.LaidTables.{cuts-are, laid-fits, laid-lies, laid-out, lines-are, notes-settled, places, settled-is}
+use Rattle.tbl_table.proofs.LaidTables.{laid-are, laid-fits, laid-lies, laid-out, notes-settled, places, settled-is}
 use Rattle.tbl_table.proofs.LineEnds.{data-reads}
 use Rattle.tbl_table.proofs.NotesKept.{NotesWithin-cuts, cuts-said}
 use Rattle.tbl_table.proofs.TableEnds.{none-begun-open, none-test, over-test, within-test}
@@ -170,7 +170,7 @@ module _ {a : Inside} {line_length : ℕ} {b : Bars} {new : TableData} {wide mor
       cuts-of =
           ap (λ (x : Bars). cuts_laid x wide a.text rows a.kept.format) here.bars
           ∙ ap (λ (n : ℕ). cuts_laid bars n a.text rows a.kept.format) (width-is placed.few)
-          ∙ cuts-are here.fits here.is here.none here.closed line_length a.options new here.laid (laid_out line_length table).width more here.more rows-set
+          ∙ laid-are here.fits here.is here.none here.closed line_length a.options new here.laid cut_entries (laid_out line_length table).width more here.more rows-set
 
       pub cuts-told : told_of_all a.text.settled kept.notes.to_tell ≡ told_of_all a.text.settled a.kept.notes.notes ++ cut_told number line_length table
       cuts-told =
@@ -183,4 +183,4 @@ module _ {a : Inside} {line_length : ℕ} {b : Bars} {new : TableData} {wide mor
           ap (λ (e : TableData). lines_laid b wide a.text e.rows e.format) kept-is
           ∙ ap (λ (x : Bars). lines_laid x wide a.text rows a.kept.format) here.bars
           ∙ ap (λ (n : ℕ). lines_laid bars n a.text rows a.kept.format) (width-is placed.few)
-          ∙ lines-are here.fits here.is here.none here.closed line_length a.options new here.laid (laid_out line_length table).width more here.more rows-set
+          ∙ laid-are here.fits here.is here.none here.closed line_length a.options new here.laid table_lines (laid_out line_length table).width more here.more rows-set

@@ -1,41 +1,30 @@
 -- The first line of a table.
-use Rattle.std.proofs.Common.{◌≡◌, ℕ, suc, ◌+◌, ◌-◌, ◌<◌, ◌≤◌, false, List, [], ◌∷◌, ◌++◌, length, map, take, drop, fold, Option, Some, None, refl, sym, ap, subst, ◌∙◌, arith, append-nil, length-append, length-drop, IfSome, unwrap_or}
+use Rattle.std.proofs.Common.{◌≡◌, ℕ, suc, ◌+◌, ◌-◌, ◌<◌, ◌≤◌, false, List, [], ◌∷◌, ◌++◌, length, take, drop, fold, Option, Some, None, refl, sym, ap, subst, ◌∙◌, arith, append-nil, length-append, length-drop, IfSome, unwrap_or}
 use Rattle.std.specs.List.{slice_range}
 use Rattle.std.proofs.lemmas.List.{drop-append-le, take-append-le}
 use Rattle.input_source.specs.Bytes.{newline}
-use Rattle.tbl_data.specs.TableData.{begun_by}
-use Rattle.tbl_data.specs.TableRead.{TableRead}
 use Rattle.tbl_data.specs.declared.phase.Phase.{Phase}
 use Rattle.tbl_data.specs.declared.phase.Phase.TheVariants.{AtHead}
 use Rattle.tbl_data.specs.declared.table_data.TableData.{TableData}
 use Rattle.tbl_format.specs.Format.{Format, format_read, letters_left_out, no_format}
 use Rattle.tbl_format.specs.FormatLaws.{Line}
-use Rattle.tbl_format.specs.KeyCounts.{StandsOnLine}
-use Rattle.tbl_options.specs.Notes.{NotesWithin, told_of_all}
 use Rattle.tbl_options.specs.Options.{bracketed, options_end}
-use Rattle.tbl_format.specs.RowsServed.{all_rows}
 use Rattle.tbl_format.specs.declared.limits.TblLimits.{TblLimits}
-use Rattle.tbl_options.specs.declared.message.Told.{Told}
-use Rattle.tbl_options.specs.declared.options.Options.{Options}
-use Rattle.tbl_format.proofs.FormatReading.{columns-read, columns-read-most, keys-read as keys-read-most, line-stands}
+use Rattle.tbl_format.proofs.FormatReading.{columns-read-most, keys-read as keys-read-most, line-stands}
 use Rattle.tbl_format.proofs.LeftOut.{letters-few}
 use Rattle.tbl_format.proofs.Parts.{slice_range-rest}
 use Rattle.tbl_kept.specs.Joined.{Joined, behind_joined}
-use Rattle.tbl_kept.specs.Rows.{elements_of}
-use Rattle.tbl_kept.specs.TableNotes.{KeptNotes}
 use Rattle.tbl_kept.specs.TableText.{KeptText, block_of, text_ended}
-use Rattle.tbl_layout.specs.KeptEntries.{content_of}
-use Rattle.tbl_table.specs.Begun.{begun_in, head_begun}
-use Rattle.tbl_table.specs.Kept.{NothingRead, PartsFit, PhaseFits, kept_in, reading_of}
-use Rattle.tbl_table.specs.Steps.{ended_with, head_letters, letters_noted, phase_behind, with_keys}
-use Rattle.tbl_table.specs.Table.{behind_format, columns_of, format_line, head_columns}
+use Rattle.tbl_table.specs.Begun.{head_begun}
+use Rattle.tbl_table.specs.Kept.{NothingRead, PartsFit, PhaseFits}
+use Rattle.tbl_table.specs.Steps.{head_letters, letters_noted, with_keys}
+use Rattle.tbl_table.specs.Table.{columns_of, head_columns}
 use Rattle.tbl_table.specs.declared.begun.Begun.{Begun}
 use Rattle.tbl_table.specs.declared.begun.Begun.TheVariants.{Front}
 use Rattle.tbl_table.proofs.BegunLines.{columns-some, columns-whole, newline-goes_on}
 use Rattle.tbl_table.proofs.FormatEnds.{format-ended, format-extends, rows-keyed}
-use Rattle.tbl_table.proofs.FormatLines.{format-behind, keys-fits, keys-read, untold-behind}
+use Rattle.tbl_table.proofs.FormatLines.{format-behind, untold-behind}
 use Rattle.tbl_table.proofs.FormatTaken.{made}
-use Rattle.tbl_table.proofs.NotesKept.{NotesWithin-letters, letters-said, told_of_letters}
 use Rattle.tbl_table.proofs.TableFits.{IsCounted}
 
 -- the columns of a first line with its newline

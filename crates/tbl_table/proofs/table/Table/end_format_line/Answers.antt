@@ -1,11 +1,11 @@
-use Rattle.std.proofs.Common.{◌≡◌, ◌+◌, ◌-◌, ◌≤◌, ℕ, List, [], ◌∷◌, ◌++◌, map, take, drop, length, length-append, refl, sym, ap, ◌∙◌, arith}
+use Rattle.std.proofs.Common.{◌≡◌, ◌-◌, ℕ, List, [], ◌∷◌, ◌++◌, map, take, drop, length, length-append, refl, sym, ap, ◌∙◌, arith}
 use Rattle.std.proofs.lemmas.List.{length-map}
 use Rattle.std.specs.List.{slice_range}
 use Rattle.input_source.specs.Bytes.{newline}
 use Rattle.tbl_data.specs.declared.phase.Phase.{Phase}
 use Rattle.tbl_format.specs.Format.{Format, format_read, letters_left_out}
 use Rattle.tbl_options.specs.Notes.{left_out_note, told_of_all}
-use Rattle.tbl_format.proofs.FormatReading.{columns-read, columns-read-most}
+use Rattle.tbl_format.proofs.FormatReading.{columns-read}
 use Rattle.tbl_format.proofs.LeftOut.{letters-few}
 use Rattle.tbl_kept.specs.Joined.{behind_joined}
 use Rattle.tbl_kept.specs.TableNotes.{KeptNotes}

@@ -1,4 +1,4 @@
-use Rattle.std.proofs.Common.{◌≡◌, ℕ, map, List, [], ◌++◌, Option, length, length-append, append-nil, sym, ap, subst, ◌∙◌, arith}
+use Rattle.std.proofs.Common.{◌≡◌, ℕ, map, List, [], ◌++◌, length, length-append, append-nil, sym, ap, subst, ◌∙◌, arith}
 use Rattle.tbl_table.specs.Begun.{begun_in, head_begun}
 use Rattle.tbl_table.specs.Kept.{NothingRead, table_of}
 use Rattle.std.proofs.lemmas.List.{length-map}
