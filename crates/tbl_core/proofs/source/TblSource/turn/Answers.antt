@@ -1,4 +1,5 @@
-use Rattle.std.proofs.Common.{arith, Some, None, refl, sym, ap, ◌∙◌}
+use Rattle.std.proofs.Common.{arith, rules, Some, None, refl, sym, ap, ◌∙◌}
+use Rattle.std.proofs.lemmas.Grind.{common_steps}
 use Rattle.std.proofs.lemmas.Option.{MatchOption-at_none}
 use Rattle.input_source.specs.declared.source.Taken.TheVariants.{End, Fault, Stop}
 use Rattle.input_source.specs.Tape.{OneByte, Ended, Failed, Stopped}
@@ -61,32 +62,6 @@ returns-in-None-clause-reads g c = λ is.
     let empty = sym c.in-None.ensures.out ∙ kept.0 in
     rw (kept.1, c.byte.ensures.behind) (byte_reads c.self.inside.tables.limits c.self.inside.tables.line_length c.in-Byte.byte c.self.inside.tables.at.standing reads empty)
 
-pub returns-in-End-clause-given : goal.returns-in-End-clause-given
-returns-in-End-clause-given g c =
-    let none = ap (λ s. s.tables.at.pending) c.self.view_is ∙ c.requires.pending in
-    let reads = ap (λ s. stopped_by s.tables.at.standing) c.self.view_is ∙ c.requires.reads in
-    let t = c.self.inside.tables in
-    rw (← c.self.view_is, c.unwrap_or.ensures)
-    (ending_next t.limits t.line_length Ended t.at.pending t.at.standing _ _ none reads c.in-End.ensures.gives c.end.new.self c.next-in-End.new.self c.next-in-End.result End c.end.ensures c.next-in-End.ensures.next refl)
-
-pub returns-in-Fault-clause-given : goal.returns-in-Fault-clause-given
-returns-in-Fault-clause-given g c =
-    let none = ap (λ s. s.tables.at.pending) c.self.view_is ∙ c.requires.pending in
-    let reads = ap (λ s. stopped_by s.tables.at.standing) c.self.view_is ∙ c.requires.reads in
-    let t = c.self.inside.tables in
-    rw (← c.self.view_is, c.unwrap_or-in-Fault.ensures)
-    (ending_next t.limits t.line_length Failed t.at.pending t.at.standing _ _ none reads c.in-Fault.ensures.gives c.cut.new.self c.next-in-Fault.new.self c.next-in-Fault.result Fault c.cut.ensures c.next-in-Fault.ensures.next refl)
-
-pub returns-in-Stop-clause-given : goal.returns-in-Stop-clause-given
-returns-in-Stop-clause-given g c =
-    let none = ap (λ s. s.tables.at.pending) c.self.view_is ∙ c.requires.pending in
-    let reads = ap (λ s. stopped_by s.tables.at.standing) c.self.view_is ∙ c.requires.reads in
-    let t = c.self.inside.tables in
-    let limit = c.in-Stop.limit in
-    let is = c.cut-in-Stop.ensures ∙ ap (λ (s : Step). record { limits = t.limits; line_length = t.line_length; at = behind_step s }) (sym (stop_is_fault t.limits t.line_length limit t.at.standing)) in
-    rw (← c.self.view_is, c.unwrap_or-in-Stop.ensures)
-    (ending_next t.limits t.line_length (Stopped limit) t.at.pending t.at.standing _ _ none reads c.in-Stop.ensures.gives c.cut-in-Stop.new.self c.next-in-Stop.new.self c.next-in-Stop.result (Stop limit) is c.next-in-Stop.ensures.next refl)
-
 pub returns-in-Some-clause-notes : goal.returns-in-Some-clause-notes
 returns-in-Some-clause-notes g c =
     rw (← c.self.view_is) (few_behind_byte c.self.inside.tables c.byte.new.self c.in-Byte.byte (Some c.in-Some.byte) c.in-Some.ensures.out c.byte.ensures.behind c.byte.ensures.limits)
@@ -101,39 +76,6 @@ pub returns-in-None-clause-note : goal.returns-in-None-clause-note
 returns-in-None-clause-note g c =
     let few = few_behind_byte c.self.inside.tables c.byte.new.self c.in-Byte.byte None c.in-None.ensures.out c.byte.ensures.behind c.byte.ensures.limits in
     rw (← c.self.view_is) (notes_given c.byte.new.self c.next.new.self c.next.result _ few c.next.ensures.next)
-
-pub returns-in-End-clause-notes : goal.returns-in-End-clause-notes
-returns-in-End-clause-notes g c =
-    let few = few_behind_ending c.self.inside.tables c.end.new.self Ended c.end.ensures in
-    let given = few_given c.end.new.self c.next-in-End.new.self c.next-in-End.result c.next-in-End.ensures.next in
-    rw (← c.self.view_is) (omega (arith, few, given))
-
-pub returns-in-End-clause-note : goal.returns-in-End-clause-note
-returns-in-End-clause-note g c =
-    let few = few_behind_ending c.self.inside.tables c.end.new.self Ended c.end.ensures in
-    rw (← c.self.view_is, c.unwrap_or.ensures) (last_note_given c.end.new.self c.next-in-End.new.self c.next-in-End.result End Ended _ few c.next-in-End.ensures.next refl)
-
-pub returns-in-Fault-clause-notes : goal.returns-in-Fault-clause-notes
-returns-in-Fault-clause-notes g c =
-    let few = few_behind_ending c.self.inside.tables c.cut.new.self Failed c.cut.ensures in
-    let given = few_given c.cut.new.self c.next-in-Fault.new.self c.next-in-Fault.result c.next-in-Fault.ensures.next in
-    rw (← c.self.view_is) (omega (arith, few, given))
-
-pub returns-in-Fault-clause-note : goal.returns-in-Fault-clause-note
-returns-in-Fault-clause-note g c =
-    let few = few_behind_ending c.self.inside.tables c.cut.new.self Failed c.cut.ensures in
-    rw (← c.self.view_is, c.unwrap_or-in-Fault.ensures) (last_note_given c.cut.new.self c.next-in-Fault.new.self c.next-in-Fault.result Fault Failed _ few c.next-in-Fault.ensures.next refl)
-
-pub returns-in-Stop-clause-notes : goal.returns-in-Stop-clause-notes
-returns-in-Stop-clause-notes g c =
-    let few = few_behind_ending c.self.inside.tables c.cut-in-Stop.new.self Failed c.cut-in-Stop.ensures in
-    let given = few_given c.cut-in-Stop.new.self c.next-in-Stop.new.self c.next-in-Stop.result c.next-in-Stop.ensures.next in
-    rw (← c.self.view_is) (omega (arith, few, given))
-
-pub returns-in-Stop-clause-note : goal.returns-in-Stop-clause-note
-returns-in-Stop-clause-note g c =
-    let few = few_behind_ending c.self.inside.tables c.cut-in-Stop.new.self Failed c.cut-in-Stop.ensures in
-    rw (← c.self.view_is, c.unwrap_or-in-Stop.ensures) (last_note_given c.cut-in-Stop.new.self c.next-in-Stop.new.self c.next-in-Stop.result (Stop c.in-Stop.limit) (Stopped c.in-Stop.limit) _ few c.next-in-Stop.ensures.next refl)
 
 pub returns-in-Some-clause-takes : goal.returns-in-Some-clause-takes
 returns-in-Some-clause-takes g c =
@@ -177,52 +119,72 @@ returns-in-Note-clause-takes_on g c = λ is.
     let t = c.self.inside.tables in
     rw (← c.self.view_is) (takes_note t.limits t.line_length _ t.at.pending t.at.standing _ _ none reads c.in-Note.ensures.gives)
 
-pub returns-in-End-clause-takes : goal.returns-in-End-clause-takes
-returns-in-End-clause-takes g c =
+pub returns-in-End : goal.returns-in-End
+returns-in-End g c =
     let none = ap (λ s. s.tables.at.pending) c.self.view_is ∙ c.requires.pending in
     let reads = ap (λ s. stopped_by s.tables.at.standing) c.self.view_is ∙ c.requires.reads in
     let t = c.self.inside.tables in
+    let few = few_behind_ending t c.end.new.self Ended c.end.ensures in
     rw (← c.self.view_is, c.unwrap_or.ensures)
-    (ending_takes t.limits t.line_length (Ended) t.at.pending t.at.standing _ _ none reads c.in-End.ensures.gives c.end.new.self c.next-in-End.new.self c.next-in-End.result (End) c.end.ensures c.next-in-End.ensures.next refl)
+    (record {
+      given = ending_next t.limits t.line_length Ended t.at.pending t.at.standing _ _ none reads c.in-End.ensures.gives c.end.new.self c.next-in-End.new.self c.next-in-End.result End c.end.ensures c.next-in-End.ensures.next refl;
+      silent = λ nothing. cc;
+      takes = ending_takes t.limits t.line_length Ended t.at.pending t.at.standing _ _ none reads c.in-End.ensures.gives c.end.new.self c.next-in-End.new.self c.next-in-End.result End c.end.ensures c.next-in-End.ensures.next refl;
+      takes_on = λ nothing. cc;
+      limits = limits_given c.end.new.self c.next-in-End.new.self c.next-in-End.result c.next-in-End.ensures.next ∙ ap (λ (t : TablesState). t.limits) c.end.ensures;
+      line_length = length_given c.end.new.self c.next-in-End.new.self c.next-in-End.result c.next-in-End.ensures.next ∙ ap (λ (t : TablesState). t.line_length) c.end.ensures;
+      pending = λ nothing. cc;
+      reads = λ nothing. cc;
+      falls = λ nothing. cc;
+      notes = omega (arith, few, few_given c.end.new.self c.next-in-End.new.self c.next-in-End.result c.next-in-End.ensures.next);
+      note = last_note_given c.end.new.self c.next-in-End.new.self c.next-in-End.result End Ended _ few c.next-in-End.ensures.next refl;
+      failures = first_of (search rules, grind (arith, common_steps));
+      fault = first_of (search rules, grind (arith, common_steps));
+    })
 
-pub returns-in-End-clause-limits : goal.returns-in-End-clause-limits
-returns-in-End-clause-limits g c =
-    rw (← c.self.view_is) (limits_given c.end.new.self c.next-in-End.new.self c.next-in-End.result c.next-in-End.ensures.next ∙ ap (λ (t : TablesState). t.limits) c.end.ensures)
-
-pub returns-in-End-clause-line_length : goal.returns-in-End-clause-line_length
-returns-in-End-clause-line_length g c =
-    rw (← c.self.view_is) (length_given c.end.new.self c.next-in-End.new.self c.next-in-End.result c.next-in-End.ensures.next ∙ ap (λ (t : TablesState). t.line_length) c.end.ensures)
-
-pub returns-in-Fault-clause-takes : goal.returns-in-Fault-clause-takes
-returns-in-Fault-clause-takes g c =
+pub returns-in-Fault : goal.returns-in-Fault
+returns-in-Fault g c =
     let none = ap (λ s. s.tables.at.pending) c.self.view_is ∙ c.requires.pending in
     let reads = ap (λ s. stopped_by s.tables.at.standing) c.self.view_is ∙ c.requires.reads in
     let t = c.self.inside.tables in
+    let few = few_behind_ending t c.cut.new.self Failed c.cut.ensures in
     rw (← c.self.view_is, c.unwrap_or-in-Fault.ensures)
-    (ending_takes t.limits t.line_length (Failed) t.at.pending t.at.standing _ _ none reads c.in-Fault.ensures.gives c.cut.new.self c.next-in-Fault.new.self c.next-in-Fault.result (Fault) c.cut.ensures c.next-in-Fault.ensures.next refl)
+    (record {
+      given = ending_next t.limits t.line_length Failed t.at.pending t.at.standing _ _ none reads c.in-Fault.ensures.gives c.cut.new.self c.next-in-Fault.new.self c.next-in-Fault.result Fault c.cut.ensures c.next-in-Fault.ensures.next refl;
+      silent = λ nothing. cc;
+      takes = ending_takes t.limits t.line_length Failed t.at.pending t.at.standing _ _ none reads c.in-Fault.ensures.gives c.cut.new.self c.next-in-Fault.new.self c.next-in-Fault.result Fault c.cut.ensures c.next-in-Fault.ensures.next refl;
+      takes_on = λ nothing. cc;
+      limits = limits_given c.cut.new.self c.next-in-Fault.new.self c.next-in-Fault.result c.next-in-Fault.ensures.next ∙ ap (λ (t : TablesState). t.limits) c.cut.ensures;
+      line_length = length_given c.cut.new.self c.next-in-Fault.new.self c.next-in-Fault.result c.next-in-Fault.ensures.next ∙ ap (λ (t : TablesState). t.line_length) c.cut.ensures;
+      pending = λ nothing. cc;
+      reads = λ nothing. cc;
+      falls = λ nothing. cc;
+      notes = omega (arith, few, few_given c.cut.new.self c.next-in-Fault.new.self c.next-in-Fault.result c.next-in-Fault.ensures.next);
+      note = last_note_given c.cut.new.self c.next-in-Fault.new.self c.next-in-Fault.result Fault Failed _ few c.next-in-Fault.ensures.next refl;
+      failures = first_of (search rules, grind (arith, common_steps));
+      fault = first_of (search rules, grind (arith, common_steps));
+    })
 
-pub returns-in-Fault-clause-limits : goal.returns-in-Fault-clause-limits
-returns-in-Fault-clause-limits g c =
-    rw (← c.self.view_is) (limits_given c.cut.new.self c.next-in-Fault.new.self c.next-in-Fault.result c.next-in-Fault.ensures.next ∙ ap (λ (t : TablesState). t.limits) c.cut.ensures)
-
-pub returns-in-Fault-clause-line_length : goal.returns-in-Fault-clause-line_length
-returns-in-Fault-clause-line_length g c =
-    rw (← c.self.view_is) (length_given c.cut.new.self c.next-in-Fault.new.self c.next-in-Fault.result c.next-in-Fault.ensures.next ∙ ap (λ (t : TablesState). t.line_length) c.cut.ensures)
-
-pub returns-in-Stop-clause-takes : goal.returns-in-Stop-clause-takes
-returns-in-Stop-clause-takes g c =
+pub returns-in-Stop : goal.returns-in-Stop
+returns-in-Stop g c =
     let none = ap (λ s. s.tables.at.pending) c.self.view_is ∙ c.requires.pending in
     let reads = ap (λ s. stopped_by s.tables.at.standing) c.self.view_is ∙ c.requires.reads in
     let t = c.self.inside.tables in
-    let limit = c.in-Stop.limit in
-    let is = c.cut-in-Stop.ensures ∙ ap (λ (s : Step). record { limits = t.limits; line_length = t.line_length; at = behind_step s }) (sym (stop_is_fault t.limits t.line_length limit t.at.standing)) in
+    let is = c.cut-in-Stop.ensures ∙ ap (λ (s : Step). record { limits = t.limits; line_length = t.line_length; at = behind_step s }) (sym (stop_is_fault t.limits t.line_length c.in-Stop.limit t.at.standing)) in
+    let few = few_behind_ending t c.cut-in-Stop.new.self Failed c.cut-in-Stop.ensures in
     rw (← c.self.view_is, c.unwrap_or-in-Stop.ensures)
-    (ending_takes t.limits t.line_length (Stopped limit) t.at.pending t.at.standing _ _ none reads c.in-Stop.ensures.gives c.cut-in-Stop.new.self c.next-in-Stop.new.self c.next-in-Stop.result (Stop limit) is c.next-in-Stop.ensures.next refl)
-
-pub returns-in-Stop-clause-limits : goal.returns-in-Stop-clause-limits
-returns-in-Stop-clause-limits g c =
-    rw (← c.self.view_is) (limits_given c.cut-in-Stop.new.self c.next-in-Stop.new.self c.next-in-Stop.result c.next-in-Stop.ensures.next ∙ ap (λ (t : TablesState). t.limits) c.cut-in-Stop.ensures)
-
-pub returns-in-Stop-clause-line_length : goal.returns-in-Stop-clause-line_length
-returns-in-Stop-clause-line_length g c =
-    rw (← c.self.view_is) (length_given c.cut-in-Stop.new.self c.next-in-Stop.new.self c.next-in-Stop.result c.next-in-Stop.ensures.next ∙ ap (λ (t : TablesState). t.line_length) c.cut-in-Stop.ensures)
+    (record {
+      given = ending_next t.limits t.line_length (Stopped c.in-Stop.limit) t.at.pending t.at.standing _ _ none reads c.in-Stop.ensures.gives c.cut-in-Stop.new.self c.next-in-Stop.new.self c.next-in-Stop.result (Stop c.in-Stop.limit) is c.next-in-Stop.ensures.next refl;
+      silent = λ nothing. cc;
+      takes = ending_takes t.limits t.line_length (Stopped c.in-Stop.limit) t.at.pending t.at.standing _ _ none reads c.in-Stop.ensures.gives c.cut-in-Stop.new.self c.next-in-Stop.new.self c.next-in-Stop.result (Stop c.in-Stop.limit) is c.next-in-Stop.ensures.next refl;
+      takes_on = λ nothing. cc;
+      limits = limits_given c.cut-in-Stop.new.self c.next-in-Stop.new.self c.next-in-Stop.result c.next-in-Stop.ensures.next ∙ ap (λ (t : TablesState). t.limits) c.cut-in-Stop.ensures;
+      line_length = length_given c.cut-in-Stop.new.self c.next-in-Stop.new.self c.next-in-Stop.result c.next-in-Stop.ensures.next ∙ ap (λ (t : TablesState). t.line_length) c.cut-in-Stop.ensures;
+      pending = λ nothing. cc;
+      reads = λ nothing. cc;
+      falls = λ nothing. cc;
+      notes = omega (arith, few, few_given c.cut-in-Stop.new.self c.next-in-Stop.new.self c.next-in-Stop.result c.next-in-Stop.ensures.next);
+      note = last_note_given c.cut-in-Stop.new.self c.next-in-Stop.new.self c.next-in-Stop.result (Stop c.in-Stop.limit) (Stopped c.in-Stop.limit) _ few c.next-in-Stop.ensures.next refl;
+      failures = first_of (search rules, grind (arith, common_steps));
+      fault = first_of (search rules, grind (arith, common_steps));
+    })
