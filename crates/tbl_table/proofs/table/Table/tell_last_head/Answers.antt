@@ -1,4 +1,4 @@
-use Rattle.std.proofs.Common.{◌≡◌, ℕ, map, List, [], ◌++◌, length, length-append, append-nil, sym, ap, subst, ◌∙◌, arith}
+use Rattle.std.proofs.Common.{◌≡◌, ℕ, map, List, [], ◌++◌, length, length-append, append-nil, refl, sym, ap, subst, ◌∙◌, arith}
 use Rattle.tbl_table.specs.Begun.{begun_in, head_begun}
 use Rattle.tbl_table.specs.Kept.{NothingRead, table_of}
 use Rattle.std.proofs.lemmas.List.{length-map}
@@ -48,28 +48,20 @@ tell_options-requires-clause-block c =
     let w = (goal.at.tell_options-requires-clause-block c).After-complete in
     rw (c.block.ensures ∙ whole w) (end-within c.options_end-end.result c.self.inside.text.line (end_is w))
 
-pub tell_head_letters-requires-clause-end : goal.tell_head_letters-requires-clause-end
-tell_head_letters-requires-clause-end c =
-    let w = (goal.at.tell_head_letters-requires-clause-end c).After-complete in
-    rw (c.block-2.ensures ∙ whole w) (end-less c.options_end-end.result c.self.inside.text.line (end_is w))
-
-pub tell_head_letters-requires-clause-is : goal.tell_head_letters-requires-clause-is
-tell_head_letters-requires-clause-is c =
-    record { row = c.count.ensures.row; place = subst (StandsOnLine 0) c.count.ensures.value.place c.self.invariant.parts.keys.stands }
-
-pub tell_head_letters-requires-clause-few : goal.tell_head_letters-requires-clause-few
-tell_head_letters-requires-clause-few c =
+pub tell_head_letters-requires : goal.tell_head_letters-requires
+tell_head_letters-requires c =
+    let w = (goal.at.tell_head_letters-requires c).After-complete in
     let fits = c.self.invariant.parts in
-    rw (c.block-2.ensures ∙ whole (goal.at.tell_head_letters-requires-clause-few c).After-complete)
-    (omega (arith, c.count.ensures.value.columns, fits.keys.asked, fits.bytes.most, fits.rooms.small))
-
-pub tell_head_letters-requires-clause-room : goal.tell_head_letters-requires-clause-room
-tell_head_letters-requires-clause-room c =
-    let w = (goal.at.tell_head_letters-requires-clause-room c).After-complete in
     let text = c.self.inside.text in
     let room = rw (← c.self.view_is) at c.requires.room in
-    rw (c.block-2.ensures ∙ whole w)
-    (omega (arith, c.tell_options.ensures.few, c.tell_options.ensures.room, c.self.invariant.parts.rooms.notes, ap (λ ns. length ns) (nothing w).no_notes, end-few c.options_end-end.result text.line (end_is w), room, length-append text.read text.line))
+    let block = c.block-2.ensures ∙ whole w in
+    record {
+      end = rw block (end-less c.options_end-end.result text.line (end_is w));
+      is = record { row = c.count.ensures.row; place = subst (StandsOnLine 0) c.count.ensures.value.place fits.keys.stands };
+      few = rw block (omega (arith, c.count.ensures.value.columns, fits.keys.asked, fits.bytes.most, fits.rooms.small));
+      room = rw block
+          (omega (arith, c.tell_options.ensures.few, c.tell_options.ensures.room, fits.rooms.notes, ap (λ ns. length ns) (nothing w).no_notes, end-few c.options_end-end.result text.line (end_is w), room, length-append text.read text.line));
+    }
 
 pub tell_keys-self-inside-requires : goal.tell_keys-self-inside-requires
 tell_keys-self-inside-requires c =
@@ -126,22 +118,9 @@ invariant_of-self c =
       columns = c.give_nothing.ensures.room ∙ c.self.invariant.columns;
     }
 
-pub returns-clause-answer : goal.returns-clause-answer
-returns-clause-answer c =
-    let w = (goal.at.returns-clause-answer c).After-complete in
-    let a = c.self.inside in
-    let line : List ℕ = a.text.line in
-    let is = rw (← c.self.view_is) at c.requires.phase in
-    let t : TableRead = table_of a.phase a.options a.text a.kept in
-    let new : TableRead = table_of c.tell_keys-self-inside.result a.options c.complete.new.self (record a.kept { notes = c.tell_keys-self-inside.new.notes }) in
-    rw (← c.self.view_is)
-    (is_bad-by new (phase_at_last (head_place (options_end line) line)) (c.tell_keys-self-inside.ensures.phase ∙ ap phase_at_last (place_is w))
-    ∙ bad-head (options_end line) c.args.number line t (done-by a (nothing w).alone (nothing w).fits.closed) (nothing w).no_keys
-    ∙ ap (λ (u : TableRead). is_bad (closed u)) (sym (line-by t AtHead c.args.number line is)))
-
-pub returns-clause-told : goal.returns-clause-told
-returns-clause-told c =
-    let w = (goal.at.returns-clause-told c).After-complete in
+pub returns : goal.returns
+returns c =
+    let w = (goal.at.returns c).After-complete in
     let a = c.self.inside in
     let none = nothing w in
     let line : List ℕ = a.text.line in
@@ -167,15 +146,18 @@ returns-clause-told c =
     ∙ (λ i. letters_noted c.args.number (head_letters (end_is w i) f ((c.block-2.ensures ∙ whole w) i)) kept) in
     let noted : c.tell_keys-self-inside.new.notes ≡ fault_noted place c.args.number all =
     c.tell_keys-self-inside.ensures.notes ∙ (λ i. fault_noted (place_is w i) c.args.number (left i)) in
+    let done = done-by a none.alone none.fits.closed in
     rw (← c.self.view_is)
-    (notes-by new (told_of_all (block_of a.text) (fault_noted place c.args.number all).notes)
-    (ap (λ (k : KeptText). told_of_all k.settled c.tell_keys-self-inside.new.notes.notes) c.complete.ensures
-    ∙ ap (λ (k : KeptNotes). told_of_all (block_of a.text) k.notes) noted)
-    ∙ told-head (block_of a.text) all (options_end line) c.args.number line t (done-by a none.alone none.fits.closed) none.no_keys
-    (letters-said (block_of a.text) kept.notes c.args.number letters (t.notes ++ options_told (options_end line) c.args.number line) says)
-    ∙ ap (λ (u : TableRead). notes (closed u)) (sym (line-by t AtHead c.args.number line is)))
-
-pub returns-clause-bytes : goal.returns-clause-bytes
-returns-clause-bytes c =
-    let a = c.self.inside in
-    rw (← c.self.view_is, c.complete.ensures) (append-nil (a.text.read ++ a.text.line))
+    (record {
+      answer = is_bad-by new (phase_at_last place) (c.tell_keys-self-inside.ensures.phase ∙ ap phase_at_last (place_is w))
+          ∙ bad-head (options_end line) c.args.number line t done none.no_keys
+          ∙ ap (λ (u : TableRead). is_bad (closed u)) (sym (line-by t AtHead c.args.number line is));
+      told = notes-by new (told_of_all (block_of a.text) (fault_noted place c.args.number all).notes)
+          (ap (λ (k : KeptText). told_of_all k.settled c.tell_keys-self-inside.new.notes.notes) c.complete.ensures
+          ∙ ap (λ (k : KeptNotes). told_of_all (block_of a.text) k.notes) noted)
+          ∙ told-head (block_of a.text) all (options_end line) c.args.number line t done none.no_keys
+          (letters-said (block_of a.text) kept.notes c.args.number letters (t.notes ++ options_told (options_end line) c.args.number line) says)
+          ∙ ap (λ (u : TableRead). notes (closed u)) (sym (line-by t AtHead c.args.number line is));
+      bytes = rw c.complete.ensures (append-nil (a.text.read ++ a.text.line));
+      limits = refl;
+    })

@@ -52,8 +52,8 @@ invariant_of-self c =
       columns = c.give_nothing.ensures.room ∙ c.self.invariant.columns;
     }
 
-pub returns-clause-told : goal.returns-clause-told
-returns-clause-told c =
+pub returns : goal.returns
+returns c =
     let a = c.self.inside in
     let fits = c.self.invariant.parts in
     let is = rw (← c.self.view_is) at c.requires.phase in
@@ -71,37 +71,22 @@ returns-clause-told c =
     let new : TableRead = table_of c.tell_keys-self-inside.result a.options c.complete.new.self (record a.kept { notes = c.tell_keys-self-inside.new.notes }) in
     let faulty : c.tell_keys-self-inside.new.notes ≡ fault_noted place c.args.number told =
     c.tell_keys-self-inside.ensures.notes ∙ (λ i. fault_noted (place_is i) c.args.number (noted i)) in
+    let done = done-by a reads.alone reads.fits.closed in
     rw (← c.self.view_is)
-    (notes-by new (told_of_all (block_of a.text) (fault_noted place c.args.number told).notes)
-    (ap (λ k. told_of_all k.settled c.tell_keys-self-inside.new.notes.notes) c.complete.ensures
-    ∙ ap (λ (k : KeptNotes). told_of_all (block_of a.text) k.notes) faulty)
-    ∙ told-format (block_of a.text) told c.args.number line t (done-by a reads.alone reads.fits.closed)
-    (letters-said (block_of a.text) a.kept.notes.notes c.args.number letters t.notes
-    (told-longer a.text.settled (behind_joined a.text.pending line) a.kept.notes.notes reads.fits.notes))
-    ∙ ap (λ (u : TableRead). notes (closed u)) (sym (line-by t InFormat c.args.number line is)))
-
-pub returns-clause-answer : goal.returns-clause-answer
-returns-clause-answer c =
-    let a = c.self.inside in
-    let fits = c.self.invariant.parts in
-    let is = rw (← c.self.view_is) at c.requires.phase in
-    let reads = front-reads a.phase a.text.settled a.text.pending a.kept (ap is_front is) fits.by_phase in
-    let f = a.kept.format.format in
-    let line = a.text.line in
-    let format = rw c.line.ensures at c.place_at_end-place.ensures.format in
-    let place = (format_read f (line ++ newline ∷ [])).place in
-    let place_is : c.place_at_end-place.result ≡ place = format f fits.keys.made (fits.keys.is ∙ ap (λ (p : Phase). begun_in p f line) is) in
-    let t : TableRead = table_of a.phase a.options a.text a.kept in
-    let new : TableRead = table_of c.tell_keys-self-inside.result a.options c.complete.new.self (record a.kept { notes = c.tell_keys-self-inside.new.notes }) in
-    rw (← c.self.view_is)
-    (is_bad-by new (phase_at_last place) (c.tell_keys-self-inside.ensures.phase ∙ ap phase_at_last place_is)
-    ∙ bad-format c.args.number line t (done-by a reads.alone reads.fits.closed)
-    ∙ ap (λ (u : TableRead). is_bad (closed u)) (sym (line-by t InFormat c.args.number line is)))
-
-pub returns-clause-bytes : goal.returns-clause-bytes
-returns-clause-bytes c =
-    let a = c.self.inside in
-    rw (← c.self.view_is, c.complete.ensures) (append-nil (a.text.read ++ a.text.line))
+    (record {
+      answer = is_bad-by new (phase_at_last place) (c.tell_keys-self-inside.ensures.phase ∙ ap phase_at_last place_is)
+          ∙ bad-format c.args.number line t done
+          ∙ ap (λ (u : TableRead). is_bad (closed u)) (sym (line-by t InFormat c.args.number line is));
+      told = notes-by new (told_of_all (block_of a.text) (fault_noted place c.args.number told).notes)
+          (ap (λ k. told_of_all k.settled c.tell_keys-self-inside.new.notes.notes) c.complete.ensures
+          ∙ ap (λ (k : KeptNotes). told_of_all (block_of a.text) k.notes) faulty)
+          ∙ told-format (block_of a.text) told c.args.number line t done
+          (letters-said (block_of a.text) a.kept.notes.notes c.args.number letters t.notes
+          (told-longer a.text.settled (behind_joined a.text.pending line) a.kept.notes.notes reads.fits.notes))
+          ∙ ap (λ (u : TableRead). notes (closed u)) (sym (line-by t InFormat c.args.number line is));
+      bytes = rw c.complete.ensures (append-nil (a.text.read ++ a.text.line));
+      limits = refl;
+    })
 
 pub tell_keys-self-inside-requires : goal.tell_keys-self-inside-requires
 tell_keys-self-inside-requires c =

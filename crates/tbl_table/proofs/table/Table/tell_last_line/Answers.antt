@@ -20,30 +20,20 @@ invariant_of-self c =
       columns = c.give_nothing.ensures.room ∙ c.self.invariant.columns;
     }
 
-pub returns-in-Bad-clause-answer : goal.returns-in-Bad-clause-answer
-returns-in-Bad-clause-answer c =
+pub returns-in-Bad : goal.returns-in-Bad
+returns-in-Bad c =
     let a = c.self.inside in
-    let is = c.in-Bad.is in
-    let reads = fault-read c.self.invariant.parts is in
+    let reads = fault-read c.self.invariant.parts c.in-Bad.is in
     let t : TableRead = table_of a.phase a.options a.text a.kept in
     let new : TableRead = table_of a.phase a.options c.complete.new.self a.kept in
+    let same = sym (bad-last t c.args.number a.text.line c.in-Bad.is (done-by a reads.alone reads.fits.closed)) in
     rw (← c.self.view_is)
-    (is_bad-by new a.phase refl ∙ sym (is_bad-by t a.phase refl) ∙ ap is_bad (sym (bad-last t c.args.number a.text.line is (done-by a reads.alone reads.fits.closed))))
-
-pub returns-in-Bad-clause-told : goal.returns-in-Bad-clause-told
-returns-in-Bad-clause-told c =
-    let a = c.self.inside in
-    let is = c.in-Bad.is in
-    let reads = fault-read c.self.invariant.parts is in
-    let t : TableRead = table_of a.phase a.options a.text a.kept in
-    let new : TableRead = table_of a.phase a.options c.complete.new.self a.kept in
-    rw (← c.self.view_is)
-    (notes-by new t.notes
-    (ap (λ (k : KeptText). told_of_all k.settled a.kept.notes.notes) c.complete.ensures
-    ∙ told-longer a.text.settled (behind_joined a.text.pending a.text.line) a.kept.notes.notes reads.fits.notes)
-    ∙ sym (notes-by t t.notes refl) ∙ ap notes (sym (bad-last t c.args.number a.text.line is (done-by a reads.alone reads.fits.closed))))
-
-pub returns-in-Bad-clause-bytes : goal.returns-in-Bad-clause-bytes
-returns-in-Bad-clause-bytes c =
-    let a = c.self.inside in
-    rw (← c.self.view_is, c.complete.ensures) (append-nil (a.text.read ++ a.text.line))
+    (record {
+      answer = is_bad-by new a.phase refl ∙ sym (is_bad-by t a.phase refl) ∙ ap is_bad same;
+      told = notes-by new t.notes
+          (ap (λ (k : KeptText). told_of_all k.settled a.kept.notes.notes) c.complete.ensures
+          ∙ told-longer a.text.settled (behind_joined a.text.pending a.text.line) a.kept.notes.notes reads.fits.notes)
+          ∙ sym (notes-by t t.notes refl) ∙ ap notes same;
+      bytes = rw c.complete.ensures (append-nil (a.text.read ++ a.text.line));
+      limits = refl;
+    })

@@ -92,29 +92,22 @@ invariant_of-self c =
       columns = c.give_nothing.ensures.room ∙ c.self.invariant.columns;
     }
 
-pub returns-clause-answer : goal.returns-clause-answer
-returns-clause-answer c =
-    let some = rw (← c.self.view_is) at c.requires.line in
-    let p = c.take_line-self-inside.result in
-    let new : TableRead = table_of p c.self.inside.options c.complete.new.self c.drop_rows.new.kept in
-    rw (← c.self.view_is)
-    (is_bad-by new p refl ∙ last-bad (line (goal.at.returns-clause-answer c).After-take_line-self-inside) c.end_of_line-to.ensures some)
-
-pub returns-clause-told : goal.returns-clause-told
-returns-clause-told c =
+pub returns : goal.returns
+returns c =
     let a = c.self.inside in
     let some = rw (← c.self.view_is) at c.requires.line in
+    let here = line (goal.at.returns c).After-take_line-self-inside in
     let mid : TableData = c.take_line-self-inside.new.self in
     let text_is : c.complete.new.self ≡ text_whole a.text = c.complete.ensures ∙ ap text_whole c.take_line-self-inside.ensures.text in
-    let new : TableRead = table_of c.take_line-self-inside.result a.options c.complete.new.self c.drop_rows.new.kept in
+    let p = c.take_line-self-inside.result in
+    let new : TableRead = table_of p a.options c.complete.new.self c.drop_rows.new.kept in
     rw (← c.self.view_is)
-    (notes-by new (told_of_all (block_of a.text) mid.notes.notes)
-    (ap (λ (k : KeptText). told_of_all k.settled c.drop_rows.new.kept.notes.notes) text_is
-    ∙ ap (λ (d : TableData). told_of_all (block_of a.text) d.notes.notes) c.drop_rows.ensures)
-    ∙ last-notes (line (goal.at.returns-clause-told c).After-take_line-self-inside) c.end_of_line-to.ensures some)
-
-pub returns-clause-bytes : goal.returns-clause-bytes
-returns-clause-bytes c =
-    let a = c.self.inside in
-    let text_is : c.complete.new.self ≡ text_whole a.text = c.complete.ensures ∙ ap text_whole c.take_line-self-inside.ensures.text in
-    rw (← c.self.view_is, text_is) (append-nil (a.text.read ++ a.text.line))
+    (record {
+      answer = is_bad-by new p refl ∙ last-bad here c.end_of_line-to.ensures some;
+      told = notes-by new (told_of_all (block_of a.text) mid.notes.notes)
+          (ap (λ (k : KeptText). told_of_all k.settled c.drop_rows.new.kept.notes.notes) text_is
+          ∙ ap (λ (d : TableData). told_of_all (block_of a.text) d.notes.notes) c.drop_rows.ensures)
+          ∙ last-notes here c.end_of_line-to.ensures some;
+      bytes = rw text_is (append-nil (a.text.read ++ a.text.line));
+      limits = refl;
+    })
