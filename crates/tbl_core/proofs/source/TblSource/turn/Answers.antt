@@ -9,7 +9,7 @@ use Rattle.tbl_core.specs.Machine.{Step}
 use Rattle.tbl_core.specs.Yields.{behind_step}
 use Rattle.tbl_core.proofs.Answering.{byte_given, byte_takes, ending_takes, length_given, limits_given, may_takes, takes_note}
 use Rattle.tbl_core.proofs.NotesLeft.{few_behind_byte, few_behind_ending, few_given, last_note_given, notes_given}
-use Rattle.tbl_core.proofs.Quiet.{byte_reads, stop_is_fault}
+use Rattle.tbl_core.proofs.Quiet.{byte_reads, fewer_behind, stop_is_fault}
 use Rattle.tbl_core.proofs.Turning.{byte_goes_on, ending_next, first_given, may_be_given}
 use Rattle.tbl_core.proofs.source.TblSource.turn.Goals as goal
 
@@ -39,43 +39,9 @@ returns-in-Some-clause-given g c =
     let goes_on = byte_goes_on c.self.inside.tables c.byte.new.self c.in-Byte.byte _ _ (Some c.in-Some.byte) none reads taken c.in-Some.ensures.out c.byte.ensures.behind c.byte.ensures.limits c.byte.ensures.line_length in
     rw (← c.self.view_is) (first_given _ _ taken.some taken.some_given c.byte.new.self.limits c.byte.new.self.line_length (OneByte c.in-Some.byte) c.byte.new.self.at goes_on)
 
-pub returns-in-None-clause-given : goal.returns-in-None-clause-given
-returns-in-None-clause-given g c =
-    let none = ap (λ s. s.tables.at.pending) c.self.view_is ∙ c.requires.pending in
-    let reads = ap (λ s. stopped_by s.tables.at.standing) c.self.view_is ∙ c.requires.reads in
-    let taken = c.in-Byte.ensures.gives in
-    let goes_on = byte_goes_on c.self.inside.tables c.byte.new.self c.in-Byte.byte _ _ None none reads taken c.in-None.ensures.out c.byte.ensures.behind c.byte.ensures.limits c.byte.ensures.line_length in
-    rw (← c.self.view_is) (may_be_given _ _ taken.some taken.some_given c.byte.new.self c.next.new.self c.next.result c.next.ensures.next goes_on)
-
-pub returns-in-None-clause-silent : goal.returns-in-None-clause-silent
-returns-in-None-clause-silent g c = λ is.
-    let none = ap (λ s. s.tables.at.pending) c.self.view_is ∙ c.requires.pending in
-    let reads = ap (λ s. stopped_by s.tables.at.standing) c.self.view_is ∙ c.requires.reads in
-    let goes_on = byte_goes_on c.self.inside.tables c.byte.new.self c.in-Byte.byte _ _ None none reads c.in-Byte.ensures.gives c.in-None.ensures.out c.byte.ensures.behind c.byte.ensures.limits c.byte.ensures.line_length in
-    let kept = MatchOption-at_none _ _ is c.next.ensures.next in
-    rw (← c.self.view_is, kept.1) goes_on
-
-pub returns-in-None-clause-reads : goal.returns-in-None-clause-reads
-returns-in-None-clause-reads g c = λ is.
-    let reads = ap (λ s. stopped_by s.tables.at.standing) c.self.view_is ∙ c.requires.reads in
-    let kept = MatchOption-at_none _ _ is c.next.ensures.next in
-    let empty = sym c.in-None.ensures.out ∙ kept.0 in
-    rw (kept.1, c.byte.ensures.behind) (byte_reads c.self.inside.tables.limits c.self.inside.tables.line_length c.in-Byte.byte c.self.inside.tables.at.standing reads empty)
-
 pub returns-in-Some-clause-notes : goal.returns-in-Some-clause-notes
 returns-in-Some-clause-notes g c =
     rw (← c.self.view_is) (few_behind_byte c.self.inside.tables c.byte.new.self c.in-Byte.byte (Some c.in-Some.byte) c.in-Some.ensures.out c.byte.ensures.behind c.byte.ensures.limits)
-
-pub returns-in-None-clause-notes : goal.returns-in-None-clause-notes
-returns-in-None-clause-notes g c =
-    let few = few_behind_byte c.self.inside.tables c.byte.new.self c.in-Byte.byte None c.in-None.ensures.out c.byte.ensures.behind c.byte.ensures.limits in
-    let given = few_given c.byte.new.self c.next.new.self c.next.result c.next.ensures.next in
-    rw (← c.self.view_is) (omega (arith, few, given))
-
-pub returns-in-None-clause-note : goal.returns-in-None-clause-note
-returns-in-None-clause-note g c =
-    let few = few_behind_byte c.self.inside.tables c.byte.new.self c.in-Byte.byte None c.in-None.ensures.out c.byte.ensures.behind c.byte.ensures.limits in
-    rw (← c.self.view_is) (notes_given c.byte.new.self c.next.new.self c.next.result _ few c.next.ensures.next)
 
 pub returns-in-Some-clause-takes : goal.returns-in-Some-clause-takes
 returns-in-Some-clause-takes g c =
@@ -86,31 +52,40 @@ returns-in-Some-clause-takes g c =
     let on = byte_takes t c.byte.new.self c.in-Byte.byte _ _ (Some c.in-Some.byte) none reads taken c.in-Some.ensures.out c.byte.ensures.behind in
     rw (← c.self.view_is) (byte_given _ _ taken.some taken.some_given t.limits t.line_length t.at c.byte.new.self.at (OneByte c.in-Some.byte) on)
 
-pub returns-in-None-clause-takes : goal.returns-in-None-clause-takes
-returns-in-None-clause-takes g c =
+pub returns-in-None : goal.returns-in-None
+returns-in-None g c =
     let none = ap (λ s. s.tables.at.pending) c.self.view_is ∙ c.requires.pending in
     let reads = ap (λ s. stopped_by s.tables.at.standing) c.self.view_is ∙ c.requires.reads in
     let t = c.self.inside.tables in
+    let new = c.byte.new.self in
     let taken = c.in-Byte.ensures.gives in
-    let on = byte_takes t c.byte.new.self c.in-Byte.byte _ _ None none reads taken c.in-None.ensures.out c.byte.ensures.behind in
-    rw (← c.self.view_is) (may_takes _ _ taken.some taken.some_given t.limits t.line_length t.at c.byte.new.self c.next.new.self c.next.result c.next.ensures.next on)
-
-pub returns-in-None-clause-takes_on : goal.returns-in-None-clause-takes_on
-returns-in-None-clause-takes_on g c = λ is.
-    let none = ap (λ s. s.tables.at.pending) c.self.view_is ∙ c.requires.pending in
-    let reads = ap (λ s. stopped_by s.tables.at.standing) c.self.view_is ∙ c.requires.reads in
-    let t = c.self.inside.tables in
-    let on = byte_takes t c.byte.new.self c.in-Byte.byte _ _ None none reads c.in-Byte.ensures.gives c.in-None.ensures.out c.byte.ensures.behind in
-    let kept = MatchOption-at_none _ _ is c.next.ensures.next in
-    rw (← c.self.view_is, kept.1) on
-
-pub returns-in-None-clause-limits : goal.returns-in-None-clause-limits
-returns-in-None-clause-limits g c =
-    rw (← c.self.view_is) (limits_given c.byte.new.self c.next.new.self c.next.result c.next.ensures.next ∙ c.byte.ensures.limits)
-
-pub returns-in-None-clause-line_length : goal.returns-in-None-clause-line_length
-returns-in-None-clause-line_length g c =
-    rw (← c.self.view_is) (length_given c.byte.new.self c.next.new.self c.next.result c.next.ensures.next ∙ c.byte.ensures.line_length)
+    let out = c.in-None.ensures.out in
+    let behind = c.byte.ensures in
+    let next = c.next.ensures.next in
+    let goes_on = byte_goes_on t new c.in-Byte.byte _ _ None none reads taken out behind.behind behind.limits behind.line_length in
+    let on = byte_takes t new c.in-Byte.byte _ _ None none reads taken out behind.behind in
+    let few = few_behind_byte t new c.in-Byte.byte None out behind.behind behind.limits in
+    rw (← c.self.view_is)
+    (record {
+      given = may_be_given _ _ taken.some taken.some_given new c.next.new.self c.next.result next goes_on;
+      silent = λ is. rw (MatchOption-at_none _ _ is next).1 goes_on;
+      takes = may_takes _ _ taken.some taken.some_given t.limits t.line_length t.at new c.next.new.self c.next.result next on;
+      takes_on = λ is. rw (MatchOption-at_none _ _ is next).1 on;
+      limits = limits_given new c.next.new.self c.next.result next ∙ behind.limits;
+      line_length = length_given new c.next.new.self c.next.result next ∙ behind.line_length;
+      pending = λ is. let kept = MatchOption-at_none _ _ is next in rw kept.1 kept.0;
+      reads = λ is.
+          let kept = MatchOption-at_none _ _ is next in
+          rw (kept.1, behind.behind) (byte_reads t.limits t.line_length c.in-Byte.byte t.at.standing reads (sym out ∙ kept.0));
+      falls = λ is.
+          let kept = MatchOption-at_none _ _ is next in
+          let fewer = fewer_behind t.limits t.line_length c.in-Byte.byte t.at.standing reads (sym out ∙ kept.0) in
+          rw (kept.1, behind.limits, behind.behind) (omega (arith, fewer, c.next_byte.ensures.notes));
+      notes = omega (arith, few, few_given new c.next.new.self c.next.result next);
+      note = notes_given new c.next.new.self c.next.result _ few next;
+      failures = c.next_byte.ensures.failures;
+      fault = first_of (search rules, grind (arith, common_steps));
+    })
 
 pub returns-in-Note-clause-takes_on : goal.returns-in-Note-clause-takes_on
 returns-in-Note-clause-takes_on g c = λ is.

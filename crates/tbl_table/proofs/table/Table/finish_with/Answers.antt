@@ -18,23 +18,8 @@ give-requires-clause-pending c = rw c.close.ensures (closed-alone c.args.self.no
 pub give-requires-clause-begun : goal.give-requires-clause-begun
 give-requires-clause-begun c = rw c.close.ensures (closed-rests c.args.self.now.reading.table)
 
-pub returns-clause-answer : goal.returns-clause-answer
-returns-clause-answer c =
-    let old = c.args.self.now in
-    let few : nat_lt old.limits.rows (rows (closed old.reading.table)) ≡ false = sym (rw c.close.ensures at c.has_many_rows.ensures) ∙ c.if-has_many_rows.false in
-    (rw c.close.ensures at c.give.ensures.answer) ∙ width-met old.limits c.args.number c.args.line_length old.reading.table few
-
-pub returns-clause-told : goal.returns-clause-told
-returns-clause-told c =
-    let old = c.args.self.now in
-    let few : nat_lt old.limits.rows (rows (closed old.reading.table)) ≡ false = sym (rw c.close.ensures at c.has_many_rows.ensures) ∙ c.if-has_many_rows.false in
-    let met : c.give.result ≡ limit_at_end old.limits c.args.line_length old.reading.table =
-    (rw c.close.ensures at c.give.ensures.answer) ∙ width-met old.limits c.args.number c.args.line_length old.reading.table few in
-    told-by old.limits c.args.number c.args.line_length c.give.result old.reading.table c.give.new.self.told met
-    (rw c.close.ensures at c.give.ensures.told) (rw c.close.ensures at c.give.ensures.cut)
-
-pub returns-clause-to_come : goal.returns-clause-to_come
-returns-clause-to_come c =
+pub returns : goal.returns
+returns c =
     let old = c.args.self.now in
     let few : nat_lt old.limits.rows (rows (closed old.reading.table)) ≡ false = sym (rw c.close.ensures at c.has_many_rows.ensures) ∙ c.if-has_many_rows.false in
     let met : c.give.result ≡ limit_at_end old.limits c.args.line_length old.reading.table =
@@ -43,6 +28,12 @@ returns-clause-to_come c =
     let whole = closed old.reading.table in
     let t = ended_in whole.phase c.args.number c.args.line_length whole in
     let given = output_or_read (output_in t.phase c.args.line_length t) old.reading.read in
-    (rw c.close.ensures at c.give.ensures.to_come)
-    ∙ ap (λ (bytes : List ℕ). given_within c.give.result bytes) (sym (newline-append is given old.reading.line))
-    ∙ given-by old.limits c.args.number c.args.line_length c.give.result (behind_line is old.reading) met
+    record {
+      answer = met;
+      told = told-by old.limits c.args.number c.args.line_length c.give.result old.reading.table c.give.new.self.told met
+          (rw c.close.ensures at c.give.ensures.told) (rw c.close.ensures at c.give.ensures.cut);
+      to_come = (rw c.close.ensures at c.give.ensures.to_come)
+          ∙ ap (λ (bytes : List ℕ). given_within c.give.result bytes) (sym (newline-append is given old.reading.line))
+          ∙ given-by old.limits c.args.number c.args.line_length c.give.result (behind_line is old.reading) met;
+      limits = rw c.close.ensures at c.give.ensures.limits;
+    }
