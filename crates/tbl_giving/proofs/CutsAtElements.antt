@@ -6,7 +6,7 @@ use Rattle.tbl_format.specs.Format.{FormatRow}
 use Rattle.tbl_format.specs.RowsServed.{row_at}
 use Rattle.tbl_giving.proofs.BoxedNow.{kept-heights}
 use Rattle.tbl_giving.proofs.CutsInFront.{front-is, next-places, top-places}
-use Rattle.tbl_giving.specs.CutsCounted.{CanCount, CutsCome, CutsGo, ElementGoes, ElementsCount, FrontComes, FrontOf, IsHigh, RowComes, RowOnly, RulesPlaced, SomeCount}
+use Rattle.tbl_giving.specs.CutsCounted.{CanCount, CutsCome, CutsGo, ElementGoes, ElementsCount, FrameComes, FrontComes, FrontOf, IsHigh, RowComes, RowOnly, RulesPlaced, SomeCount}
 use Rattle.tbl_kept.proofs.RowsUnfilled.{each-drop}
 use Rattle.tbl_kept.specs.Rows.{Command as CommandKept, KeptElement, KeptRows, Row as RowKept, Rule as RuleKept, elements_of, fields_of}
 use Rattle.tbl_kept.specs.RowsLaying.{element_at}
@@ -37,15 +37,29 @@ element-first elements at e within is =
     drop-cons elements at (CommandKept 0 0) within ∙ ap (λ (k : KeptElement). k ∷ drop (suc at) elements) is
 
 -- a row has a line
-pub row-high : (elements : List KeptElement) (at keys rules height : ℕ) (entries : List Entry) (more : List KeptElement)
+pub row-high : (elements : List KeptElement) (at : ℕ) {keys rules height : ℕ} {entries : List Entry} {more : List KeptElement}
     → AllByRecursion IsHigh elements → drop at elements ≡ RowKept keys rules height entries ∷ more → 0 < get_or (heights_kept (drop at elements)) 0 0
-row-high elements at keys rules height entries more high is =
+row-high elements at {keys} {rules} {height} {entries} {more} high is =
     let some : 0 < height = each-at IsHigh elements at (RowKept keys rules height entries) more high is in
     subst (λ (es : List KeptElement). 0 < get_or (heights_kept es) 0 0) (sym is) some
 
-pub heights-behind : (kept : List KeptElement) (keys rules height : ℕ) (entries : List Entry) (more : List KeptElement)
+pub heights-behind : {kept : List KeptElement} {keys rules height : ℕ} {entries : List Entry} {more : List KeptElement}
     → kept ≡ RowKept keys rules height entries ∷ more → drop 1 (heights_kept kept) ≡ heights_kept more
-heights-behind kept keys rules height entries more is = ap (λ (es : List KeptElement). drop 1 (heights_kept es)) is
+heights-behind is = ap (λ (es : List KeptElement). drop 1 (heights_kept es)) is
+
+-- on the line of rules that a box adds, if it adds one, so many entries are counted
+abbrev pub CountsFrame : ℕ → List ℕ → List FormatRow → Sheet → KeptTall → KeptTall → Type 0
+CountsFrame counted bytes formats s old new = (heights : List ℕ) (rest : List Element) (count : ℕ) → NextPlaces s (frame_rules s.bars.boxing ++ rest)
+    → CutsCome bytes formats s old heights (frame_rules s.bars.boxing ++ rest) count → CutsGo counted bytes formats s new heights rest count
+
+-- and so many on the lines of an element
+pub more-goes : {counted here at count : ℕ} {bytes : List ℕ} {formats : List FormatRow} {s : Sheet} {rows : KeptRows} {t new : KeptTall}
+    (go : ElementGoes counted bytes formats s rows t at count) → ElementGoes here bytes formats s rows new (suc at) go.more
+    → ElementGoes (counted + here) bytes formats s rows new (at + 1) count
+more-goes {counted} {here} {at} {count} {bytes} {formats} {s} {rows} {t} {new} go next =
+    let one : suc at ≡ at + 1 = omega arith in
+    subst (λ (n : ℕ). ElementGoes (counted + here) bytes formats s rows new n count) one
+    (record { more = next.more; all = omega (arith, go.all, next.all); rest = next.rest })
 
 module _ (bytes : List ℕ) (formats : List FormatRow) (s : Sheet) where
   -- nothing is given on a command
@@ -113,7 +127,7 @@ module _ (bytes : List ℕ) (formats : List FormatRow) (s : Sheet) where
       record { more = go.more; all = go.all; rest = record { is_below = is_below; come = go.come } }
 
   -- behind all elements the box's last rule comes, if there is one
-  pub end-comes : (rows : KeptRows) (t : KeptTall) (at count : ℕ) → drop at rows.elements ≡ [] → ElementsCount bytes formats s rows t at count
+  end-comes : (rows : KeptRows) (t : KeptTall) (at count : ℕ) → drop at rows.elements ≡ [] → ElementsCount bytes formats s rows t at count
       → CutsCome bytes formats s t [] (frame_rules s.bars.boxing ++ []) count
   end-comes rows t at count none here =
       let first : CutsCome bytes formats s t [] (boxed_kept here.is_below []) count =
@@ -121,19 +135,28 @@ module _ (bytes : List ℕ) (formats : List FormatRow) (s : Sheet) where
       subst (λ (es : List Element). CutsCome bytes formats s t [] es count)
       (boxed-none s.bars.boxing here.is_below (s.bars.boxing.bars == 0) refl ∙ sym (append-nil (frame_rules s.bars.boxing))) first
 
-  pub end-places : NextPlaces s (frame_rules s.bars.boxing ++ [])
+  end-places : NextPlaces s (frame_rules s.bars.boxing ++ [])
   end-places = top-places s (s.bars.boxing.bars == 0) (frame_sign s.bars.boxing.bars) [] tt
 
+  pub frame-last : (rows : KeptRows) (t : KeptTall) (at count : ℕ) → drop at rows.elements ≡ [] → ElementsCount bytes formats s rows t at count
+      → FrameComes bytes formats s t
+  frame-last rows t at count none here =
+      record { heights = []; rest = []; count = count; come = end-comes rows t at count none here; places = end-places }
+
   -- nothing more is counted where nothing comes
-  pub none-more : (t : KeptTall) (heights : List ℕ) (count : ℕ) → CutsCome bytes formats s t heights [] count → count ≡ 0
-  none-more t heights count come = sym come.many
+  pub last-counted : (rows : KeptRows) (t new : KeptTall) (at count counted : ℕ) → CountsFrame counted bytes formats s t new → drop at rows.elements ≡ []
+      → ElementsCount bytes formats s rows t at count → count ≡ counted
+  last-counted rows t new at count counted counts none here =
+      let below = counts [] [] count end-places (end-comes rows t at count none here) in
+      let none_more : below.more ≡ 0 = sym below.come.many in
+      omega (arith, below.all, none_more)
 
   module _ (rows : KeptRows) (room : ℕ) (can : CanCount bytes formats s rows room) where
     pub places-at : (is_below : Bool) (at : ℕ) → NextPlaces s (boxed_kept is_below (drop at rows.elements))
     places-at is_below at =
         next-places bytes formats s can.places.rows is_below (drop at rows.elements) (each-drop (RulesPlaced formats s) at rows.elements can.ruled)
 
-    pub start-places : NextPlaces s (frame_rules s.bars.boxing ++ boxed_kept false rows.elements)
+    start-places : NextPlaces s (frame_rules s.bars.boxing ++ boxed_kept false rows.elements)
     start-places = top-places s (s.bars.boxing.bars == 0) (frame_sign s.bars.boxing.bars) (boxed_kept false rows.elements) (places-at false 0)
 
     -- a rule over the whole picture comes
@@ -235,9 +258,26 @@ module _ (bytes : List ℕ) (formats : List FormatRow) (s : Sheet) where
         ∙ sym can.laid.heights ∙ sym (kept-heights rows.elements) in
         ap (λ (own : List ℕ). cut_from s own (first_cells own) Nothing all_of) same
 
-    pub start-comes : (t : KeptTall)
+    start-comes : (t : KeptTall)
         → Comes bytes formats s t (heights_kept rows.elements) (first_cells (heights_kept rows.elements)) Nothing all_of
         → CutsCome bytes formats s t (heights_kept rows.elements) (frame_rules s.bars.boxing ++ boxed_kept false rows.elements)
         (cut_entries s (elements_of bytes formats rows.elements))
     start-comes t comes =
         record { cells = first_cells (heights_kept rows.elements); above = Nothing; comes = comes; many = sym all-counted }
+
+    pub frame-first : (t : KeptTall)
+        → Comes bytes formats s t (heights_kept rows.elements) (first_cells (heights_kept rows.elements)) Nothing all_of → FrameComes bytes formats s t
+    frame-first t comes = record {
+      heights = heights_kept rows.elements;
+      rest = boxed_kept false rows.elements;
+      count = cut_entries s (elements_of bytes formats rows.elements);
+      come = start-comes t comes;
+      places = start-places;
+    }
+
+    pub first-goes : (t new : KeptTall) (counted : ℕ)
+        → Comes bytes formats s t (heights_kept rows.elements) (first_cells (heights_kept rows.elements)) Nothing all_of
+        → CountsFrame counted bytes formats s t new → ElementGoes counted bytes formats s rows new 0 (cut_entries s (elements_of bytes formats rows.elements))
+    unfolding frame-first
+    first-goes t new counted comes counts =
+        let first = frame-first t comes in goes-behind counted rows new 0 first.count false (counts first.heights first.rest first.count first.places first.come)

@@ -45,9 +45,9 @@ many-left formats b fits =
     let keys = length-take-le n (drop from formats) few in
     omega (arith, keys, fits.given)
 
-pub left-in : (bytes : List ℕ) (formats : List FormatRow) (s : Sheet) (t : KeptTall) (heights : List ℕ) (cells : List Left) (above : Beside)
-    (elements : List Element) → Comes bytes formats s t heights cells above elements → fronts_left formats t.band ≡ fronts_in elements
-left-in bytes formats s t heights cells above elements comes =
+pub left-in : {bytes : List ℕ} {formats : List FormatRow} {s : Sheet} {t : KeptTall} {heights : List ℕ} {cells : List Left} {above : Beside}
+    {elements : List Element} → Comes bytes formats s t heights cells above elements → fronts_left formats t.band ≡ fronts_in elements
+left-in {bytes} {formats} {s} {t} {heights} {cells} {above} {elements} comes =
     ap (λ (n : ℕ). n + length (keys_left formats t.band)) comes.wholes
     ∙ ap (λ (keys : List FormatRow). wholes_in_front elements + length keys) comes.rules
 
@@ -94,10 +94,10 @@ front-ended (Rule sign ∷ elements) row front none = absurd (omega (arith, none
 front-ended (Command bytes ∷ elements) row front none = absurd front
 
 -- one of them was given
-pub front-next : (counted here : ℕ) (bytes : List ℕ) (formats : List FormatRow) (s : Sheet) (t new : KeptTall) (heights : List ℕ) (row : List Element)
-    (count : ℕ) (so_far : FrontGoes counted bytes formats s t heights row count) (next : FrontSteps s so_far.elements row)
+pub front-next : {counted here : ℕ} {bytes : List ℕ} {formats : List FormatRow} {s : Sheet} {t new : KeptTall} {heights : List ℕ} {row : List Element}
+    {count : ℕ} (so_far : FrontGoes counted bytes formats s t heights row count) (next : FrontSteps s so_far.elements row)
     → CutsGo here bytes formats s new heights next.rest so_far.more → FrontGoes (counted + here) bytes formats s new heights row count
-front-next counted here bytes formats s t new heights row count so_far next go = record {
+front-next so_far next go = record {
   elements = next.rest;
   more = go.more;
   front = next.front;
@@ -113,15 +113,15 @@ pub record FrontRule (whole : Option RuleSign) (bytes : List ℕ) (formats : Lis
   pub sign : SignIs whole next.line
   pub can : CanLayRule bytes formats s t whole
 
-pub front-rule : (bytes : List ℕ) (formats : List FormatRow) (s : Sheet) (rows : KeptRows) (room : ℕ) → CanCount bytes formats s rows room
-    → (t : KeptTall) (counted : ℕ) (heights : List ℕ) (row : List Element) (count : ℕ) (so_far : FrontGoes counted bytes formats s t heights row count)
-    (whole : Option RuleSign) → whole ≡ sign_by (wholes_left t.band) → nat_lt t.band.at (t.band.wholes + t.band.count) ≡ true
+pub front-rule : {bytes : List ℕ} {formats : List FormatRow} {s : Sheet} {rows : KeptRows} {room : ℕ} {t : KeptTall} {counted : ℕ} {heights : List ℕ}
+    {row : List Element} {count : ℕ} {whole : Option RuleSign} → CanCount bytes formats s rows room
+    → (so_far : FrontGoes counted bytes formats s t heights row count) → whole ≡ sign_by (wholes_left t.band) → nat_lt t.band.at (t.band.wholes + t.band.count) ≡ true
     → FrontRule whole bytes formats s t so_far.elements row
-front-rule bytes formats s rows room can t counted heights row count so_far whole is has =
+front-rule {bytes} {formats} {s} {rows} {room} {t} {counted} {heights} {row} {count} {whole} can so_far is has =
     let come = so_far.come in
     let comes = come.comes in
     let b = t.band in
-    let left = left-in bytes formats s t heights come.cells come.above so_far.elements comes in
+    let left = left-in comes in
     let more : b.at < b.wholes + b.count = ltb-true b.at (b.wholes + b.count) has in
     let some : 0 < fronts_in so_far.elements = omega (arith, more, left, many-left formats b comes.band.fits) in
     let next = front-steps s so_far.elements row so_far.front so_far.places some in
@@ -151,11 +151,11 @@ none-left formats b fits ended =
     let few : b.wholes + b.count ≤ b.at = ltb-false b.at (b.wholes + b.count) ended in omega (arith, few, many-left formats b fits)
 
 -- all of them were
-pub front-all : (counted : ℕ) (bytes : List ℕ) (formats : List FormatRow) (s : Sheet) (t : KeptTall) (heights : List ℕ) (row : List Element) (count : ℕ)
+pub front-all : {counted : ℕ} {bytes : List ℕ} {formats : List FormatRow} {s : Sheet} {t : KeptTall} {heights : List ℕ} {row : List Element} {count : ℕ}
     (so_far : FrontGoes counted bytes formats s t heights row count) → fronts_left formats t.band ≤ 0 → CutsGo counted bytes formats s t heights row count
-front-all counted bytes formats s t heights row count so_far none =
+front-all {counted} {bytes} {formats} {s} {t} {heights} {row} {count} so_far none =
     let come = so_far.come in
-    let left = left-in bytes formats s t heights come.cells come.above so_far.elements come.comes in
+    let left = left-in come.comes in
     let is = front-ended so_far.elements row so_far.front (omega (arith, none, left)) in
     record {
       more = so_far.more;

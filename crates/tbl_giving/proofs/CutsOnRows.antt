@@ -14,10 +14,10 @@ use Rattle.tbl_tall.specs.CutsMarked.{AreAlike, bare}
 use Rattle.tbl_tall.specs.TallRows.{Comes, KeptTall, RowStands}
 
 -- a row comes, in front of which nothing more stands
-pub row-stands : (bytes : List ℕ) (formats : List FormatRow) (s : Sheet) (t : KeptTall) (heights : List ℕ) (cells : List Left) (above : Beside)
-    (format : FormatRow) (fields : List Content) (elements : List Element) → Comes bytes formats s t heights cells above (Row [] format fields ∷ elements)
+pub row-stands : {bytes : List ℕ} {formats : List FormatRow} {s : Sheet} {t : KeptTall} {heights : List ℕ} {cells : List Left} {above : Beside}
+    {format : FormatRow} {fields : List Content} {elements : List Element} → Comes bytes formats s t heights cells above (Row [] format fields ∷ elements)
     → RowStands bytes s t format cells (get_or heights 0 0)
-row-stands bytes formats s t heights cells above format fields elements comes = record {
+row-stands comes = record {
   left = comes.left;
   keys = comes.keys;
   height = comes.height;
@@ -29,9 +29,9 @@ row-stands bytes formats s t heights cells above format fields elements comes = 
 }
 
 -- it stands so where its line is laid
-pub stands-laid : (bytes : List ℕ) (s : Sheet) (t new : KeptTall) (format : FormatRow) (cells : List Left) (lines : ℕ)
+pub stands-laid : {bytes : List ℕ} {s : Sheet} {t new : KeptTall} {format : FormatRow} {cells : List Left} {lines : ℕ}
     → new ≡ record t { line = new.line } → RowStands bytes s t format cells lines → RowStands bytes s new format cells lines
-stands-laid bytes s t new format cells lines same stands =
+stands-laid {bytes} {s} {t} {new} {format} {cells} {lines} same stands =
     subst (λ (k : KeptTall). RowStands bytes s k format cells lines) (sym same) (record {
       left = stands.left;
       keys = stands.keys;
@@ -44,10 +44,10 @@ stands-laid bytes s t new format cells lines same stands =
     })
 
 -- none of its lines was given
-pub none-counted : (bytes : List ℕ) (s : Sheet) (t : KeptTall) (format : FormatRow) (cells : List Left) (lines : ℕ) → 0 < lines
+pub none-counted : {bytes : List ℕ} {s : Sheet} {t : KeptTall} {format : FormatRow} {cells : List Left} {lines : ℕ} → 0 < lines
     → RowStands bytes s t format cells lines → LinesCounted 0 bytes s t format cells lines
-none-counted bytes s t format cells zero some stands = absurd (omega (arith, some))
-none-counted bytes s t format cells (suc more) some stands = record {
+none-counted {lines = zero} some stands = absurd (omega (arith, some))
+none-counted {cells} {lines = suc more} some stands = record {
   own = cells;
   more = more;
   stands = stands;
@@ -61,12 +61,12 @@ alike-lines zero xs ys same = same
 alike-lines (suc lines) xs ys same = alike-lines lines (map behind_line xs) (map behind_line ys) (alike-behind xs ys same)
 
 -- one more of them was given, and another follows
-pub line-counted : (counted here : ℕ) (bytes : List ℕ) (s : Sheet) (t new : KeptTall) (format : FormatRow) (cells : List Left) (lines : ℕ)
-    (so_far : LinesCounted counted bytes s t format cells lines) (rest : ℕ) → so_far.more ≡ suc rest
+pub line-counted : {counted here : ℕ} {bytes : List ℕ} {s : Sheet} {t new : KeptTall} {format : FormatRow} {cells : List Left} {lines rest : ℕ}
+    (so_far : LinesCounted counted bytes s t format cells lines) → so_far.more ≡ suc rest
     → let cut = row_cut s (bars_at_end (length s.columns) format) so_far.own in
-    here ≡ first_cut (length s.columns) cut → RowStands bytes s new format (map behind_line (all_with_cut cut so_far.own)) (suc rest)
+    here ≡ first_cut (length s.columns) cut → RowStands bytes s new format (map behind_line (all_with_cut cut so_far.own)) so_far.more
     → LinesCounted (counted + here) bytes s new format cells lines
-line-counted counted here bytes s t new format cells lines so_far rest is first stands =
+line-counted {counted} {here} {bytes} {s} {t} {new} {format} {cells} {lines} {rest} so_far is first stands =
     let n = length s.columns in
     let last = bars_at_end n format in
     let own = so_far.own in
@@ -80,23 +80,24 @@ line-counted counted here bytes s t new format cells lines so_far rest is first 
     record {
       own = next;
       more = rest;
-      stands = stands;
+      stands = subst (λ (m : ℕ). RowStands bytes s new format next m) is stands;
       many = omega (arith, many, first);
       behind = so_far.behind ∙ ap (λ (m : ℕ). behind_row s last m next) is;
       alike = alike ∙ alike-lines rest (map behind_line own) next (alike-behind own marked (alike-marked (with_cut cut) (λ l. refl) own));
     }
 
 -- all of them were given, and the next row comes
-pub row-go : (counted here : ℕ) (bytes : List ℕ) (formats : List FormatRow) (s : Sheet) (t new : KeptTall) (heights others : List ℕ) (cells : List Left)
-    (above : Beside) (format : FormatRow) (fields : List Content) (elements : List Element) (count : ℕ)
-    (so_far : LinesCounted counted bytes s t format cells (get_or heights 0 0)) → so_far.more ≡ 0 → drop 1 heights ≡ others
+pub row-go : {counted here : ℕ} {bytes : List ℕ} {formats : List FormatRow} {s : Sheet} {t start new : KeptTall} {heights others : List ℕ}
+    {format : FormatRow} {fields : List Content} {elements : List Element} {count : ℕ}
+    (row : CutsCome bytes formats s start heights (Row [] format fields ∷ elements) count)
+    (so_far : LinesCounted counted bytes s t format row.cells (get_or heights 0 0)) → so_far.more ≡ 0 → drop 1 heights ≡ others
     → let cut = row_cut s (bars_at_end (length s.columns) format) so_far.own in
     let marked = all_with_cut cut so_far.own in
-    here ≡ first_cut (length s.columns) cut → cut_from s heights cells above (Row [] format fields ∷ elements) ≡ count
-    → Comes bytes formats s new others (cells_next (length s.columns) format.keys (map behind_line marked) others elements)
+    here ≡ first_cut (length s.columns) cut → Comes bytes formats s new others (cells_next (length s.columns) format.keys (map behind_line marked) others elements)
     (OfRow marked (bars_at_end (length s.columns) format)) elements
     → CutsGo (counted + here) bytes formats s new others elements count
-row-go counted here bytes formats s t new heights others cells above format fields elements count so_far is behind first many comes =
+row-go {counted} {here} {bytes} {formats} {s} {t} {start} {new} {heights} {others} {format} {fields} {elements} {count} row so_far is behind first comes =
+    let cells = row.cells in
     let n = length s.columns in
     let last = bars_at_end n format in
     let lines = get_or heights 0 0 in
@@ -115,7 +116,7 @@ row-go counted here bytes formats s t new heights others cells above format fiel
     ap (λ (ls : List Left). cut_from s (drop 1 heights) (cells_next n format.keys ls (drop 1 heights) elements) line elements) left
     ∙ ap (λ (hs : List ℕ). cut_from s hs (cells_next n format.keys next hs elements) line elements) behind in
     let whole : 0 + (cut_in_row s last lines cells
-    + cut_from s (drop 1 heights) (cells_next n format.keys (behind_row s last lines cells) (drop 1 heights) elements) line elements) ≡ count = many in
+    + cut_from s (drop 1 heights) (cells_next n format.keys (behind_row s last lines cells) (drop 1 heights) elements) line elements) ≡ count = row.many in
     record {
       more = more;
       all = omega (arith, whole, here_all, rest, first);
@@ -129,12 +130,12 @@ row-go counted here bytes formats s t new heights others cells above format fiel
     }
 
 -- what was counted is part of all that is
-pub lines-few : (counted here : ℕ) (bytes : List ℕ) (formats : List FormatRow) (s : Sheet) (t start : KeptTall) (heights : List ℕ)
-    (format : FormatRow) (fields : List Content) (elements : List Element) (count : ℕ)
+pub lines-few : {counted here : ℕ} {bytes : List ℕ} {formats : List FormatRow} {s : Sheet} {t start : KeptTall} {heights : List ℕ}
+    {format : FormatRow} {fields : List Content} {elements : List Element} {count : ℕ}
     (come : CutsCome bytes formats s start heights (Row [] format fields ∷ elements) count)
     (so_far : LinesCounted counted bytes s t format come.cells (get_or heights 0 0))
     → here ≡ first_cut (length s.columns) (row_cut s (bars_at_end (length s.columns) format) so_far.own) → counted + here ≤ count
-lines-few counted here bytes formats s t start heights format fields elements count come so_far first =
+lines-few {counted} {here} {bytes} {formats} {s} {t} {start} {heights} {format} {fields} {elements} {count} come so_far first =
     let n = length s.columns in
     let last = bars_at_end n format in
     let lines = get_or heights 0 0 in

@@ -204,6 +204,21 @@ pub following-lines : (t : KeptText) (r : KeptRows) (k : KeptFormat) (g : KeptGi
     → following t r k g ≡ with_newline g.has_newline (lines_left_by g.is_tall t r k g.walk g.lines ++ (drop g.frame_end g.frame ++ t.line))
 following-lines t r k g is = ap (λ (rest : Rest). following t r k (record g { rest = rest })) is
 
+-- and where they were given, what stands behind them
+pub following-behind : (t : KeptText) (r : KeptRows) (k : KeptFormat) {given now : KeptGiving} {is has : Bool} {frame lines : List ℕ} {end : ℕ}
+    → given ≡ now → now.rest ≡ Lines → now.is_tall ≡ is → has ≡ given.has_newline → frame ≡ given.frame → end ≡ given.frame_end
+    → lines ≡ lines_left_by is t r k given.walk given.lines → lines ++ with_newline has (drop end frame ++ t.line) ≡ following t r k now
+following-behind t r k {given} {now} {is} {has} {frame} {lines} {end} view rest tall newline_is frame_is end_is lines_are =
+    let own = given.has_newline in
+    let left = λ (b : Bool). lines_left_by b t r k given.walk given.lines in
+    subst (λ (g : KeptGiving). lines ++ with_newline has (drop end frame ++ t.line) ≡ following t r k g) view
+    (newline-append has lines (drop end frame ++ t.line)
+    ∙ ap (λ (b : Bool). with_newline b (lines ++ (drop end frame ++ t.line))) newline_is
+    ∙ ap (λ (bytes : List ℕ). with_newline own (bytes ++ (drop end frame ++ t.line))) (lines_are ∙ ap left (sym (ap (λ (g : KeptGiving). g.is_tall) view ∙ tall)))
+    ∙ ap (λ (n : ℕ). with_newline own (left given.is_tall ++ (drop n frame ++ t.line))) end_is
+    ∙ ap (λ (bytes : List ℕ). with_newline own (left given.is_tall ++ (drop given.frame_end bytes ++ t.line))) frame_is
+    ∙ sym (following-lines t r k given (ap (λ (g : KeptGiving). g.rest) view ∙ rest)))
+
 -- a piece that has a byte is one
 long-by : (t : Bool) (piece : Piece) → t ≡ false → 0 < length (if t then [] else piece ∷ [])
 long-by true piece is = absurd (cc)

@@ -70,35 +70,6 @@ module _ (bytes frame : List ℕ) (formats : List FormatRow) (rows : KeptRows) (
       fewer-by t u (length zs) (length xs) zs xs refl refl (omega (arith, len, some))
 
   module _ (after : KeptWalk) (pieces others : KeptPieces) where
-    -- a line goes on, and there is no room for another step
-    pub goes-step : is_on_line g.place ≡ true → CanGo bytes formats rows g w → RowSteps frame (row_laid bytes g) w after pieces others
-        → others.room < others.taken + 4 → LineSteps bytes frame formats rows g g w after pieces others
-    goes-step on can steps full =
-        let s = sheet_by rows g in
-        let rest = all_lines s (behind_part s (coming bytes formats rows g)) in
-        let under : LineUnderWay bytes g w = subst (λ (t : Bool). UnderWayIf t bytes g w) on can.under in
-        let now : LineUnderWay bytes g after = record {
-          text = under.text;
-          draws = under.draws;
-          few = omega (arith, under.few, steps.stays.room);
-          under = steps.can;
-        } in
-        record {
-          added = steps.added;
-          adds = steps.adds;
-          same = on-line on ∙ ap (λ (xs : List ℕ). xs ++ rest) steps.joins
-              ∙ append_assoc steps.added (row_left after.next (row_laid bytes g) after) rest
-              ∙ ap (λ (xs : List ℕ). steps.added ++ xs)
-              (sym (ap (λ (t : Bool). lines_to_come_by t bytes rows g after (coming bytes formats rows g)) on));
-          can = record {
-            come = subst (λ (n : ℕ). HasCome bytes formats rows g n) (sym steps.stays.room) can.come;
-            under = subst (λ (t : Bool). UnderWayIf t bytes g after) (sym on) now;
-          };
-          less = λ room. absurd (omega (arith, room, full));
-          room = steps.stays.room;
-          own = refl;
-        }
-
     -- it ends, and what follows comes
     pub ends-step : is_on_line g.place ≡ true → CanGo bytes formats rows g w → RowEnds frame (row_laid bytes g) w after pieces others
         → (new : KeptLineByLine) (last : KeptWalk) → last.room ≡ after.room → CanGo bytes formats rows new last
@@ -183,5 +154,35 @@ module _ (bytes frame : List ℕ) (formats : List FormatRow) (rows : KeptRows) (
         less = λ _. fewer-steps false false (all_lines s x) (text ++ newline ∷ []) (all_lines s (coming bytes formats rows new)) same
             (omega (arith, length-append text (newline ∷ [])));
         room = refl;
+        own = refl;
+      }
+
+module _ {bytes frame : List ℕ} {formats : List FormatRow} {rows : KeptRows} {g : KeptLineByLine} {w after : KeptWalk} {pieces others : KeptPieces} where
+  -- a line goes on, and there is no room for another step
+  pub goes-step : is_on_line g.place ≡ true → CanGo bytes formats rows g w → RowSteps frame (row_laid bytes g) w after pieces others
+      → others.room < others.taken + 4 → LineSteps bytes frame formats rows g g w after pieces others
+  goes-step on can steps full =
+      let s = sheet_by rows g in
+      let rest = all_lines s (behind_part s (coming bytes formats rows g)) in
+      let under : LineUnderWay bytes g w = subst (λ (t : Bool). UnderWayIf t bytes g w) on can.under in
+      let now : LineUnderWay bytes g after = record {
+        text = under.text;
+        draws = under.draws;
+        few = omega (arith, under.few, steps.stays.room);
+        under = steps.can;
+      } in
+      record {
+        added = steps.added;
+        adds = steps.adds;
+        same = on-line bytes frame formats rows g w on ∙ ap (λ (xs : List ℕ). xs ++ rest) steps.joins
+            ∙ append_assoc steps.added (row_left after.next (row_laid bytes g) after) rest
+            ∙ ap (λ (xs : List ℕ). steps.added ++ xs)
+            (sym (ap (λ (t : Bool). lines_to_come_by t bytes rows g after (coming bytes formats rows g)) on));
+        can = record {
+          come = subst (λ (n : ℕ). HasCome bytes formats rows g n) (sym steps.stays.room) can.come;
+          under = subst (λ (t : Bool). UnderWayIf t bytes g after) (sym on) now;
+        };
+        less = λ room. absurd (omega (arith, room, full));
+        room = steps.stays.room;
         own = refl;
       }

@@ -7,7 +7,7 @@ use Rattle.tbl_picture.specs.Walks.{KeptWalk}
 use Rattle.tbl_pieces.specs.PieceQueue.{KeptPieces, bytes_left}
 use Rattle.tbl_pieces.specs.Pieces.{AreWithin}
 
-module _ (bytes frame : List ℕ) (formats : List FormatRow) (rows : KeptRows) (old new : KeptLineByLine) (before after : KeptWalk) (pieces others : KeptPieces)
+module _ {bytes frame : List ℕ} {formats : List FormatRow} {rows : KeptRows} {old new : KeptLineByLine} {before after : KeptWalk} {pieces others : KeptPieces}
     (step : LineSteps bytes frame formats rows old new before after pieces others) where
   -- what is given and what is to come stay the same
   pub lines-on : AreWithin bytes frame pieces.pieces

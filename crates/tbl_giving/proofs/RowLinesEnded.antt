@@ -78,28 +78,33 @@ module _ (bytes : List ℕ) (formats : List FormatRow) (rows : KeptRows) (g : Ke
       ended same
 
 -- what was given then, and what comes
-module _ (bytes : List ℕ) (formats : List FormatRow) (rows : KeptRows) (g : KeptLineByLine) (is : g.place ≡ OnRow) (w : KeptWalk) where
-  from-row : (new : KeptLineByLine) (last : KeptWalk) → LineGone bytes formats rows (record g { place = OnRow }) new w last
-      → LineGone bytes formats rows g new w last
-  from-row new last gone = subst (λ (p : Place). LineGone bytes formats rows (record g { place = p }) new w last) (sym is) gone
+module _ {bytes : List ℕ} {formats : List FormatRow} {rows : KeptRows} {g old : KeptLineByLine} {w : KeptWalk} (view : g ≡ old) (is : old.place ≡ OnRow) where
+  from-row : {new : KeptLineByLine} {last : KeptWalk} → LineGone bytes formats rows (record g { place = OnRow }) new w last
+      → LineGone bytes formats rows old new w last
+  from-row {new} {last} gone =
+      let place : g.place ≡ OnRow = ap (λ (k : KeptLineByLine). k.place) view ∙ is in
+      subst (λ (k : KeptLineByLine). LineGone bytes formats rows k new w last) view
+      (subst (λ (p : Place). LineGone bytes formats rows (record g { place = p }) new w last) (sym place) gone)
 
-  pub another-gone : (tall : KeptTall) → PartCame bytes formats rows (record g { place = OnRow }) (record g { place = OnRow; tall = tall }) w.room
-      → tall.room ≡ g.tall.room → (new : KeptLineByLine) (last : KeptWalk) → LineBegins bytes formats rows (record g { place = OnRow; tall = tall }) new w last
-      → LineGone bytes formats rows g new w last
-  another-gone tall came same new last begins =
-      from-row new last (record {
+  pub another-gone : {tall : KeptTall} {new : KeptLineByLine} {last : KeptWalk}
+      → PartCame bytes formats rows (record g { place = OnRow }) (record g { place = OnRow; tall = tall }) w.room → tall.room ≡ g.tall.room
+      → LineBegins bytes formats rows (record g { place = OnRow; tall = tall }) new w last → LineGone bytes formats rows old new w last
+  another-gone came same begins =
+      from-row (record {
         can = begins.can;
         same = begins.same ∙ ap (λ (x : ToCome). all_lines (sheet_by rows g) x) came.is;
         room = begins.room;
         own = begins.own ∙ same;
       })
 
-  pub last-gone : (tall : KeptTall) → PartCame bytes formats rows (record g { place = OnRow }) (record g { element = suc g.element; place = AtElement; tall = tall }) w.room
-      → tall.room ≡ g.tall.room → LineGone bytes formats rows g (record g { element = suc g.element; place = AtElement; tall = tall }) w w
-  last-gone tall came same =
-      from-row (record g { element = suc g.element; place = AtElement; tall = tall }) w (record {
+  pub last-gone : {tall : KeptTall} → PartCame bytes formats rows (record g { place = OnRow }) (record g { element = suc g.element; place = AtElement; tall = tall }) w.room
+      → tall.room ≡ g.tall.room → LineGone bytes formats rows old (record g { element = g.element + 1; place = AtElement; tall = tall }) w w
+  last-gone {tall} came same =
+      let one : suc g.element ≡ g.element + 1 = omega arith in
+      subst (λ (n : ℕ). LineGone bytes formats rows old (record g { element = n; place = AtElement; tall = tall }) w w) one
+      (from-row (record {
         can = record { come = came.come; under = tt };
         same = ap (λ (x : ToCome). all_lines (sheet_by rows g) x) came.is;
         room = refl;
         own = same;
-      })
+      }))

@@ -1,5 +1,5 @@
 -- Behind a line of rules of a picture with cells of several rows.
-use Rattle.std.proofs.Common.{◌≡◌, ℕ, zero, suc, ◌-◌, ◌≤◌, ◌<◌, false, List, [], ◌∷◌, drop, length, map, refl, sym, ap, subst, ◌∙◌, arith, ◌==◌}
+use Rattle.std.proofs.Common.{◌≡◌, ℕ, zero, suc, ◌+◌, ◌-◌, ◌≤◌, ◌<◌, false, List, [], ◌∷◌, drop, length, map, refl, sym, ap, subst, ◌∙◌, arith, ◌==◌}
 use Rattle.tbl_format.specs.Format.{FormatRow}
 use Rattle.tbl_kept.specs.Rows.{Command, KeptElement, KeptRows, Row, Rule, heights_of}
 use Rattle.tbl_layout.specs.Entries.{Element, Rule as OneRule}
@@ -176,8 +176,10 @@ module _ (bytes : List ℕ) (formats : List FormatRow) (rows : KeptRows) (g : Ke
       (ap (λ (es : List KeptElement). heights_now tall.lines_left es) is ∙ ap (λ (es : List KeptElement). heights_now g.tall.lines_left es) (sym is) ∙ sym come.heights)
       tt
 
-  pub element-ended : HasCome bytes formats rows (record g { place = OnRule OfElement }) room → PartAt OfElement (suc g.element) AtElement
-  element-ended come = element-by (drop g.element rows.elements) refl come.stands.stands come
+  pub element-ended : HasCome bytes formats rows (record g { place = OnRule OfElement }) room → PartAt OfElement (g.element + 1) AtElement
+  element-ended come =
+      let one : suc g.element ≡ g.element + 1 = omega arith in
+      subst (λ (n : ℕ). PartAt OfElement n AtElement) one (element-by (drop g.element rows.elements) refl come.stands.stands come)
 
   pub front-ended : HasCome bytes formats rows (record g { place = OnRule InFront }) room → PartAt InFront g.element AtElement
   front-ended come = front-by (drop g.element rows.elements) refl come.stands.stands come
@@ -185,12 +187,17 @@ module _ (bytes : List ℕ) (formats : List FormatRow) (rows : KeptRows) (g : Ke
   pub end-ended : HasCome bytes formats rows (record g { place = OnRule OfEnd }) room → PartAt OfEnd g.element AtEnd
   end-ended come = last-ended come.stands.stands come
 
-  -- wherever the line stands
-  pub gone-by : (at : RuleAt) (element : ℕ) (next : Place) → g.place ≡ OnRule at → is_on_line next ≡ false
-      → (HasCome bytes formats rows (record g { place = OnRule at }) room → PartAt at element next) → HasCome bytes formats rows g room
-      → PartGone bytes formats rows g (record g { element = element; place = next; tall = tall }) room
-  gone-by at element next place off part come =
-      let new = record g { element = element; place = next; tall = tall } in
-      let came = part (subst (λ (p : Place). HasCome bytes formats rows (record g { place = p }) room) place come) in
-      subst (λ (p : Place). PartGone bytes formats rows (record g { place = p }) new room) (sym place)
-      (record { come = came.come; coming = came.is; bars = refl; width = refl; off = off; own = same })
+-- wherever the line stands
+pub gone-by : {bytes : List ℕ} {formats : List FormatRow} {rows : KeptRows} {g old : KeptLineByLine} {room : ℕ} {tall : KeptTall} {at : RuleAt} {element : ℕ}
+    {next : Place} → g ≡ old → old.place ≡ OnRule at → is_on_line next ≡ false → tall.room ≡ g.tall.room
+    → (HasCome bytes formats rows (record g { place = OnRule at }) room
+    → PartCame bytes formats rows (record g { place = OnRule at }) (record g { element = element; place = next; tall = tall }) room)
+    → HasCome bytes formats rows old room → PartGone bytes formats rows old (record g { element = element; place = next; tall = tall }) room
+gone-by {bytes} {formats} {rows} {g} {old} {room} {tall} {at} {element} {next} view is off same part come =
+    let new = record g { element = element; place = next; tall = tall } in
+    let place : g.place ≡ OnRule at = ap (λ (k : KeptLineByLine). k.place) view ∙ is in
+    let here = subst (λ (k : KeptLineByLine). HasCome bytes formats rows k room) (sym view) come in
+    let came = part (subst (λ (p : Place). HasCome bytes formats rows (record g { place = p }) room) place here) in
+    subst (λ (k : KeptLineByLine). PartGone bytes formats rows k new room) view
+    (subst (λ (p : Place). PartGone bytes formats rows (record g { place = p }) new room) (sym place)
+    (record { come = came.come; coming = came.is; bars = refl; width = refl; off = off; own = same }))

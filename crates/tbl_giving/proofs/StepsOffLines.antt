@@ -22,30 +22,28 @@ use Rattle.tbl_giving.specs.declared.line_by_line.RuleAt.TheVariants.{Element as
 use Rattle.tbl_pieces.specs.PieceQueue.{KeptPieces}
 use Rattle.tbl_tall.specs.Bands.{keys_left, wholes_left}
 
-module _ (bytes : List ℕ) (formats : List FormatRow) (rows : KeptRows) (g : KeptLineByLine) (w : KeptWalk) where
-  still-from : (place : Place) → g.place ≡ place → (new : KeptLineByLine) → StillCome bytes formats rows (record g { place = place }) new w.room
-      → StillCome bytes formats rows g new w.room
-  still-from place is new still = subst (λ (p : Place). StillCome bytes formats rows (record g { place = p }) new w.room) (sym is) still
+still-from : {bytes : List ℕ} {formats : List FormatRow} {rows : KeptRows} {g new : KeptLineByLine} {room : ℕ} {place : Place} → g.place ≡ place
+    → StillCome bytes formats rows (record g { place = place }) new room → StillCome bytes formats rows g new room
+still-from {bytes} {formats} {rows} {g} {new} {room} is still = subst (λ (p : Place). StillCome bytes formats rows (record g { place = p }) new room) (sym is) still
 
+module _ {bytes frame : List ℕ} {formats : List FormatRow} {rows : KeptRows} {g new : KeptLineByLine} {w after : KeptWalk} {pieces : KeptPieces} where
   -- a line of rules begins, or one of a row
-  pub rule-step : (frame : List ℕ) (place : Place) (at : RuleAt) (whole : Option RuleSign) → g.place ≡ place → is_on_line place ≡ false
-      → RuleNext bytes formats rows g place at whole w.room → (new : KeptLineByLine) (after : KeptWalk) (pieces : KeptPieces)
-      → LineBegins bytes formats rows (record g { place = OnRule at }) new w after → LineSteps bytes frame formats rows g new w after pieces pieces
-  rule-step frame place at whole is off next new after pieces begins =
-      begins-step bytes frame formats rows g w new after pieces (OnRule at) (ap (λ (p : Place). is_on_line p) is ∙ off) refl
-      (still-from place is (record g { place = OnRule at }) next.still) begins
+  pub rule-step : {place : Place} {at : RuleAt} {whole : Option RuleSign} → g.place ≡ place → is_on_line place ≡ false
+      → RuleNext bytes formats rows g place at whole w.room → LineBegins bytes formats rows (record g { place = OnRule at }) new w after
+      → LineSteps bytes frame formats rows g new w after pieces pieces
+  rule-step {place} {at} is off next begins =
+      begins-step bytes frame formats rows g w new after pieces (OnRule at) (ap (λ (p : Place). is_on_line p) is ∙ off) refl (still-from is next.still) begins
 
-  pub row-step : (frame : List ℕ) → g.place ≡ AtElement → StillCome bytes formats rows (record g { place = AtElement }) (record g { place = OnRow }) w.room
-      → (new : KeptLineByLine) (after : KeptWalk) (pieces : KeptPieces)
+  pub row-step : g.place ≡ AtElement → StillCome bytes formats rows (record g { place = AtElement }) (record g { place = OnRow }) w.room
       → LineBegins bytes formats rows (record g { place = OnRow }) new w after → LineSteps bytes frame formats rows g new w after pieces pieces
-  row-step frame is still new after pieces begins =
-      begins-step bytes frame formats rows g w new after pieces OnRow (ap (λ (p : Place). is_on_line p) is) refl
-      (still-from AtElement is (record g { place = OnRow }) still) begins
+  row-step is still begins =
+      begins-step bytes frame formats rows g w new after pieces OnRow (ap (λ (p : Place). is_on_line p) is) refl (still-from is still) begins
 
+module _ {bytes : List ℕ} {formats : List FormatRow} {rows : KeptRows} {g : KeptLineByLine} {w : KeptWalk} where
   -- what comes in front of a row
   module _ (is : g.place ≡ AtElement) (can : CanGo bytes formats rows g w) where
     here : HasCome bytes formats rows (record g { place = AtElement }) w.room
-    here = come-at bytes formats rows g w AtElement is w.room can.come
+    here = come-at is can.come
 
     whole-by : (kept : List KeptElement) → drop g.element rows.elements ≡ kept → IsRowFirst kept → (wholes_left g.tall.band == 0) ≡ false
         → RuleNext bytes formats rows g AtElement InFront (Some Single) w.room
@@ -86,13 +84,14 @@ module _ (bytes : List ℕ) (formats : List FormatRow) (rows : KeptRows) (g : Ke
     line-at row none more = line-by (drop g.element rows.elements) refl row none more
 
     -- an element that is a rule; and behind all of them a rule, or nothing
-    pub element-at : (sign : RuleSign) (kept : List KeptElement) → drop g.element rows.elements ≡ Rule sign ∷ kept
+    pub element-at : {sign : RuleSign} {kept : List KeptElement} → drop g.element rows.elements ≡ Rule sign ∷ kept
         → RuleNext bytes formats rows g AtElement OfElement (Some sign) w.room
-    element-at sign kept kept_is = element-next bytes formats rows g w.room sign kept kept_is here
+    element-at {sign} {kept} kept_is = element-next bytes formats rows g w.room sign kept kept_is here
 
-    pub end-at : (g.bars.boxing.bars == 0) ≡ false → drop g.element rows.elements ≡ []
-        → RuleNext bytes formats rows g AtElement OfEnd (Some (frame_sign g.bars.boxing.bars)) w.room
-    end-at some none = end-next bytes formats rows g w.room some none here
+    pub end-at : {sign : RuleSign} → sign ≡ frame_sign g.bars.boxing.bars → (g.bars.boxing.bars == 0) ≡ false → drop g.element rows.elements ≡ []
+        → RuleNext bytes formats rows g AtElement OfEnd (Some sign) w.room
+    end-at sign_is some none =
+        subst (λ (s : RuleSign). RuleNext bytes formats rows g AtElement OfEnd (Some s) w.room) (sym sign_is) (end-next bytes formats rows g w.room some none here)
 
     nothing-comes : (coming bytes formats rows (record g { place = AtElement })).elements ≡ [] → lines_to_come bytes formats rows g w ≡ []
     nothing-comes elements =
@@ -111,14 +110,15 @@ module _ (bytes : List ℕ) (formats : List FormatRow) (rows : KeptRows) (g : Ke
         nothing-comes elements
 
   -- the rule above everything
-  pub top-at : g.place ≡ AtTop → CanGo bytes formats rows g w
-      → RuleNext bytes formats rows g AtTop OfTop (Some (frame_sign g.bars.boxing.bars)) w.room
-  top-at is can = top-next bytes formats rows g w.room (come-at bytes formats rows g w AtTop is w.room can.come)
+  pub top-at : {sign : RuleSign} → sign ≡ frame_sign g.bars.boxing.bars → g.place ≡ AtTop → CanGo bytes formats rows g w
+      → RuleNext bytes formats rows g AtTop OfTop (Some sign) w.room
+  top-at sign_is is can =
+      subst (λ (s : RuleSign). RuleNext bytes formats rows g AtTop OfTop (Some s) w.room) (sym sign_is) (top-next bytes formats rows g w.room (come-at is can.come))
 
   -- behind everything nothing comes
   pub ended-at : g.place ≡ AtEnd → CanGo bytes formats rows g w → lines_to_come bytes formats rows g w ≡ []
   ended-at is can =
-      let come = come-at bytes formats rows g w AtEnd is w.room can.come in
+      let come = come-at is can.come in
       let x = coming bytes formats rows (record g { place = AtEnd }) in
       let s = sheet_by rows g in
       off-line bytes [] formats rows g w (ap (λ (p : Place). is_on_line p) is)

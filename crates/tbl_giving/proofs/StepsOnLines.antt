@@ -4,43 +4,40 @@ use Rattle.tbl_format.specs.Format.{FormatRow}
 use Rattle.tbl_kept.specs.Rows.{KeptRows}
 use Rattle.tbl_layout.specs.declared.bars.Bars.{Bars}
 use Rattle.tbl_lines.specs.PictureLines.{Sheet}
-use Rattle.tbl_giving.proofs.LayNext.{line-is-next, rule-is-next}
+use Rattle.tbl_giving.proofs.LayNext.{rule-is-next}
 use Rattle.tbl_giving.proofs.LineStepsMade.{ends-step, off-line}
 use Rattle.tbl_giving.specs.LinesWalked.{CanGo, HasCome, KeptLineByLine, LineGone, LineSteps, LineUnderWay, PartGone, StandsAtRule, UnderWayIf, coming, is_on_line, row_laid, sheet_by}
 use Rattle.tbl_giving.specs.PartsToCome.{ToCome, all_lines, behind_part}
 use Rattle.tbl_picture.specs.Walks.{KeptWalk, RowEnds}
 use Rattle.tbl_giving.specs.declared.line_by_line.Place.{Place}
-use Rattle.tbl_giving.specs.declared.line_by_line.Place.TheVariants.{OnRow, OnRule}
+use Rattle.tbl_giving.specs.declared.line_by_line.Place.TheVariants.{OnRule}
 use Rattle.tbl_giving.specs.declared.line_by_line.RuleAt.{RuleAt}
 use Rattle.tbl_pieces.specs.PieceQueue.{KeptPieces}
-use Rattle.tbl_tall.specs.TallRows.{LineIsNext, RuleIsNext}
+use Rattle.tbl_tall.specs.TallRows.{RuleIsNext}
 
 -- nothing is under way off a line
 off-under : (t : Bool) (bytes : List ℕ) (g : KeptLineByLine) (w : KeptWalk) → t ≡ false → UnderWayIf t bytes g w
 off-under true bytes g w off = absurd (cc)
 off-under false bytes g w off = tt
 
-module _ (bytes : List ℕ) (formats : List FormatRow) (rows : KeptRows) (g : KeptLineByLine) (w : KeptWalk) where
-  pub under-of : is_on_line g.place ≡ true → CanGo bytes formats rows g w → LineUnderWay bytes g w
-  under-of on can = subst (λ (t : Bool). UnderWayIf t bytes g w) on can.under
+module _ {bytes : List ℕ} {formats : List FormatRow} {rows : KeptRows} {g : KeptLineByLine} where
+  pub under-of : {w : KeptWalk} → is_on_line g.place ≡ true → CanGo bytes formats rows g w → LineUnderWay bytes g w
+  under-of {w} on can = subst (λ (t : Bool). UnderWayIf t bytes g w) on can.under
 
   -- what is known on a line of rules, and on one of a row
-  pub come-at : (place : Place) → g.place ≡ place → (room : ℕ) → HasCome bytes formats rows g room → HasCome bytes formats rows (record g { place = place }) room
-  come-at place is room come = subst (λ (p : Place). HasCome bytes formats rows (record g { place = p }) room) is come
+  pub come-at : {place : Place} {room : ℕ} → g.place ≡ place → HasCome bytes formats rows g room → HasCome bytes formats rows (record g { place = place }) room
+  come-at {place} {room} is come = subst (λ (p : Place). HasCome bytes formats rows (record g { place = p }) room) is come
 
-  pub on-rule-next : (at : RuleAt) → g.place ≡ OnRule at → (room : ℕ) → HasCome bytes formats rows g room → RuleIsNext bytes formats g.tall
-  on-rule-next at is room come = rule-is-next bytes formats rows g room at (come-at (OnRule at) is room come)
+  pub on-rule-next : {at : RuleAt} {room : ℕ} → g.place ≡ OnRule at → HasCome bytes formats rows g room → RuleIsNext bytes formats g.tall
+  on-rule-next {at} {room} is come = rule-is-next bytes formats rows g room at (come-at is come)
 
-  pub on-rule-stands : (at : RuleAt) → g.place ≡ OnRule at → (room : ℕ) → HasCome bytes formats rows g room → StandsAtRule at (drop g.element rows.elements)
-  on-rule-stands at is room come = (come-at (OnRule at) is room come).stands.stands
+  pub on-rule-stands : {at : RuleAt} {room : ℕ} → g.place ≡ OnRule at → HasCome bytes formats rows g room → StandsAtRule at (drop g.element rows.elements)
+  on-rule-stands is come = (come-at is come).stands.stands
 
-  pub on-row-next : g.place ≡ OnRow → (room : ℕ) → HasCome bytes formats rows g room → LineIsNext bytes g.tall
-  on-row-next is room come = line-is-next bytes formats rows g room (come-at OnRow is room come)
-
-  module _ (frame : List ℕ) (after : KeptWalk) (pieces others : KeptPieces) (on : is_on_line g.place ≡ true) (can : CanGo bytes formats rows g w)
+  module _ {frame : List ℕ} {w after : KeptWalk} {pieces others : KeptPieces} (on : is_on_line g.place ≡ true) (can : CanGo bytes formats rows g w)
       (ends : RowEnds frame (row_laid bytes g) w after pieces others) where
-    pub rule-ends : (new : KeptLineByLine) → PartGone bytes formats rows g new after.room → LineSteps bytes frame formats rows g new w after pieces others
-    rule-ends new gone =
+    pub rule-ends : {new : KeptLineByLine} → PartGone bytes formats rows g new after.room → LineSteps bytes frame formats rows g new w after pieces others
+    rule-ends {new} gone =
         let sheet : sheet_by rows new ≡ sheet_by rows g =
         ap (λ (b : Bars). record { bars = b; width = new.width; columns = rows.columns }) gone.bars
         ∙ ap (λ (n : ℕ). record { bars = g.bars; width = n; columns = rows.columns }) gone.width in
@@ -50,10 +47,10 @@ module _ (bytes : List ℕ) (formats : List FormatRow) (rows : KeptRows) (g : Ke
         ∙ ap (λ (s : Sheet). all_lines s (behind_part (sheet_by rows g) (coming bytes formats rows g))) sheet)
         gone.own
 
-    pub row-ends : (new : KeptLineByLine) (last : KeptWalk) → LineGone bytes formats rows g new after last
+    pub row-ends : {new : KeptLineByLine} {last : KeptWalk} → LineGone bytes formats rows g new after last
         → LineSteps bytes frame formats rows g new w last pieces others
-    row-ends new last gone = ends-step bytes frame formats rows g w after pieces others on can ends new last gone.room gone.can gone.same gone.own
+    row-ends {new} {last} gone = ends-step bytes frame formats rows g w after pieces others on can ends new last gone.room gone.can gone.same gone.own
 
   -- behind the row's pieces there is as much room
-  pub come-after : (after : KeptWalk) → after.room ≡ w.room → CanGo bytes formats rows g w → HasCome bytes formats rows g after.room
-  come-after after same can = subst (λ (n : ℕ). HasCome bytes formats rows g n) (sym same) can.come
+  pub come-after : {w : KeptWalk} {room : ℕ} → room ≡ w.room → CanGo bytes formats rows g w → HasCome bytes formats rows g room
+  come-after same can = subst (λ (n : ℕ). HasCome bytes formats rows g n) (sym same) can.come

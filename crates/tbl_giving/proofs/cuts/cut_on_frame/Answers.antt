@@ -1,50 +1,33 @@
-use Rattle.std.proofs.Common.{◌≡◌, ◌++◌, ℕ, Bool, true, false, List, [], ◌∷◌, ap, subst, arith, ◌==◌, if◌then◌else◌, ne_eqb}
-use Rattle.tbl_format.specs.RowsServed.{all_rows}
+use Rattle.std.proofs.Common.{◌≡◌, ◌++◌, ℕ, Bool, List, [], ◌∷◌, ap, arith, ◌==◌, if◌then◌else◌, ne_eqb}
 use Rattle.tbl_giving.proofs.CutsAtElements.{whole-can}
 use Rattle.tbl_giving.proofs.cuts.cut_on_frame.Goals as goal
-use Rattle.tbl_giving.specs.CutsCounted.{CutsCome}
+use Rattle.tbl_giving.proofs.cuts.cut_on_frame.Goals.{Else-bars-eq0}
 use Rattle.tbl_layout.specs.Entries.{Element, Rule}
-use Rattle.tbl_lines.specs.PictureLines.{Sheet, Whole, frame_rules, frame_sign}
-use Rattle.tbl_tall.specs.BandLaws.{NextPlaces}
+use Rattle.tbl_lines.specs.PictureLines.{Whole, frame_rules, frame_sign}
 use Rattle.tbl_tall.specs.TallRows.{WholeComes}
+
+framed : (c : Else-bars-eq0) (rest : List Element) → let boxing = c.args.drawn.bars.boxing in
+    frame_rules boxing ++ rest ≡ Rule (frame_sign boxing.bars) ∷ rest
+framed c rest =
+    let bars = c.args.drawn.bars.boxing.bars in
+    ap (λ (b : Bool). (if b then [] else Rule (frame_sign bars) ∷ []) ++ rest) (ne_eqb bars 0 c.if-bars-eq0.false)
 
 pub cut_on_rule-requires : goal.cut_on_rule-requires
 cut_on_rule-requires c =
     let r = c.requires.next in
-    let formats = all_rows c.args.format.now.format in
-    let bytes = c.args.drawn.bytes.now in
-    let s : Sheet = record { bars = c.args.drawn.bars; width = c.args.drawn.width; columns = c.args.rows.now.columns } in
-    let t = c.args.tall.now in
-    let sign = frame_sign s.bars.boxing.bars in
-    let framed : (s.bars.boxing.bars == 0) ≡ false = ne_eqb s.bars.boxing.bars 0 c.if-bars-eq0.false in
-    let is : frame_rules s.bars.boxing ++ r.rest ≡ Rule sign ∷ r.rest = ap (λ (b : Bool). (if b then [] else Rule sign ∷ []) ++ r.rest) framed in
-    let come = subst (λ (es : List Element). CutsCome bytes formats s t r.heights es r.count) is r.come in
-    let places = subst (λ (es : List Element). NextPlaces s es) is r.places in
-    record {
-      next = whole-can bytes formats s c.args.rows.now t.room c.requires.can t r.heights sign c.frame_sign.result r.rest r.count c.frame_sign.ensures
-          come places;
-    }
+    let is = framed (goal.at.cut_on_rule-requires c).Else-bars-eq0 r.rest in
+    record { next = whole-can _ _ _ c.args.rows.now _ c.requires.can _ _ _ _ _ _ c.frame_sign.ensures (rw is at r.come) (rw is at r.places) }
 
 pub returns-then-bars-eq0-clause-count : goal.returns-then-bars-eq0-clause-count
 returns-then-bars-eq0-clause-count c = λ heights rest count places come.
-    let formats = all_rows c.args.format.now.format in
-    let bytes = c.args.drawn.bytes.now in
-    let s : Sheet = record { bars = c.args.drawn.bars; width = c.args.drawn.width; columns = c.args.rows.now.columns } in
-    let t = c.args.tall.now in
-    let unframed : (s.bars.boxing.bars == 0) ≡ true = ap (λ (n : ℕ). n == 0) c.if-bars-eq0.true in
-    let is : frame_rules s.bars.boxing ++ rest ≡ rest =
-    ap (λ (b : Bool). (if b then [] else Rule (frame_sign s.bars.boxing.bars) ∷ []) ++ rest) unframed in
-    record { more = count; all = omega arith; come = subst (λ (es : List Element). CutsCome bytes formats s t heights es count) is come }
+    let sign = frame_sign c.args.drawn.bars.boxing.bars in
+    let unframed = ap (λ (n : ℕ). n == 0) c.if-bars-eq0.true in
+    let is : frame_rules c.args.drawn.bars.boxing ++ rest ≡ rest = ap (λ (b : Bool). (if b then [] else Rule sign ∷ []) ++ rest) unframed in
+    record { more = count; all = omega arith; come = rw is at come }
 
 pub returns-clause-count : goal.returns-clause-count
 returns-clause-count c = λ heights rest count places come.
-    let formats = all_rows c.args.format.now.format in
-    let bytes = c.args.drawn.bytes.now in
-    let s : Sheet = record { bars = c.args.drawn.bars; width = c.args.drawn.width; columns = c.args.rows.now.columns } in
-    let t = c.args.tall.now in
-    let sign = frame_sign s.bars.boxing.bars in
-    let framed : (s.bars.boxing.bars == 0) ≡ false = ne_eqb s.bars.boxing.bars 0 c.if-bars-eq0.false in
-    let is : frame_rules s.bars.boxing ++ rest ≡ Rule sign ∷ rest = ap (λ (b : Bool). (if b then [] else Rule sign ∷ []) ++ rest) framed in
+    let sign = frame_sign c.args.drawn.bars.boxing.bars in
+    let is = framed (goal.at.returns-clause-count c).Else-bars-eq0 rest in
     c.cut_on_rule.ensures.count heights (Rule sign ∷ rest) rest (Whole sign) count c.requires.can.places
-    (subst (λ (es : List Element). NextPlaces s es) is places) WholeComes c.frame_sign.ensures
-    (subst (λ (es : List Element). CutsCome bytes formats s t heights es count) is come)
+    (rw is at places) WholeComes c.frame_sign.ensures (rw is at come)

@@ -1,7 +1,7 @@
 use Rattle.std.proofs.Common.{refl}
 use Rattle.tbl_format.specs.Parts.{IsFront}
 use Rattle.tbl_kept.specs.TableText.{block_of}
-use Rattle.tbl_giving.specs.Giving.{KeptGiving}
+use Rattle.tbl_giving.specs.Giving.{kept_by}
 use Rattle.tbl_pieces.specs.PieceQueue.{bytes_left}
 use Rattle.tbl_giving.proofs.GivingLeft.{front-more, some_coming}
 use Rattle.tbl_giving.proofs.giving.Giving.buffered.Goals as goal
@@ -19,6 +19,5 @@ pub returns-clause-some : goal.returns-clause-some
 returns-clause-some c = λ some.
     let a = c.self.inside in
     let can = rw (← c.self.view_is) at c.requires in
-    let g : KeptGiving = record { pieces = a.pieces; rest = a.rest; has_newline = a.has_newline; walk = a.walk; lines = a.line_by_line; is_tall = a.is_tall; frame = a.frame.items; frame_end = a.frame_end; columns = a.walk.room } in
     c.buffered.ensures.some
-    (some_coming c.args.text.now c.args._rows.now c.args._format.now g a.pieces.pieces refl can.last (rw (← c.self.view_is) at some))
+    (some_coming c.args.text.now c.args._rows.now c.args._format.now (kept_by a) a.pieces.pieces refl can.last (rw (← c.self.view_is) at some))

@@ -1,7 +1,7 @@
 use Rattle.std.proofs.Common.{ℕ, ◌<◌, List, length, refl, ap, ◌∙◌, arith, length-take}
 use Rattle.tbl_pieces.specs.declared.pieces.Piece.TheVariants.{Frame}
 use Rattle.tbl_kept.specs.TableText.{block_of}
-use Rattle.tbl_giving.specs.Giving.{KeptGiving}
+use Rattle.tbl_giving.specs.Giving.{kept_by}
 use Rattle.tbl_giving.specs.declared.giving.Rest.TheVariants.{Lines}
 use Rattle.tbl_giving.proofs.GivingLeft.{coming-picture, frame-within, some-long, started-can, started-coming}
 use Rattle.tbl_giving.proofs.giving.Giving.give_picture.Goals as goal
@@ -12,20 +12,15 @@ returns-clause-coming c =
     let r = c.args.rows.now in
     let k = c.args.format.now in
     let frame = c.write_frame-self-inside in
-    let a = c.self.inside in
     let new = c.start_lines.new.self in
-    let old : KeptGiving = record {
+    let old = record (kept_by c.self.inside) {
       pieces = c.set_one.new.self;
       rest = Lines;
       has_newline = c.args.has_newline;
-      walk = a.walk;
-      lines = a.line_by_line;
-      is_tall = a.is_tall;
       frame = frame.new.frame.items;
       frame_end = frame.result;
-      columns = a.walk.room;
     } in
-    let g : KeptGiving = record old { walk = new.walk; lines = new.lines; is_tall = new.is_tall } in
+    let g = record old { walk = new.walk; lines = new.lines; is_tall = new.is_tall } in
     let starts = c.start_lines.ensures.starts in
     started-coming t r k c.args.bars c.args.width old new starts c.set_one.new.self refl refl
     ∙ rw c.set_one.ensures (coming-picture t r k g c.args.indent c.args.bars c.args.width frame.ensures.front frame.ensures.end starts.lines)
@@ -36,18 +31,13 @@ returns-clause-can c =
     let r = c.args.rows.now in
     let k = c.args.format.now in
     let frame = c.write_frame-self-inside in
-    let a = c.self.inside in
     let new = c.start_lines.new.self in
-    let old : KeptGiving = record {
+    let old = record (kept_by c.self.inside) {
       pieces = c.set_one.new.self;
       rest = Lines;
       has_newline = c.args.has_newline;
-      walk = a.walk;
-      lines = a.line_by_line;
-      is_tall = a.is_tall;
       frame = frame.new.frame.items;
       frame_end = frame.result;
-      columns = a.walk.room;
     } in
     let long : 0 < frame.result =
     omega (arith, ap (λ (bytes : List ℕ). length bytes) frame.ensures.front, length-take frame.result frame.new.frame.items) in

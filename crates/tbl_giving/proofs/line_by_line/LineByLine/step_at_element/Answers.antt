@@ -12,9 +12,17 @@ use Rattle.tbl_format.proofs.Elements.{each-at}
 use Rattle.tbl_format.proofs.Parts.{length-slice_range}
 use Rattle.tbl_pieces.proofs.Adding.{adds-fewer, adds-more}
 use Rattle.tbl_picture.specs.RulesWalked.{IsRowFirst}
+use Rattle.tbl_giving.proofs.PartsNext.{RuleNext}
 use Rattle.tbl_giving.proofs.LineStepsMade.{command-step}
 use Rattle.tbl_giving.proofs.StepsOffLines.{element-at, rule-step}
 use Rattle.tbl_giving.proofs.line_by_line.LineByLine.step_at_element.Goals as goal
+use Rattle.tbl_giving.proofs.line_by_line.LineByLine.step_at_element.Goals.{In-Rule}
+
+next : (c : In-Rule) → RuleNext c.args.bytes.now (all_rows c.args.format.now.format) c.args.rows.now c.args.self.now AtElement OfElement (Some c.in-Rule.sign) c.args.walk.now.room
+next c =
+    let elements = c.args.rows.now.elements in
+    element-at c.requires.place c.requires.can
+    (subst (λ (k : KeptLineByLine). drop k.element elements ≡ RuleKept c.in-Rule.sign ∷ drop (suc k.element) elements) c.self.view_is c.in-Rule.ensures)
 
 pub step_behind_all-requires-clause-none : goal.step_behind_all-requires-clause-none
 step_behind_all-requires-clause-none c =
@@ -22,29 +30,10 @@ step_behind_all-requires-clause-none c =
     let same : c.self.inside.element ≡ g.element = ap (λ (k : KeptLineByLine). k.element) c.self.view_is in
     drop_all g.element c.args.rows.now.elements (omega (arith, c.if-self-count.true, c.count.ensures, same))
 
-pub begin_rule-requires-clause-come : goal.begin_rule-requires-clause-come
-begin_rule-requires-clause-come c =
-    let g = c.args.self.now in
-    let bytes = c.args.bytes.now in
-    let formats = all_rows c.args.format.now.format in
-    let rows = c.args.rows.now in
-    let w = c.args.walk.now in
-    let sign = c.in-Rule.sign in
-    let next = element-at bytes formats rows g w c.requires.place c.requires.can sign (drop (suc g.element) rows.elements)
-    (subst (λ (k : KeptLineByLine). drop k.element rows.elements ≡ RuleKept sign ∷ drop (suc k.element) rows.elements) c.self.view_is c.in-Rule.ensures) in
-    next.still.come
-
-pub begin_rule-requires-clause-sign : goal.begin_rule-requires-clause-sign
-begin_rule-requires-clause-sign c =
-    let g = c.args.self.now in
-    let bytes = c.args.bytes.now in
-    let formats = all_rows c.args.format.now.format in
-    let rows = c.args.rows.now in
-    let w = c.args.walk.now in
-    let sign = c.in-Rule.sign in
-    let next = element-at bytes formats rows g w c.requires.place c.requires.can sign (drop (suc g.element) rows.elements)
-    (subst (λ (k : KeptLineByLine). drop k.element rows.elements ≡ RuleKept sign ∷ drop (suc k.element) rows.elements) c.self.view_is c.in-Rule.ensures) in
-    next.told
+pub begin_rule-requires : goal.begin_rule-requires
+begin_rule-requires c =
+    let rule = next (goal.at.begin_rule-requires c).In-Rule in
+    record { come = rule.still.come; sign = rule.told }
 
 pub step_at_row-requires-clause-row : goal.step_at_row-requires-clause-row
 step_at_row-requires-clause-row c =
@@ -52,21 +41,8 @@ step_at_row-requires-clause-row c =
     subst (λ (k : KeptLineByLine). IsRowFirst (drop k.element rows.elements)) c.self.view_is
     (subst (λ (es : List KeptElement). IsRowFirst es) (sym c.in-Row.ensures) tt)
 
-pub returns-in-Rule : goal.returns-in-Rule
-returns-in-Rule c = record {
-  step = λ frame.
-      let g = c.args.self.now in
-      let bytes = c.args.bytes.now in
-      let formats = all_rows c.args.format.now.format in
-      let rows = c.args.rows.now in
-      let w = c.args.walk.now in
-      let sign = c.in-Rule.sign in
-      let next = element-at bytes formats rows g w c.requires.place c.requires.can sign (drop (suc g.element) rows.elements)
-      (subst (λ (k : KeptLineByLine). drop k.element rows.elements ≡ RuleKept sign ∷ drop (suc k.element) rows.elements) c.self.view_is c.in-Rule.ensures) in
-      rule-step bytes formats rows g w frame AtElement OfElement (Some sign) c.requires.place refl next c.begin_rule.new.self c.begin_rule.new.walk c.args.pieces.now
-      c.begin_rule.ensures.begins;
-  escapes = c.begin_rule.ensures.escapes;
-}
+pub returns-in-Rule-clause-step : goal.returns-in-Rule-clause-step
+returns-in-Rule-clause-step c = λ frame. rule-step c.requires.place refl (next (goal.at.returns-in-Rule-clause-step c).In-Rule) c.begin_rule.ensures.begins
 
 pub returns-in-Command : goal.returns-in-Command
 returns-in-Command c = record {
