@@ -296,20 +296,20 @@ pub record FieldsSoFar (k : KeptText) (line : DataLine) (first at : ℕ) (had : 
   pub within : at ≤ line.to
   pub cells : cells_next now ≡ cells_next old
 
-module _ (k : KeptText) (line : DataLine) (first at : ℕ) (had : Bool) (old now : TableData) (so_far : FieldsSoFar k line first at had old now) where
+module _ {k : KeptText} {line : DataLine} {first at : ℕ} {had : Bool} {old now : TableData} (so_far : FieldsSoFar k line first at had old now) where
   -- what is left makes of it what all do
-  pub fields-end : (new : TableData) → Makes k line (line.to - at + 1) (fields_made k line at had now) InData now new
+  pub fields-end : {new : TableData} → Makes k line (line.to - at + 1) (fields_made k line at had now) InData now new
       → Makes k line (line.to - first + 1) (fields_made k line first had old) InData old new
-  fields-end new made =
+  fields-end {new} made =
       makes-behind k line (at - first) (line.to - at + 1) (line.to - first + 1) (fields_made k line at had now) (fields_made k line first had old) old now new
       (omega (arith, so_far.order, so_far.within)) so_far.table so_far.grown so_far.settled made
 
-  module _ (lies : LineLies (block_of k) line) (len : ℕ) (is : len ≡ field_len line.separator (left_from k line at)) where
-    pub fields-last : (new : TableData) → at + len ≡ line.to → Makes k line (line.to - at + 1) (last_made k line at had now) InData now new
+  module _ (lies : LineLies (block_of k) line) {len : ℕ} (is : len ≡ field_len line.separator (left_from k line at)) where
+    pub fields-last : {new : TableData} → at + len ≡ line.to → Makes k line (line.to - at + 1) (last_made k line at had now) InData now new
         → Makes k line (line.to - first + 1) (fields_made k line first had old) InData old new
-    fields-last new end made =
+    fields-last {new} end made =
         let alone = fields-alone k line lies at len so_far.within is end in
-        fields-end new
+        fields-end
         (makes-as k line (line.to - at + 1) (line.to - at + 1) (last_made k line at had now) (fields_made k line at had now) InData now new (omega arith)
         (λ options same. sym (ap (λ (fs : List (List ℕ)). with_fields (ends_joined k.pending) line.number (at - line.from) fs (contents_in k now) had (table_by InData options (block_of k) now)) alone))
         made)
@@ -336,9 +336,9 @@ module _ (k : KeptText) (line : DataLine) (first at : ℕ) (had : Bool) (old now
           ap (λ (fs : List (List ℕ)). with_fields (ends_joined k.pending) line.number (at - line.from) fs (contents_in k now) had (table_by InData options (block_of k) now))
           (fields-first k line lies at len so_far.within is more ∙ ap (λ (fs : List (List ℕ)). this ∷ fs) behind-it.is)
 
-      pub fields-next : (new : TableData) → line.from ≤ at → TakesField k line at (at + len) now new
+      pub fields-next : {new : TableData} → line.from ≤ at → TakesField k line at (at + len) now new
           → FieldsSoFar k line first (at + len + 1) had old new
-      fields-next new from taken =
+      fields-next {new} from taken =
           let ends = ends_joined k.pending in
           let n = line.number in
           let place : at - line.from + length this + 1 ≡ at + len + 1 - line.from =
