@@ -9,9 +9,6 @@ below c =
     last-counted _ _ _ c.args.rows.now _ _ c.loop-at.at _ _ c.cut_on_frame-below.ensures.count
     (drop_all c.loop-at.at c.args.rows.now.elements (omega (arith, c.loop-at-test.false, c.count-at-end.ensures))) c.loop-at.invariant.goes.rest
 
-pub start-requires : goal.start-requires
-start-requires c = record { lie = c.requires.can.lie; some = c.requires.can.some; room = c.requires.can.few }
-
 pub cut_on_frame-count-requires : goal.cut_on_frame-count-requires
 cut_on_frame-count-requires c =
     let can = c.requires.can in
@@ -68,9 +65,3 @@ overflow_add-result c = omega (arith, c.loop-at.invariant.goes.all, below (goal.
 
 pub returns-clause-count : goal.returns-clause-count
 returns-clause-count c = omega (arith, c.loop-at.invariant.goes.all, below (goal.at.returns-clause-count c).After-cut_on_frame-below)
-
-pub returns-clause-room : goal.returns-clause-room
-returns-clause-room c = c.cut_on_frame-below.ensures.room ∙ c.loop-at.invariant.room
-
-pub returns-clause-escapes : goal.returns-clause-escapes
-returns-clause-escapes c = c.cut_on_frame-below.ensures.escapes ∙ c.loop-at.invariant.escapes

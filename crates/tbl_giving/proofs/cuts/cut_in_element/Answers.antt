@@ -30,9 +30,6 @@ pub cut_in_front-in_front-requires-clause-next : goal.cut_in_front-in_front-requ
 cut_in_front-in_front-requires-clause-next c =
     front-comes _ _ _ c.args.rows.now _ c.requires.can c.args.at _ _ _ _ c.in-Row.ensures _ c.requires.count
 
-pub cut_in_row-in_row-requires-clause-can : goal.cut_in_row-in_row-requires-clause-can
-cut_in_row-in_row-requires-clause-can c = rw c.cut_in_front-in_front.ensures.room c.requires.can
-
 pub cut_in_row-in_row-requires-clause-next : goal.cut_in_row-in_row-requires-clause-next
 cut_in_row-in_row-requires-clause-next c =
     row-comes _ _ _ c.args.rows.now _ c.requires.can c.args.at _ _ _ _ c.in-Row.ensures _ _ c.args.tall.now _ 0 c.cut_in_front-in_front.ensures.count

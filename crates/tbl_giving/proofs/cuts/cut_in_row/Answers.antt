@@ -94,14 +94,3 @@ returns-clause-count c = λ keys rules height entries fields count is row.
     (rw none at so_far.stands) in
     row-go row so_far none (heights-behind (element-first elements c.args.at _ c.requires.at is)) (c.cut_on_line-last.ensures.count _ _ _ so_far.stands)
     (c.hand_on.ensures.comes _ s _ _ keys rules height entries refl refl can.places can.laid is ended)
-
-pub returns-clause-come : goal.returns-clause-come
-returns-clause-come c =
-    let same = c.cut_on_line-last.ensures.come ∙ c.loop-tall.invariant.come in
-    omega (arith, c.hand_on.ensures.come, same)
-
-pub returns-clause-room : goal.returns-clause-room
-returns-clause-room c = c.hand_on.ensures.room ∙ c.cut_on_line-last.ensures.room ∙ c.loop-tall.invariant.room
-
-pub returns-clause-escapes : goal.returns-clause-escapes
-returns-clause-escapes c = c.cut_on_line-last.ensures.escapes ∙ c.loop-tall.invariant.escapes

@@ -25,9 +25,6 @@ marked c {format} {cells} {lines} stands =
     c.mark_cut-count.ensures.stands _ _ format cells lines _ (cuts (goal.at.After-mark_cut-count c).After-lay_row format cells lines stands)
     (stands-laid c.lay_row.ensures.same stands)
 
-pub lay_row-requires : goal.lay_row-requires
-lay_row-requires c = record { next = rw c.columns.ensures c.requires.next }
-
 pub pass_line-requires : goal.pass_line-requires
 pass_line-requires c =
     let r = c.requires.next in

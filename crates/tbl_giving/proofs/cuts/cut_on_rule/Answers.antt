@@ -17,9 +17,6 @@ cuts c =
     let cut : CutsRule d.bytes.now formats d.bars d.width c.args.whole c.args.tall.now c.lay_rule.new.self c.columns.result.now = c.lay_rule.ensures.cut in
     subst (λ (cs : List Column). CutsRule d.bytes.now formats d.bars d.width c.args.whole c.args.tall.now c.lay_rule.new.self cs) c.columns.ensures cut
 
-pub lay_rule-requires : goal.lay_rule-requires
-lay_rule-requires c = record { next = rw c.columns.ensures c.requires.next }
-
 pub pass_rule-requires : goal.pass_rule-requires
 pass_rule-requires c =
     let r = c.requires.next in
