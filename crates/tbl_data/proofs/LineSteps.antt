@@ -53,10 +53,10 @@ pub none-kept : (k : KeptText) (d : TableData) → DataFits (block_of k) d → d
 none-kept k d fits closed = subst (λ (o : OpenBlock). OpenFits o d.rows.row) closed fits.block
 
 -- a row
-pub row-line : (k : KeptText) (line : DataLine) (kind : LineKind) (d new : TableData) → kind ≡ Row → d.rows.row ≡ []
+pub row-line : {k : KeptText} {line : DataLine} {kind : LineKind} {d new : TableData} → kind ≡ Row → d.rows.row ≡ []
     → Makes k line (line.to - line.from + 1) (fields_made k line line.from false d) InData d new
     → Makes k line (line.to - line.from + 1) (made_by kind k line) InData d new
-row-line k line kind d new is none made =
+row-line {k} {line} {kind} {d} {new} is none made =
     let count = line.to - line.from + 1 in
     let here : line.from - line.from ≡ 0 = omega arith in
     let text = left_from k line line.from in
@@ -70,9 +70,9 @@ row-line k line kind d new is none made =
     made
 
 -- a line that another one is known to be
-pub kind-line : (k : KeptText) (line : DataLine) (kind other : LineKind) (most : ℕ) (phase : Phase) (d new : TableData) → kind ≡ other
+pub kind-line : {k : KeptText} {line : DataLine} {kind other : LineKind} {most : ℕ} {phase : Phase} {d new : TableData} → kind ≡ other
     → Makes k line 0 (made_by other k line) phase d new → Makes k line most (made_by kind k line) phase d new
-kind-line k line kind other most phase d new is made =
+kind-line {k} {line} {kind} {other} {most} {phase} {d} {new} is made =
     makes-as k line 0 most (made_by other k line) (made_by kind k line) phase d new (omega arith)
     (λ options same. sym (ap (λ (x : LineKind). made_by x k line (table_by InData options (block_of k) d)) is)) made
 
