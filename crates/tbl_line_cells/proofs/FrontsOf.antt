@@ -40,10 +40,10 @@ abbrev pub Stands : Front → Option RuleSign → ℕ → ℕ → Column → Col
 Stands front sign from count c d to =
     from ≤ bar_place count c d → bar_place count c d + count ≤ to → StandsAs front (if_ruled sign from count c d to)
 
-pub stands-by : (front : Front) (sign other : Option RuleSign) (from begin count met : ℕ) (c d e f : Column) (to end : ℕ)
+pub stands-by : {front : Front} {sign other : Option RuleSign} {from begin count met : ℕ} {c d e f : Column} {to end : ℕ}
     → sign ≡ other → from ≡ begin → count ≡ met → c ≡ e → d ≡ f → to ≡ end
     → Stands front sign from count c d to → Stands front other begin met e f end
-stands-by front sign other from begin count met c d e f to end signs begins counts first second ends stands =
+stands-by {front} {sign} {other} {from} {begin} {count} {met} {c} {d} {e} {f} {to} {end} signs begins counts first second ends stands =
     subst (λ (n : ℕ). Stands front other begin met e f n) ends
     (subst (λ (g : Column). Stands front other begin met e g to) second
     (subst (λ (g : Column). Stands front other begin met g d to) first
@@ -67,11 +67,11 @@ are-there columns at c d others within is =
     (sym (drop-two columns at no_column no_column (omega (arith, within))) ∙ is) in
     record { first = same.0; second = ap (λ (n : ℕ). get_or columns n no_column) next ∙ same.1 }
 
-module _ (bytes : List ℕ) (cells : List CellLeft) (signs : List (Option RuleSign)) (counts : List ℕ) (columns : List Column) (lefts : List Left)
-    (bars : Bars) (line : RuleLine) (above below : Beside) (given : RuleGiven bytes cells signs counts columns lefts bars line above below)
-    (cover : Cover 0 (length columns) (keys_in cells)) (cell next at : ℕ) (has : HasColumn (keys_in cells) cell at)
+module _ {bytes : List ℕ} {cells : List CellLeft} {signs : List (Option RuleSign)} {counts : List ℕ} {columns : List Column} {lefts : List Left}
+    {bars : Bars} {line : RuleLine} {above below : Beside} (given : RuleGiven bytes cells signs counts columns lefts bars line above below)
+    (cover : Cover 0 (length columns) (keys_in cells)) {cell next at : ℕ} (has : HasColumn (keys_in cells) cell at)
     (has_next : HasColumn (keys_in cells) next (at + 1)) (within : at + 1 < length columns)
-    (c d : Column) (others : List Column) (is : drop at columns ≡ c ∷ d ∷ others) where
+    {c d : Column} {others : List Column} (is : drop at columns ≡ c ∷ d ∷ others) where
   abbrev pub all : List Over
   all = overs 0 lefts columns
 

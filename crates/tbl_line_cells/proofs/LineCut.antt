@@ -219,13 +219,13 @@ noted-by (Some own) s room drawn x cut old new is more =
     subst (λ (n : ℕ). Noted (Some own) cut (if nat_lt n (columns_of x.runs) then own ∷ [] else []) old new) (is own refl)
     (noted-if (nat_lt room (columns_of x.runs)) own cut old new more)
 
-pub cut-next : (bytes : List ℕ) (s : Sheet) (fronts : List Cell) (done : List Shown) (k next drawn after room : ℕ) (old new : KeptLine) (c : LaidCell)
-    (x : Shown) → CutFrom bytes s fronts done (suc k) next old → drop k done ≡ x ∷ drop (suc k) done
+pub cut-next : {bytes : List ℕ} {s : Sheet} {fronts : List Cell} {done : List Shown} {k next drawn after room : ℕ} {old new : KeptLine} {c : LaidCell}
+    {x : Shown} → CutFrom bytes s fronts done (suc k) next old → drop k done ≡ x ∷ drop (suc k) done
     → drawn ≡ next_drawn s.width (drop (suc k) fronts) (drop (suc k) done)
     → drop k new.cells ≡ c ∷ drop (suc k) old.cells → IsDrawn bytes c (shown_in room x.runs_on x)
     → ((own : Left) → x.runs_on ≡ Some own → room ≡ room_by s drawn x.at own) → CutMore (passes_room room x.runs_on x) x.runs_on old new
     → after ≡ (if not x.is_text && is_there x.runs then x.at else drawn) → CutFrom bytes s fronts done k after new
-cut-next bytes s fronts done k next drawn after room old new c x from rest drawn_is cells is room_is more after_is =
+cut-next {bytes} {s} {fronts} {done} {k} {next} {drawn} {after} {room} {old} {new} {c} {x} from rest drawn_is cells is room_is more after_is =
     let rest_done = drop (suc k) done in
     let rest_fronts = drop (suc k) fronts in
     let behind = drop-more k fronts in
@@ -296,10 +296,10 @@ cut-within s fronts columns from (x ∷ done) order =
     (cut-within s (drop 1 fronts) columns (end_behind from x.runs_on) done order.1)
 
 -- all of it
-pub cut-all : (bytes : List ℕ) (s : Sheet) (fronts : List Cell) (done : List Shown) (next columns : ℕ) (line : KeptLine)
+pub cut-all : {bytes : List ℕ} {s : Sheet} {fronts : List Cell} {done : List Shown} {next columns : ℕ} {line : KeptLine}
     → CutFrom bytes s fronts done 0 next line → length line.cut ≡ columns → RunInOrder columns 0 done
     → CutOn columns line (cut_cells s fronts done)
-cut-all bytes s fronts done next columns line from many order = record {
+cut-all {s = s} {fronts = fronts} {done = done} {columns = columns} from many order = record {
   ends = λ end some few. from.flags end some (omega (arith, few, many));
   first = from.first_is
       ∙ sym (first-each columns 0 (cut_cells s fronts done) (cut-rise s fronts columns 0 done order) (cut-within s fronts columns 0 done order));

@@ -10,10 +10,10 @@ pub record Ended (old new : LineCells) : Type 0 where
   pub capacity : vec_capacity new.cells ≡ vec_capacity old.cells
   pub cut_capacity : vec_capacity new.cut ≡ vec_capacity old.cut
 
-pub ended : (s t u : LineCells) → t ≡ record s { cells = t.cells; cut = t.cut; first_cut = t.first_cut }
+pub ended : {s t u : LineCells} → t ≡ record s { cells = t.cells; cut = t.cut; first_cut = t.first_cut }
     → vec_capacity t.cells ≡ vec_capacity s.cells → vec_capacity t.cut ≡ vec_capacity s.cut
     → u ≡ record t { cells = u.cells } → vec_capacity u.cells ≡ vec_capacity t.cells → Ended s u
-ended s t u first cells cut second more =
+ended {s} {t} {u} first cells cut second more =
     let own : u ≡ record t { cells = u.cells; cut = u.cut; first_cut = u.first_cut }
     = second ∙ ap (λ (x : LineCells). record t { cells = u.cells; cut = x.cut; first_cut = x.first_cut }) (sym second) in
     record {
@@ -22,8 +22,8 @@ ended s t u first cells cut second more =
       cut_capacity = ap (λ (x : LineCells). vec_capacity x.cut) second ∙ cut;
     }
 
-pub room-ended : (room : ℕ) (s t : LineCells) → Ended s t → LineHasRoom room s → LineHasRoom room t
-room-ended room s t ended has = record {
+pub room-ended : {room : ℕ} {s t : LineCells} → Ended s t → LineHasRoom room s → LineHasRoom room t
+room-ended ended has = record {
   signs = omega (arith, ap (λ (x : LineCells). vec_capacity x.signs) ended.line, has.signs);
   cells = omega (arith, ended.capacity, has.cells);
   cut = omega (arith, ended.cut_capacity, has.cut);
@@ -34,8 +34,8 @@ room-ended room s t ended has = record {
   places = omega (arith, ap (λ (x : LineCells). vec_capacity x.places) ended.line, has.places);
 }
 
-pub row-ended : (s t : LineCells) → Ended s t → IsNoRow (kept_line s) → IsNoRow (kept_line t)
-row-ended s t ended none = record {
+pub row-ended : {s t : LineCells} → Ended s t → IsNoRow (kept_line s) → IsNoRow (kept_line t)
+row-ended ended none = record {
   columns = ap (λ (x : LineCells). x.columns.items) ended.line ∙ none.columns;
   keys = ap (λ (x : LineCells). x.keys.items) ended.line ∙ none.keys;
   entries = ap (λ (x : LineCells). x.entries.items) ended.line ∙ none.entries;

@@ -58,8 +58,8 @@ keeps-then old mid new first next = record {
   places = next.places ∙ first.places;
 }
 
-pub room-kept : (room : ℕ) (old new : LineCells) → KeepsRow old new → LineHasRoom room old → LineHasRoom room new
-room-kept room old new keeps has = record {
+pub room-kept : {room : ℕ} {old new : LineCells} → KeepsRow old new → LineHasRoom room old → LineHasRoom room new
+room-kept keeps has = record {
   signs = omega (arith, has.signs, ap vec_capacity keeps.signs);
   cells = omega (arith, has.cells, keeps.cells);
   cut = omega (arith, has.cut, ap vec_capacity keeps.cut);
@@ -70,8 +70,8 @@ room-kept room old new keeps has = record {
   places = omega (arith, has.places, ap vec_capacity keeps.places);
 }
 
-pub room-less : (room less : ℕ) (c : LineCells) → less ≤ room → LineHasRoom room c → LineHasRoom less c
-room-less room less c few has = record {
+pub room-less : {room less : ℕ} {c : LineCells} → less ≤ room → LineHasRoom room c → LineHasRoom less c
+room-less few has = record {
   signs = omega (arith, few, has.signs);
   cells = omega (arith, few, has.cells);
   cut = omega (arith, few, has.cut);
@@ -82,8 +82,8 @@ room-less room less c few has = record {
   places = omega (arith, few, has.places);
 }
 
-pub row-kept : (old new : LineCells) → KeepsRow old new → IsNoRow (kept_line old) → IsNoRow (kept_line new)
-row-kept old new keeps none = record {
+pub row-kept : {old new : LineCells} → KeepsRow old new → IsNoRow (kept_line old) → IsNoRow (kept_line new)
+row-kept keeps none = record {
   columns = ap (λ v. v.items) keeps.columns ∙ none.columns;
   keys = ap (λ v. v.items) keeps.keys ∙ none.keys;
   entries = ap (λ v. v.items) keeps.entries ∙ none.entries;

@@ -19,8 +19,7 @@ use Rattle.tbl_line_cells.proofs.line_cells.LineCells.lay_all.Goals as goal
 pub lay_cells-column-requires-clause-room : goal.lay_cells-column-requires-clause-room
 lay_cells-column-requires-clause-room c =
     let front = c.push_front in
-    room-kept (length c.args.columns.now) c.args.self.now front.new.self
-    (keeps-front c.args.self.now front.new.self front.ensures.line front.ensures.capacity) c.requires.room
+    room-kept (keeps-front c.args.self.now front.new.self front.ensures.line front.ensures.capacity) c.requires.room
 
 pub push_cell-requires-clause-room : goal.push_cell-requires-clause-room
 push_cell-requires-clause-room c =

@@ -1,4 +1,4 @@
-use Rattle.std.proofs.Common.{◌≡◌, ℕ, List, [], length, map, refl, ap, subst, ◌∙◌, arith}
+use Rattle.std.proofs.Common.{◌≤◌, ℕ, List, [], length, map, refl, ap, subst, ◌∙◌, arith}
 use Rattle.tbl_layout.specs.Spans.{cells_of}
 use Rattle.tbl_lines.specs.CellsLeft.{Left}
 use Rattle.tbl_lines.specs.LinesLeft.{Shown, all_cut, cut_cells, in_order, line_by, row_fronts}
@@ -6,68 +6,51 @@ use Rattle.tbl_lines.specs.PictureLines.{Cell, Sheet}
 use Rattle.tbl_line_cells.specs.LinesDrawn.{CutOn, Draws, if_any, kept_line}
 use Rattle.tbl_line_cells.specs.declared.line_cells.LineCells.{LineCells}
 use Rattle.tbl_line_cells.proofs.CellsInColumns.{few-cells, no_cell}
-use Rattle.tbl_line_cells.proofs.LineEnded.{cut-kept, ended, room-ended, row-ended}
+use Rattle.tbl_line_cells.proofs.LineEnded.{Ended, cut-kept, ended, room-ended, row-ended}
 use Rattle.tbl_line_cells.proofs.RowKept.{room-kept, room-less, row-kept}
+use Rattle.tbl_line_cells.proofs.line_cells.LineCells.lay_row.Goals.{After-order}
 use Rattle.tbl_line_cells.proofs.line_cells.LineCells.lay_row.Goals as goal
+
+-- behind what is laid, cells alone change, and what is cut of them: no more than there are columns
+behind : (c : After-order) → Ended c.lay_all.new.self c.order.new.self
+behind c =
+    let cut = c.cut_all.ensures in
+    ended cut.line cut.capacity cut.cut_capacity c.order.ensures.line c.order.ensures.capacity
+
+fewer : (c : After-order) → length c.order.new.self.cells.items ≤ length c.args.columns.now
+fewer c =
+    let few = few-cells c.args.cells.now c.args.columns.now no_cell c.requires.within in
+    omega (arith, c.order.ensures.count, c.cut_all.ensures.count, c.lay_all.ensures.count, few)
 
 pub lay_all-requires-clause-room : goal.lay_all-requires-clause-room
 lay_all-requires-clause-room c = c.clear.ensures.room (length c.args.columns.now) c.requires.room
 
-pub cut_all-requires-clause-laid : goal.cut_all-requires-clause-laid
-cut_all-requires-clause-laid c =
+pub cut_all-requires : goal.cut_all-requires
+cut_all-requires c =
     let kept = c.requires.kept in
     let bytes = c.args.bytes.now in
-    let row = c.lay_all.ensures.so_far bytes c.args.bars kept.lefts refl kept.left (c.clear.ensures.nothing bytes) in
-    record { done = row.done; fronts = row.fronts; so_far = row.so_far }
+    let laid = c.lay_all.ensures in
+    let row = laid.so_far bytes c.args.bars kept.lefts refl kept.left (c.clear.ensures.nothing bytes) in
+    record {
+      narrow = c.requires.narrow;
+      wide = c.requires.wide;
+      laid = record { done = row.done; fronts = row.fronts; so_far = row.so_far };
+      fronts = omega (arith, laid.count, laid.count_fronts);
+      cells = omega (arith, laid.count, few-cells c.args.cells.now c.args.columns.now no_cell c.requires.within);
+      room = (room-kept laid.keeps (c.clear.ensures.room (length c.args.columns.now) c.requires.room)).cut;
+      none = ap (λ v. v.items) laid.keeps.cut ∙ c.clear.ensures.no_cut;
+      none_cut = laid.keeps.first_cut ∙ c.clear.ensures.none_cut;
+    }
 
-pub cut_all-requires-clause-fronts : goal.cut_all-requires-clause-fronts
-cut_all-requires-clause-fronts c = omega (arith, c.lay_all.ensures.count, c.lay_all.ensures.count_fronts)
-
-pub cut_all-requires-clause-cells : goal.cut_all-requires-clause-cells
-cut_all-requires-clause-cells c =
-    omega (arith, c.lay_all.ensures.count, few-cells c.args.cells.now c.args.columns.now no_cell c.requires.within)
-
-pub cut_all-requires-clause-room : goal.cut_all-requires-clause-room
-cut_all-requires-clause-room c =
-    let columns = length c.args.columns.now in
-    (room-kept columns c.clear.new.self c.lay_all.new.self c.lay_all.ensures.keeps (c.clear.ensures.room columns c.requires.room)).cut
-
-pub cut_all-requires-clause-none : goal.cut_all-requires-clause-none
-cut_all-requires-clause-none c = ap (λ v. v.items) c.lay_all.ensures.keeps.cut ∙ c.clear.ensures.no_cut
-
-pub cut_all-requires-clause-none_cut : goal.cut_all-requires-clause-none_cut
-cut_all-requires-clause-none_cut c = c.lay_all.ensures.keeps.first_cut ∙ c.clear.ensures.none_cut
-
-pub finish-requires-clause-row : goal.finish-requires-clause-row
-finish-requires-clause-row c =
-    let cut = c.cut_all.ensures in
-    let order = c.order.ensures in
-    row-ended c.lay_all.new.self c.order.new.self
-    (ended c.lay_all.new.self c.cut_all.new.self c.order.new.self cut.line cut.capacity cut.cut_capacity order.line order.capacity)
-    (row-kept c.clear.new.self c.lay_all.new.self c.lay_all.ensures.keeps c.clear.ensures.row)
-
-pub finish-requires-clause-room : goal.finish-requires-clause-room
-finish-requires-clause-room c =
-    let columns = length c.args.columns.now in
-    let laid = c.lay_all in
-    let cut = c.cut_all.ensures in
-    let order = c.order.ensures in
-    room-less columns (length c.order.new.self.cells.items) c.order.new.self
-    (omega (arith, order.count, cut.count, laid.ensures.count, few-cells c.args.cells.now c.args.columns.now no_cell c.requires.within))
-    (room-ended columns laid.new.self c.order.new.self
-    (ended laid.new.self c.cut_all.new.self c.order.new.self cut.line cut.capacity cut.cut_capacity order.line order.capacity)
-    (room-kept columns c.clear.new.self laid.new.self laid.ensures.keeps (c.clear.ensures.room columns c.requires.room)))
-
-pub finish-requires-clause-few : goal.finish-requires-clause-few
-finish-requires-clause-few c =
-    omega (
-      arith,
-      c.order.ensures.count,
-      c.cut_all.ensures.count,
-      c.lay_all.ensures.count,
-      few-cells c.args.cells.now c.args.columns.now no_cell c.requires.within,
-      c.requires.few,
-    )
+pub finish-requires : goal.finish-requires
+finish-requires c =
+    let here = (goal.at.finish-requires c).After-order in
+    let room = room-kept c.lay_all.ensures.keeps (c.clear.ensures.room (length c.args.columns.now) c.requires.room) in
+    record {
+      row = row-ended (behind here) (row-kept c.lay_all.ensures.keeps c.clear.ensures.row);
+      room = room-less (fewer here) (room-ended (behind here) room);
+      few = omega (arith, fewer here, c.requires.few);
+    }
 
 pub returns-clause-draws : goal.returns-clause-draws
 returns-clause-draws c = λ lefts left.
@@ -111,15 +94,7 @@ returns-clause-cut c = λ lefts left.
     c.finish.ensures.row (c.cut_all.ensures.cut bars row.done row.fronts row.so_far row.order))
 
 pub returns-clause-few : goal.returns-clause-few
-returns-clause-few c =
-    omega (
-      arith,
-      c.finish.ensures.count,
-      c.order.ensures.count,
-      c.cut_all.ensures.count,
-      c.lay_all.ensures.count,
-      few-cells c.args.cells.now c.args.columns.now no_cell c.requires.within,
-    )
+returns-clause-few c = omega (arith, c.finish.ensures.count, fewer (goal.at.returns-clause-few c).After-order)
 
 pub returns-clause-signs : goal.returns-clause-signs
 returns-clause-signs c =
@@ -131,9 +106,5 @@ returns-clause-signs c =
 
 pub returns-clause-room : goal.returns-clause-room
 returns-clause-room c = λ room has.
-    let cut = c.cut_all.ensures in
-    let order = c.order.ensures in
     c.finish.ensures.room room
-    (room-ended room c.lay_all.new.self c.order.new.self
-    (ended c.lay_all.new.self c.cut_all.new.self c.order.new.self cut.line cut.capacity cut.cut_capacity order.line order.capacity)
-    (room-kept room c.clear.new.self c.lay_all.new.self c.lay_all.ensures.keeps (c.clear.ensures.room room has)))
+    (room-ended (behind (goal.at.returns-clause-room c).After-order) (room-kept c.lay_all.ensures.keeps (c.clear.ensures.room room has)))

@@ -1,14 +1,20 @@
-use Rattle.std.proofs.Common.{◌≡◌, ℕ, List, [], length, map, sym, ap, subst, ◌∙◌, arith, Vec, Global, Option, true}
+use Rattle.std.proofs.Common.{ℕ, List, [], length, map, ap, subst, ◌∙◌, arith, Vec, Global, Option, true}
 use Rattle.tbl_layout.specs.declared.data_lines.RuleSign.{RuleSign}
 use Rattle.tbl_lines.specs.CellsLeft.{Left}
 use Rattle.tbl_lines.specs.LinesLeft.{Shown, all_cut, cut_cells, in_order, line_by, rule_fronts, shown_cell}
 use Rattle.tbl_lines.specs.PictureLines.{Sheet, line_of, with_fronts}
 use Rattle.tbl_line_cells.specs.LinesDrawn.{CutOn, Draws, kept_line}
-use Rattle.tbl_line_cells.specs.RulesDrawn.{RuleGiven}
 use Rattle.tbl_line_cells.specs.declared.line_cells.LineCells.{LineCells}
-use Rattle.tbl_line_cells.proofs.LineEnded.{cut-kept, ended, room-ended, row-ended}
+use Rattle.tbl_line_cells.proofs.LineEnded.{Ended, cut-kept, ended, room-ended, row-ended}
 use Rattle.tbl_line_cells.proofs.RowKept.{room-kept, room-less, row-kept}
+use Rattle.tbl_line_cells.proofs.line_cells.LineCells.lay_rule.Goals.{After-order}
 use Rattle.tbl_line_cells.proofs.line_cells.LineCells.lay_rule.Goals as goal
+
+-- behind what is laid, cells alone change, and what is cut of them
+behind : (c : After-order) → Ended c.lay_ruled.new.self c.order.new.self
+behind c =
+    let cut = c.cut_all.ensures in
+    ended cut.line cut.capacity cut.cut_capacity c.order.ensures.line c.order.ensures.capacity
 
 pub lay_ruled-requires-clause-signs : goal.lay_ruled-requires-clause-signs
 lay_ruled-requires-clause-signs c =
@@ -17,59 +23,32 @@ lay_ruled-requires-clause-signs c =
 pub lay_ruled-requires-clause-room : goal.lay_ruled-requires-clause-room
 lay_ruled-requires-clause-room c = c.clear.ensures.room (length c.args.columns.now) c.requires.room
 
-pub cut_all-requires-clause-laid : goal.cut_all-requires-clause-laid
-cut_all-requires-clause-laid c =
+pub cut_all-requires : goal.cut_all-requires
+cut_all-requires c =
     let g = c.requires.given in
     let bytes = c.args.bytes.now in
-    let signs = sym (ap (λ (v : Vec (Option RuleSign) Global). v.items) c.clear.ensures.signs) in
-    let row = c.lay_ruled.ensures.laid bytes g.lefts g.bars g.line g.above g.below g.whole
-    (subst (λ (ss : List (Option RuleSign)). RuleGiven bytes c.args.cells.now ss c.args.counts.now c.args.columns.now g.lefts g.bars g.line g.above
-    g.below) signs g.given) (c.clear.ensures.nothing bytes) in
-    record { done = row.done; fronts = row.fronts; so_far = row.so_far }
+    let laid = c.lay_ruled.ensures in
+    let row = laid.laid bytes g.lefts g.bars g.line g.above g.below g.whole (rw c.clear.ensures.signs g.given) (c.clear.ensures.nothing bytes) in
+    record {
+      narrow = c.requires.narrow;
+      wide = c.requires.wide;
+      laid = record { done = row.done; fronts = row.fronts; so_far = row.so_far };
+      fronts = row.many;
+      cells = laid.few;
+      room = (room-kept laid.keeps (c.clear.ensures.room (length c.args.columns.now) c.requires.room)).cut;
+      none = ap (λ v. v.items) laid.keeps.cut ∙ c.clear.ensures.no_cut;
+      none_cut = laid.keeps.first_cut ∙ c.clear.ensures.none_cut;
+    }
 
-pub cut_all-requires-clause-fronts : goal.cut_all-requires-clause-fronts
-cut_all-requires-clause-fronts c =
-    let g = c.requires.given in
-    let bytes = c.args.bytes.now in
-    let signs = sym (ap (λ (v : Vec (Option RuleSign) Global). v.items) c.clear.ensures.signs) in
-    (c.lay_ruled.ensures.laid bytes g.lefts g.bars g.line g.above g.below g.whole
-    (subst (λ (ss : List (Option RuleSign)). RuleGiven bytes c.args.cells.now ss c.args.counts.now c.args.columns.now g.lefts g.bars g.line g.above
-    g.below) signs g.given) (c.clear.ensures.nothing bytes)).many
-
-pub cut_all-requires-clause-room : goal.cut_all-requires-clause-room
-cut_all-requires-clause-room c =
-    let columns = length c.args.columns.now in
-    (room-kept columns c.clear.new.self c.lay_ruled.new.self c.lay_ruled.ensures.keeps (c.clear.ensures.room columns c.requires.room)).cut
-
-pub cut_all-requires-clause-none : goal.cut_all-requires-clause-none
-cut_all-requires-clause-none c = ap (λ v. v.items) c.lay_ruled.ensures.keeps.cut ∙ c.clear.ensures.no_cut
-
-pub cut_all-requires-clause-none_cut : goal.cut_all-requires-clause-none_cut
-cut_all-requires-clause-none_cut c = c.lay_ruled.ensures.keeps.first_cut ∙ c.clear.ensures.none_cut
-
-pub finish-requires-clause-row : goal.finish-requires-clause-row
-finish-requires-clause-row c =
-    let cut = c.cut_all.ensures in
-    let order = c.order.ensures in
-    row-ended c.lay_ruled.new.self c.order.new.self
-    (ended c.lay_ruled.new.self c.cut_all.new.self c.order.new.self cut.line cut.capacity cut.cut_capacity order.line order.capacity)
-    (row-kept c.clear.new.self c.lay_ruled.new.self c.lay_ruled.ensures.keeps c.clear.ensures.row)
-
-pub finish-requires-clause-room : goal.finish-requires-clause-room
-finish-requires-clause-room c =
-    let columns = length c.args.columns.now in
-    let laid = c.lay_ruled in
-    let cut = c.cut_all.ensures in
-    let order = c.order.ensures in
-    room-less columns (length c.order.new.self.cells.items) c.order.new.self
-    (omega (arith, order.count, cut.count, laid.ensures.few))
-    (room-ended columns laid.new.self c.order.new.self
-    (ended laid.new.self c.cut_all.new.self c.order.new.self cut.line cut.capacity cut.cut_capacity order.line order.capacity)
-    (room-kept columns c.clear.new.self laid.new.self laid.ensures.keeps (c.clear.ensures.room columns c.requires.room)))
-
-pub finish-requires-clause-few : goal.finish-requires-clause-few
-finish-requires-clause-few c =
-    omega (arith, c.order.ensures.count, c.cut_all.ensures.count, c.lay_ruled.ensures.few, c.requires.few)
+pub finish-requires : goal.finish-requires
+finish-requires c =
+    let here = (goal.at.finish-requires c).After-order in
+    let room = room-kept c.lay_ruled.ensures.keeps (c.clear.ensures.room (length c.args.columns.now) c.requires.room) in
+    record {
+      row = row-ended (behind here) (row-kept c.lay_ruled.ensures.keeps c.clear.ensures.row);
+      room = room-less (omega (arith, c.order.ensures.count, c.cut_all.ensures.count, c.lay_ruled.ensures.few)) (room-ended (behind here) room);
+      few = omega (arith, c.order.ensures.count, c.cut_all.ensures.count, c.lay_ruled.ensures.few, c.requires.few);
+    }
 
 pub returns-clause-draws : goal.returns-clause-draws
 returns-clause-draws c = λ lefts bars line above below whole given.
@@ -77,10 +56,7 @@ returns-clause-draws c = λ lefts bars line above below whole given.
     let width = c.args.width in
     let any = record bars { has_any = true } in
     let s : Sheet = record { bars = bars; width = width; columns = c.args.columns.now } in
-    let signs = sym (ap (λ (v : Vec (Option RuleSign) Global). v.items) c.clear.ensures.signs) in
-    let row = c.lay_ruled.ensures.laid bytes lefts bars line above below whole
-    (subst (λ (ss : List (Option RuleSign)). RuleGiven bytes c.args.cells.now ss c.args.counts.now s.columns lefts bars line above below) signs given)
-    (c.clear.ensures.nothing bytes) in
+    let row = c.lay_ruled.ensures.laid bytes lefts bars line above below whole (rw c.clear.ensures.signs given) (c.clear.ensures.nothing bytes) in
     let shown = all_cut s row.fronts row.done in
     let cut = c.cut_all.ensures.so_far bars row.done row.fronts row.so_far in
     let order = c.order.ensures.so_far bytes shown row.fronts cut in
@@ -105,10 +81,7 @@ returns-clause-cut c = λ lefts bars line above below whole given.
     let bytes = c.args.bytes.now in
     let s : Sheet = record { bars = bars; width = c.args.width; columns = c.args.columns.now } in
     let count = length s.columns in
-    let signs = sym (ap (λ (v : Vec (Option RuleSign) Global). v.items) c.clear.ensures.signs) in
-    let row = c.lay_ruled.ensures.laid bytes lefts bars line above below whole
-    (subst (λ (ss : List (Option RuleSign)). RuleGiven bytes c.args.cells.now ss c.args.counts.now s.columns lefts bars line above below) signs given)
-    (c.clear.ensures.nothing bytes) in
+    let row = c.lay_ruled.ensures.laid bytes lefts bars line above below whole (rw c.clear.ensures.signs given) (c.clear.ensures.nothing bytes) in
     subst (λ (cut : List Left). CutOn count (kept_line c.finish.new.self) cut)
     (row.cut_of ∙ ap (λ (ss : List Shown). cut_cells s (rule_fronts s line lefts above below) ss) row.shown)
     (cut-kept count (cut_cells s row.fronts row.done) c.cut_all.new.self c.order.new.self c.finish.new.self c.order.ensures.line
@@ -119,9 +92,5 @@ returns-clause-few c = omega (arith, c.finish.ensures.count, c.order.ensures.cou
 
 pub returns-clause-room : goal.returns-clause-room
 returns-clause-room c = λ room has.
-    let cut = c.cut_all.ensures in
-    let order = c.order.ensures in
     c.finish.ensures.room room
-    (room-ended room c.lay_ruled.new.self c.order.new.self
-    (ended c.lay_ruled.new.self c.cut_all.new.self c.order.new.self cut.line cut.capacity cut.cut_capacity order.line order.capacity)
-    (room-kept room c.clear.new.self c.lay_ruled.new.self c.lay_ruled.ensures.keeps (c.clear.ensures.room room has)))
+    (room-ended (behind (goal.at.returns-clause-room c).After-order) (room-kept c.lay_ruled.ensures.keeps (c.clear.ensures.room room has)))
