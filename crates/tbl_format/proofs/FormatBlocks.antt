@@ -16,7 +16,7 @@ use Rattle.tbl_format.specs.declared.format.Key.{Key}
 use Rattle.tbl_format.proofs.KeyCounting.{has_some-long, has_some-none}
 use Rattle.tbl_format.proofs.KeysWith.{columns_of-append, has_some-columns, keys_with-own, keys_with-wide}
 use Rattle.roff_num.proofs.Lists.{last_end-append}
-use Rattle.tbl_format.proofs.Parts.{EndWithin-first, EndWithin-last, EndWithin-order, length-parts, length-slice_range, parts_ending-append, part-read, parts_ending-more, slice_range-rest}
+use Rattle.tbl_format.proofs.Parts.{EndWithin-first, PartRead, EndWithin-last, EndWithin-order, length-parts, length-slice_range, parts_ending-append, part-read, parts_ending-more, slice_range-rest}
 
 -- all keys are in a row, or in the one begun
 keys_of-with : (keys : List FormatKey) (from : ℕ) (ends bars : List ℕ) → EndWithin (length keys) from ends
@@ -307,13 +307,12 @@ with-first (keys ∷ rows) [] (suc n) = with-first rows [] n
 with-first (keys ∷ rows) (m ∷ bars) zero = refl
 with-first (keys ∷ rows) (m ∷ bars) (suc n) = with-first rows bars n
 
-pub row-read : (keys : List FormatKey) (ends row_bars : List ℕ) (first at start end : ℕ) → first + at < length ends
-    → start ≡ get_or (0 ∷ ends) (first + at) 0 → end ≡ get_or ends (first + at) 0
+pub row-read : (keys : List FormatKey) (ends row_bars : List ℕ) (first at : ℕ) {start end : ℕ} → PartRead ends (first + at) start end
     → slice_range keys start end ≡ first_format (drop at (drop first (rows_kept keys ends row_bars)))
-row-read keys ends row_bars first at start end some start_is end_is =
+row-read keys ends row_bars first at read =
     sym (ap first_format (drop-drop first at (rows_kept keys ends row_bars))
     ∙ with-first (parts_ending keys 0 ends) row_bars (first + at)
-    ∙ ap first_keys (part-read keys ends (first + at) start end some start_is end_is))
+    ∙ ap first_keys (part-read keys read))
 
 -- and among the rows of all formats
 first-row_at : (rows : List FormatRow) (at : ℕ) → first_format (drop at rows) ≡ (row_at rows at).keys
@@ -337,14 +336,12 @@ module _ (keys : List FormatKey) (ends row_bars : List ℕ) (first : ℕ) where
   pub count-all : length (take first kept ++ drop first kept) ≡ length ends
   count-all = ap length (take-append-drop first kept) ∙ length-rows keys ends row_bars
 
-  pub row_of_all-read : (at start end : ℕ) → at < length ends
-      → start ≡ get_or (0 ∷ ends) at 0 → end ≡ get_or ends at 0
-      → slice_range keys start end ≡ (row_at (take first kept ++ drop first kept) at).keys
-  row_of_all-read at start end some start_is end_is =
+  pub row_of_all-read : (at : ℕ) {start end : ℕ} → PartRead ends at start end → slice_range keys start end ≡ (row_at (take first kept ++ drop first kept) at).keys
+  row_of_all-read at read =
       sym (ap (λ (rows : List FormatRow). (row_at rows at).keys) (take-append-drop first kept)
       ∙ sym (first-row_at kept at)
       ∙ with-first (parts_ending keys 0 ends) row_bars at
-      ∙ ap first_keys (part-read keys ends at start end some start_is end_is))
+      ∙ ap first_keys (part-read keys read))
 
   pub bars_of_all-read : (at : ℕ) → at < length ends → get_or row_bars at 0 ≡ (row_at (take first kept ++ drop first kept) at).bars
   bars_of_all-read at some =

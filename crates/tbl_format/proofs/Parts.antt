@@ -40,11 +40,15 @@ EndInOrder-at len from (end ∷ ends) zero order some = record { order = order.0
 EndInOrder-at len from (end ∷ ends) (suc at) order some = EndInOrder-at len end ends at order.1 (omega (arith, some))
 
 -- so it is where its start and its end are read
-pub IsPart-read : (len : ℕ) (ends : List ℕ) (at start end : ℕ) → EndInOrder len 0 ends → at < length ends
-    → start ≡ get_or (0 ∷ ends) at 0 → end ≡ get_or ends at 0 → IsPart len start end
-IsPart-read len ends at start end order some start_is end_is =
-    let part = EndInOrder-at len 0 ends at order some in
-    record { order = omega (arith, part.order, start_is, end_is); within = omega (arith, part.within, end_is) }
+pub record PartRead (ends : List ℕ) (at start end : ℕ) : Type 0 where
+  pub some : at < length ends
+  pub start_is : start ≡ get_or (0 ∷ ends) at 0
+  pub end_is : end ≡ get_or ends at 0
+
+pub IsPart-read : {len : ℕ} {ends : List ℕ} {at start end : ℕ} → EndWithin len 0 ends → PartRead ends at start end → IsPart len start end
+IsPart-read {len} {ends} {at} within read =
+    let part = EndInOrder-at len 0 ends at (EndWithin-order len 0 ends within) read.some in
+    record { order = omega (arith, part.order, read.start_is, read.end_is); within = omega (arith, part.within, read.end_is) }
 
 -- there are no more of them than elements
 pub EndWithin-count : (len from : ℕ) (ends : List ℕ) → EndWithin len from ends → length ends + from ≤ last_end from ends
@@ -94,13 +98,13 @@ module _ {A : Type 0} where
       parts_ending-at items end ends at (omega (arith, some))
       ∙ ap (λ (n : ℕ). slice_range items (get_or (end ∷ ends) at 0) (get_or ends at 0) ∷ drop n parts) next
 
-  pub part-read : (items : List A) (ends : List ℕ) (at start end : ℕ) → at < length ends → start ≡ get_or (0 ∷ ends) at 0 → end ≡ get_or ends at 0
+  pub part-read : (items : List A) {ends : List ℕ} {at start end : ℕ} → PartRead ends at start end
       → drop at (parts_ending items 0 ends) ≡ slice_range items start end ∷ drop (at + 1) (parts_ending items 0 ends)
-  part-read items ends at start end some start_is end_is =
+  part-read items {ends} {at} {start} read =
       let later = drop (at + 1) (parts_ending items 0 ends) in
-      parts_ending-at items 0 ends at some
-      ∙ ap (λ (n : ℕ). slice_range items n (get_or ends at 0) ∷ later) (sym start_is)
-      ∙ ap (λ (n : ℕ). slice_range items start n ∷ later) (sym end_is)
+      parts_ending-at items 0 ends at read.some
+      ∙ ap (λ (n : ℕ). slice_range items n (get_or ends at 0) ∷ later) (sym read.start_is)
+      ∙ ap (λ (n : ℕ). slice_range items start n ∷ later) (sym read.end_is)
 
   pub length-parts : (items : List A) (from : ℕ) (ends : List ℕ) → length (parts_ending items from ends) ≡ length ends
   length-parts items from [] = refl

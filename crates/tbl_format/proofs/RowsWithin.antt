@@ -1,5 +1,5 @@
 -- Rows whose cells have no more columns than the table.
-use Rattle.std.proofs.Common.{◌≡◌, ℕ, ◌+◌, ◌<◌, ◌≤◌, true, false, nat_lt, List, [], ◌∷◌, ◌++◌, length, drop, get_or, refl, sym, ap, subst, ◌∙◌, arith}
+use Rattle.std.proofs.Common.{◌≡◌, ℕ, ◌+◌, ◌<◌, ◌≤◌, true, false, nat_lt, List, [], ◌∷◌, ◌++◌, length, drop, refl, sym, ap, subst, ◌∙◌, arith}
 use Rattle.std.proofs.lemmas.Bool.Decides.{nat_tests}
 use Rattle.std.specs.List.{AllByRecursion, slice_range}
 use Rattle.tbl_format.specs.Cells.{AreCells}
@@ -11,7 +11,7 @@ use Rattle.tbl_format.specs.declared.format_step.Does.{Does}
 use Rattle.tbl_format.specs.declared.format_step.Does.TheVariants.{AddBar, AddKey, DropWidth, EndFormat, EndRow, Equalize, LeaveOut, Nothing, Separate, Stand, Widen}
 use Rattle.tbl_format.proofs.Elements.{each-append, each-at}
 use Rattle.tbl_format.proofs.KeysWith.{cells-append, cells-changed, cells-kept, columns-some, columns_of-append, columns_of-changed, columns_of-kept, has_some-columns}
-use Rattle.tbl_format.proofs.Parts.{part-read, parts_ending-append, slice_range-rest}
+use Rattle.tbl_format.proofs.Parts.{PartRead, part-read, parts_ending-append, slice_range-rest}
 
 -- a table with more columns
 pub within-more : (few many : ℕ) (keys : List FormatKey) → few ≤ many → AreWithin few keys → AreWithin many keys
@@ -79,8 +79,7 @@ module _ (columns : ℕ) (keys : List FormatKey) (ends : List ℕ) where
       (each-append (AreWithin columns) (parts_ending keys 0 ends) (drop (last_end 0 ends) keys ∷ []) whole (row, tt))
 
   -- one of the rows
-  pub all-read : (at start end : ℕ) → at < length ends → start ≡ get_or (0 ∷ ends) at 0 → end ≡ get_or ends at 0
-      → AllByRecursion (AreWithin columns) (parts_ending keys 0 ends) → AreWithin columns (slice_range keys start end)
-  all-read at start end some start_is end_is whole =
+  pub all-read : {at start end : ℕ} → PartRead ends at start end → AllByRecursion (AreWithin columns) (parts_ending keys 0 ends) → AreWithin columns (slice_range keys start end)
+  all-read {at} {start} {end} read whole =
       each-at (AreWithin columns) (parts_ending keys 0 ends) at (slice_range keys start end) (drop (at + 1) (parts_ending keys 0 ends)) whole
-      (part-read keys ends at start end some start_is end_is)
+      (part-read keys read)
