@@ -3,7 +3,7 @@ use Rattle.std.proofs.Common.{◌≡◌, ℕ, nat_lt, ◌+◌, ◌-◌, ◌≤�
 use Rattle.tbl_format.proofs.Elements.{each-at}
 use Rattle.tbl_format.specs.Format.{FormatRow}
 use Rattle.tbl_format.specs.RowsServed.{row_at}
-use Rattle.tbl_kept.specs.Rows.{KeptElement, KeptRows, Row, Rule, elements_of, fields_of, heights_of}
+use Rattle.tbl_kept.specs.Rows.{Command, KeptElement, KeptRows, Row, Rule, elements_of, fields_of, heights_of}
 use Rattle.tbl_layout.specs.Entries.{Element, Row as OneRow, Rule as OneRule}
 use Rattle.tbl_layout.specs.declared.data_lines.RuleSign.{RuleSign}
 use Rattle.tbl_layout.specs.declared.data_lines.RuleSign.TheVariants.{Single}
@@ -43,6 +43,22 @@ no-keys : (formats : List FormatRow) (b : KeptBand) → nat_lt b.at (b.wholes + 
 no-keys formats b ended none =
     let no_more : b.count - (b.at - b.wholes) ≡ 0 = none-left b.at b.wholes b.count ended none in
     ap (λ (n : ℕ). take n (drop (b.first + (b.at - b.wholes)) formats)) no_more
+
+-- the first of some elements is a row
+pub record RowFirst (all : List KeptElement) : Type 0 where
+  pub keys : ℕ
+  pub others : ℕ
+  pub height : ℕ
+  pub entries : List Entry
+  pub kept : List KeptElement
+  pub is : all ≡ Row keys others height entries ∷ kept
+
+pub row-first : (all : List KeptElement) → IsRowFirst all → RowFirst all
+row-first [] row = absurd row
+row-first (Row keys others height entries ∷ kept) row =
+    record { keys = keys; others = others; height = height; entries = entries; kept = kept; is = refl }
+row-first (Rule sign ∷ kept) row = absurd row
+row-first (Command from to ∷ kept) row = absurd row
 
 -- a line of rules comes next, and its sign is told
 pub record RuleNext (bytes : List ℕ) (formats : List FormatRow) (rows : KeptRows) (g : KeptLineByLine) (place : Place) (at : RuleAt) (whole : Option RuleSign)
@@ -116,36 +132,35 @@ module _ (bytes : List ℕ) (formats : List FormatRow) (rows : KeptRows) (g : Ke
   end-next some none come = end-by (g.bars.boxing.bars == 0) refl some none come
 
   -- in front of a row
-  module _ (keys others height : ℕ) (entries : List Entry) (kept : List KeptElement)
-      (is : drop g.element rows.elements ≡ Row keys others height entries ∷ kept) (come : HasCome bytes formats rows (at_place AtElement) room) where
+  module _ (row : RowFirst rest_kept) (come : HasCome bytes formats rows (at_place AtElement) room) where
     abbrev row-of : List FormatRow → Element
-    row-of rules = OneRow rules (row_at formats keys) (fields_of bytes (row_at formats keys) entries)
+    row-of rules = OneRow rules (row_at formats row.keys) (fields_of bytes (row_at formats row.keys) row.entries)
 
     abbrev behind : List Element
-    behind = boxed_from g.bars.boxing true (elements_of bytes formats kept)
+    behind = boxed_from g.bars.boxing true (elements_of bytes formats row.kept)
 
     row-left : (t : Bool) → (wholes_left g.tall.band == 0) ≡ t → elements_left bytes formats rows (at_place AtElement)
         ≡ (if t then [] else OneRule Single ∷ []) ++ row-of (keys_left formats g.tall.band) ∷ behind
     row-left t none =
-        ap (λ (es : List KeptElement). boxed_now g.bars.boxing bytes formats (wholes_left g.tall.band) (keys_left formats g.tall.band) es) is
-        ∙ row-split g.bars.boxing bytes formats t (wholes_left g.tall.band) none (keys_left formats g.tall.band) keys others height entries kept
+        ap (λ (es : List KeptElement). boxed_now g.bars.boxing bytes formats (wholes_left g.tall.band) (keys_left formats g.tall.band) es) row.is
+        ∙ row-split g.bars.boxing bytes formats t (wholes_left g.tall.band) none (keys_left formats g.tall.band) row.keys row.others row.height row.entries row.kept
 
     pub whole-next : (wholes_left g.tall.band == 0) ≡ false → RuleNext bytes formats rows g AtElement InFront (Some Single) room
     whole-next some =
         let rest = row-of (keys_left formats g.tall.band) ∷ behind in
         rule-next AtElement InFront (Some Single) come come.stands refl (OneRule Single ∷ rest) (row-left false some) (Whole Single) rest WholeComes
-        (subst (λ (es : List KeptElement). IsRowFirst es) (sym is) tt) (told-whole (OneRule Single ∷ rest) rest Single refl)
+        (subst (λ (es : List KeptElement). IsRowFirst es) (sym row.is) tt) (told-whole (OneRule Single ∷ rest) rest Single refl)
 
     -- rows of rule keys are left, or none
     keys-next : (rules : List FormatRow) → keys_left formats g.tall.band ≡ rules → 0 < length rules → (wholes_left g.tall.band == 0) ≡ true
         → RuleNext bytes formats rows g AtElement InFront None room
     keys-next [] rules_are some none = absurd (omega (arith, some))
     keys-next (rule ∷ rules) rules_are some none =
-        let fields = fields_of bytes (row_at formats keys) entries in
+        let fields = fields_of bytes (row_at formats row.keys) row.entries in
         rule-next AtElement InFront None come come.stands refl (row-of (rule ∷ rules) ∷ behind)
         (row-left true none ∙ ap (λ (rs : List FormatRow). row-of rs ∷ behind) rules_are) (OfKeys rule) (row-of rules ∷ behind) KeysCome
-        (subst (λ (es : List KeptElement). IsRowFirst es) (sym is) tt)
-        (told-keys (row-of (rule ∷ rules) ∷ behind) behind rule rules (row_at formats keys) fields refl)
+        (subst (λ (es : List KeptElement). IsRowFirst es) (sym row.is) tt)
+        (told-keys (row-of (rule ∷ rules) ∷ behind) behind rule rules (row_at formats row.keys) fields refl)
 
     pub rule-keys-next : wholes_left g.tall.band ≡ 0 → nat_lt g.tall.band.at (g.tall.band.wholes + g.tall.band.count) ≡ true
         → RuleNext bytes formats rows g AtElement InFront None room
@@ -169,17 +184,17 @@ module _ (bytes : List ℕ) (formats : List FormatRow) (rows : KeptRows) (g : Ke
         let elements : x.elements ≡ row-of [] ∷ behind =
         come.elements ∙ row-left true (ap (λ (n : ℕ). n == 0) none) ∙ ap (λ (rs : List FormatRow). row-of rs ∷ behind) no_rules in
         let left : elements_left bytes formats rows (at_place OnRow) ≡ row-of [] ∷ behind =
-        ap (λ (es : List KeptElement). boxed_now g.bars.boxing bytes formats 0 [] es) is in
-        let heights : g.tall.lines_left ∷ heights_of kept ≡ height ∷ heights_of kept =
-        ap (λ (es : List KeptElement). heights_now g.tall.lines_left es) (sym is) ∙ front.whole ∙ ap (λ (es : List KeptElement). heights_of es) is in
-        let high : 0 < height = each-at IsHigh rows.elements g.element (Row keys others height entries) kept come.drawn.high is in
-        let lines : g.tall.lines_left ≡ height = ap (λ (hs : List ℕ). get_or hs 0 0) heights in
+        ap (λ (es : List KeptElement). boxed_now g.bars.boxing bytes formats 0 [] es) row.is in
+        let heights : g.tall.lines_left ∷ heights_of row.kept ≡ row.height ∷ heights_of row.kept =
+        ap (λ (es : List KeptElement). heights_now g.tall.lines_left es) (sym row.is) ∙ front.whole ∙ ap (λ (es : List KeptElement). heights_of es) row.is in
+        let high : 0 < row.height = each-at IsHigh rows.elements g.element (Row row.keys row.others row.height row.entries) row.kept come.drawn.high row.is in
+        let lines : g.tall.lines_left ≡ row.height = ap (λ (hs : List ℕ). get_or hs 0 0) heights in
         let comes = subst (λ (es : List Element). Comes bytes formats s g.tall x.heights x.cells x.above es) elements front.comes in
         still-come bytes formats rows (at_place AtElement) room OnRow g.tall come refl refl (left ∙ sym elements) (sym come.heights)
         (record {
-          format = row_at formats keys;
-          row = subst (λ (es : List KeptElement). IsRowOf formats (row_at formats keys) es) (sym is) refl;
-          more = height - 1;
+          format = row_at formats row.keys;
+          row = subst (λ (es : List KeptElement). IsRowOf formats (row_at formats row.keys) es) (sym row.is) refl;
+          more = row.height - 1;
           stands = record {
             left = comes.left;
             keys = comes.keys;

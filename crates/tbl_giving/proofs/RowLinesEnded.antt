@@ -3,10 +3,10 @@ use Rattle.std.proofs.Common.{◌≡◌, ℕ, suc, ◌+◌, ◌-◌, ◌<◌, Li
 use Rattle.tbl_format.specs.Format.{FormatRow}
 use Rattle.tbl_format.specs.RowsServed.{row_at}
 use Rattle.tbl_kept.specs.Rows.{Command, KeptElement, KeptRows, Row, Rule}
-use Rattle.tbl_layout.specs.declared.entry.Entry.{Entry}
 use Rattle.tbl_lines.specs.CellsLeft.{bars_at_end, behind_line}
 use Rattle.tbl_lines.specs.LinesLeft.{OfRow}
 use Rattle.tbl_giving.proofs.LinesGo.{PartCame}
+use Rattle.tbl_giving.proofs.PartsNext.{RowFirst}
 use Rattle.tbl_giving.proofs.RowsEnded.{HandsOn, another, row-ended}
 use Rattle.tbl_giving.proofs.RulesEnded.{drop-within}
 use Rattle.tbl_giving.specs.LinesWalked.{HasCome, IsRowOf, KeptLineByLine, LineBegins, LineGone, coming, sheet_by}
@@ -18,23 +18,13 @@ use Rattle.tbl_tall.specs.TallRows.{KeptTall, RowEnded, RowStands}
 
 -- the first of some elements is a row, which this row of the formats serves
 record FirstRow (formats : List FormatRow) (format : FormatRow) (all : List KeptElement) : Type 0 where
-  pub keys : ℕ
-  pub others : ℕ
-  pub height : ℕ
-  pub entries : List Entry
-  pub kept : List KeptElement
-  pub is : all ≡ Row keys others height entries ∷ kept
-  pub serves : format ≡ row_at formats keys
+  pub row : RowFirst all
+  pub serves : format ≡ row_at formats row.keys
 
 first-row : (formats : List FormatRow) (format : FormatRow) (all : List KeptElement) → IsRowOf formats format all → FirstRow formats format all
 first-row formats format [] row = absurd row
 first-row formats format (Row keys others height entries ∷ kept) row = record {
-  keys = keys;
-  others = others;
-  height = height;
-  entries = entries;
-  kept = kept;
-  is = refl;
+  row = record { keys = keys; others = others; height = height; entries = entries; kept = kept; is = refl };
   serves = row;
 }
 first-row formats format (Rule sign ∷ kept) row = absurd row
@@ -52,14 +42,14 @@ module _ (bytes : List ℕ) (formats : List FormatRow) (rows : KeptRows) (g : Ke
   first = first-row formats come.stands.format (drop g.element rows.elements) come.stands.row
 
   pub row-within : g.element < length rows.elements
-  row-within = drop-within g.element rows.elements (Row first.keys first.others first.height first.entries) first.kept first.is
+  row-within = drop-within g.element rows.elements (Row first.row.keys first.row.others first.row.height first.row.entries) first.row.kept first.row.is
 
   pub line-another : (tall : KeptTall) → RowStands bytes (sheet_by rows g) tall come.stands.format (map behind_line x.cells) come.stands.more
       → 0 < tall.lines_left → tall.come ≡ g.tall.come → tall.room ≡ g.tall.room
       → PartCame bytes formats rows on (record g { place = OnRow; tall = tall }) room
   line-another tall stands some ended same =
       let more : come.stands.more ≡ suc (come.stands.more - 1) = omega (arith, some, stands.height) in
-      another bytes formats rows g room come first.keys first.others first.height first.entries first.kept first.is tall (come.stands.more - 1)
+      another bytes formats rows g room come first.row tall (come.stands.more - 1)
       more ended same
       (subst (λ (n : ℕ). RowStands bytes (sheet_by rows g) tall come.stands.format (map behind_line x.cells) n) more stands)
 
@@ -73,7 +63,7 @@ module _ (bytes : List ℕ) (formats : List FormatRow) (rows : KeptRows) (g : Ke
   line-last mid tall stands none ends hands ended same =
       let more : come.stands.more ≡ 0 = sym stands.height ∙ none in
       let one = subst (λ (n : ℕ). RowStands bytes (sheet_by rows g) g.tall come.stands.format x.cells (suc n)) more come.stands.stands in
-      row-ended bytes formats rows g room come first.keys first.others first.height first.entries first.kept first.is mid tall more hands
+      row-ended bytes formats rows g room come first.row mid tall more hands
       (subst (λ (f : FormatRow). RowEnded bytes (sheet_by rows g) mid (map behind_line x.cells) (OfRow x.cells (bars_at_end (length rows.columns) f))) first.serves (ends one))
       ended same
 

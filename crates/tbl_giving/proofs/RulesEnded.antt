@@ -12,8 +12,8 @@ use Rattle.tbl_tall.specs.BandLaws.{HasLinePlaces}
 use Rattle.tbl_options.specs.declared.options.Boxing.{Boxing}
 use Rattle.tbl_giving.proofs.LinesGo.{PartCame, behind-in-front, behind-last, behind-whole, gone, part-came, rule-height}
 use Rattle.tbl_giving.proofs.PartsCome.{rule-behind, rule-has}
+use Rattle.tbl_giving.proofs.PartsNext.{row-first}
 use Rattle.tbl_giving.specs.LinesWalked.{HasCome, IsRuleFirst, KeptLineByLine, PartGone, is_on_line, StandsNext, boxed_now, coming, elements_left, heights_left, heights_now, sheet_by}
-use Rattle.tbl_picture.specs.RulesWalked.{IsRowFirst}
 use Rattle.tbl_giving.specs.PartsToCome.{ToCome, behind_part}
 use Rattle.tbl_giving.specs.declared.line_by_line.Place.{Place}
 use Rattle.tbl_giving.specs.declared.line_by_line.Place.TheVariants.{AtElement, AtEnd, OnRule}
@@ -145,25 +145,6 @@ module _ (bytes : List ℕ) (formats : List FormatRow) (rows : KeptRows) (g : Ke
       (ap (λ (es : List KeptElement). heights_now g.tall.lines_left es) next_is ∙ ap (λ (es : List KeptElement). heights_now g.tall.lines_left es) (sym is))
       (ap (λ (es : List KeptElement). heights_of es) next_is ∙ ap (λ (es : List KeptElement). heights_of es) (sym is))
 
-  front-by : (kept : List KeptElement) → drop g.element rows.elements ≡ kept → IsRowFirst kept
-      → HasCome bytes formats rows (record g { place = OnRule InFront }) room → PartAt InFront g.element AtElement
-  front-by [] is first come = absurd first
-  front-by (Rule sign ∷ kept) is first come = absurd first
-  front-by (Command from to ∷ kept) is first come = absurd first
-  front-by (Row keys others height entries ∷ kept) is first come =
-      let x = coming bytes formats rows (record g { place = OnRule InFront }) in
-      let next = new bytes formats rows g room InFront tall come passes ended same in
-      let boxing = g.bars.boxing in
-      let wholes = wholes_left g.tall.band in
-      let rules = keys_left formats g.tall.band in
-      let elements = come.elements ∙ ap (λ (es : List KeptElement). boxed_now boxing bytes formats wholes rules es) is in
-      in-front bytes formats rows g room InFront tall come passes ended same g.element (omega arith) come.element
-      (ap (λ (es : List KeptElement). boxed_now boxing bytes formats (wholes_left tall.band) (keys_left formats tall.band) es) is
-      ∙ behind-in-front boxing bytes formats (wholes == 0) wholes refl rules keys others height entries kept come.stands.rest come.stands.line
-      (subst (λ (es : List Element). RuleComes es come.stands.line come.stands.rest) elements come.stands.rule)
-      (wholes_left tall.band) (keys_left formats tall.band) next.wholes next.rules)
-      refl refl
-
   last-ended : drop g.element rows.elements ≡ [] → HasCome bytes formats rows (record g { place = OnRule OfEnd }) room → PartAt OfEnd g.element AtEnd
   last-ended is come =
       let x = coming bytes formats rows (record g { place = OnRule OfEnd }) in
@@ -182,7 +163,20 @@ module _ (bytes : List ℕ) (formats : List FormatRow) (rows : KeptRows) (g : Ke
       subst (λ (n : ℕ). PartAt OfElement n AtElement) one (element-by (drop g.element rows.elements) refl come.stands.stands come)
 
   pub front-ended : HasCome bytes formats rows (record g { place = OnRule InFront }) room → PartAt InFront g.element AtElement
-  front-ended come = front-by (drop g.element rows.elements) refl come.stands.stands come
+  front-ended come =
+      let row = row-first (drop g.element rows.elements) come.stands.stands in
+      let x = coming bytes formats rows (record g { place = OnRule InFront }) in
+      let next = new bytes formats rows g room InFront tall come passes ended same in
+      let boxing = g.bars.boxing in
+      let wholes = wholes_left g.tall.band in
+      let rules = keys_left formats g.tall.band in
+      let elements = come.elements ∙ ap (λ (es : List KeptElement). boxed_now boxing bytes formats wholes rules es) row.is in
+      in-front bytes formats rows g room InFront tall come passes ended same g.element (omega arith) come.element
+      (ap (λ (es : List KeptElement). boxed_now boxing bytes formats (wholes_left tall.band) (keys_left formats tall.band) es) row.is
+      ∙ behind-in-front boxing bytes formats (wholes == 0) wholes refl rules row.keys row.others row.height row.entries row.kept come.stands.rest come.stands.line
+      (subst (λ (es : List Element). RuleComes es come.stands.line come.stands.rest) elements come.stands.rule)
+      (wholes_left tall.band) (keys_left formats tall.band) next.wholes next.rules)
+      refl refl
 
   pub end-ended : HasCome bytes formats rows (record g { place = OnRule OfEnd }) room → PartAt OfEnd g.element AtEnd
   end-ended come = last-ended come.stands.stands come

@@ -1,7 +1,7 @@
 -- Steps in front of elements of a picture with cells of several rows: a line begins.
 use Rattle.std.proofs.Common.{◌≡◌, ℕ, nat_lt, ◌+◌, Bool, true, false, List, [], ◌∷◌, drop, Option, None, Some, refl, sym, ap, subst, ◌∙◌, ◌==◌, if◌then◌else◌}
 use Rattle.tbl_format.specs.Format.{FormatRow}
-use Rattle.tbl_kept.specs.Rows.{Command, KeptElement, KeptRows, Row, Rule}
+use Rattle.tbl_kept.specs.Rows.{KeptElement, KeptRows, Rule}
 use Rattle.tbl_layout.specs.declared.data_lines.RuleSign.{RuleSign}
 use Rattle.tbl_layout.specs.declared.data_lines.RuleSign.TheVariants.{Single}
 use Rattle.tbl_layout.specs.Entries.{Element, Rule as OneRule}
@@ -9,7 +9,7 @@ use Rattle.tbl_lines.specs.PictureLeft.{lines_left}
 use Rattle.tbl_lines.specs.PictureLines.{frame_sign}
 use Rattle.tbl_giving.proofs.LineStepsMade.{begins-step, off-line}
 use Rattle.tbl_giving.proofs.LinesLaid.{StillCome}
-use Rattle.tbl_giving.proofs.PartsNext.{RuleNext, element-next, end-next, row-next, rule-keys-next, top-next, whole-next}
+use Rattle.tbl_giving.proofs.PartsNext.{RuleNext, element-next, end-next, row-next, row-first, rule-keys-next, top-next, whole-next}
 use Rattle.tbl_giving.proofs.StepsOnLines.{come-at}
 use Rattle.tbl_giving.specs.LinesWalked.{CanGo, HasCome, KeptLineByLine, LineBegins, LineSteps, boxed_now, coming, is_on_line, lines_to_come, sheet_by}
 use Rattle.tbl_picture.specs.RulesWalked.{IsRowFirst}
@@ -45,43 +45,18 @@ module _ {bytes : List ℕ} {formats : List FormatRow} {rows : KeptRows} {g : Ke
     here : HasCome bytes formats rows (record g { place = AtElement }) w.room
     here = come-at is can.come
 
-    whole-by : (kept : List KeptElement) → drop g.element rows.elements ≡ kept → IsRowFirst kept → (wholes_left g.tall.band == 0) ≡ false
-        → RuleNext bytes formats rows g AtElement InFront (Some Single) w.room
-    whole-by [] kept_is row some = absurd row
-    whole-by (Rule sign ∷ kept) kept_is row some = absurd row
-    whole-by (Command from to ∷ kept) kept_is row some = absurd row
-    whole-by (Row keys others height entries ∷ kept) kept_is row some =
-        whole-next bytes formats rows g w.room keys others height entries kept kept_is here some
-
     pub whole-at : IsRowFirst (drop g.element rows.elements) → (wholes_left g.tall.band == 0) ≡ false
         → RuleNext bytes formats rows g AtElement InFront (Some Single) w.room
-    whole-at row some = whole-by (drop g.element rows.elements) refl row some
-
-    keys-by : (kept : List KeptElement) → drop g.element rows.elements ≡ kept → IsRowFirst kept → wholes_left g.tall.band ≡ 0
-        → nat_lt g.tall.band.at (g.tall.band.wholes + g.tall.band.count) ≡ true → RuleNext bytes formats rows g AtElement InFront None w.room
-    keys-by [] kept_is row none more = absurd row
-    keys-by (Rule sign ∷ kept) kept_is row none more = absurd row
-    keys-by (Command from to ∷ kept) kept_is row none more = absurd row
-    keys-by (Row keys others height entries ∷ kept) kept_is row none more =
-        rule-keys-next bytes formats rows g w.room keys others height entries kept kept_is here none more
+    whole-at row some = whole-next bytes formats rows g w.room (row-first (drop g.element rows.elements) row) here some
 
     pub keys-at : IsRowFirst (drop g.element rows.elements) → wholes_left g.tall.band ≡ 0
         → nat_lt g.tall.band.at (g.tall.band.wholes + g.tall.band.count) ≡ true → RuleNext bytes formats rows g AtElement InFront None w.room
-    keys-at row none more = keys-by (drop g.element rows.elements) refl row none more
-
-    line-by : (kept : List KeptElement) → drop g.element rows.elements ≡ kept → IsRowFirst kept → wholes_left g.tall.band ≡ 0
-        → nat_lt g.tall.band.at (g.tall.band.wholes + g.tall.band.count) ≡ false
-        → StillCome bytes formats rows (record g { place = AtElement }) (record g { place = OnRow }) w.room
-    line-by [] kept_is row none more = absurd row
-    line-by (Rule sign ∷ kept) kept_is row none more = absurd row
-    line-by (Command from to ∷ kept) kept_is row none more = absurd row
-    line-by (Row keys others height entries ∷ kept) kept_is row none more =
-        row-next bytes formats rows g w.room keys others height entries kept kept_is here none more
+    keys-at row none more = rule-keys-next bytes formats rows g w.room (row-first (drop g.element rows.elements) row) here none more
 
     pub line-at : IsRowFirst (drop g.element rows.elements) → wholes_left g.tall.band ≡ 0
         → nat_lt g.tall.band.at (g.tall.band.wholes + g.tall.band.count) ≡ false
         → StillCome bytes formats rows (record g { place = AtElement }) (record g { place = OnRow }) w.room
-    line-at row none more = line-by (drop g.element rows.elements) refl row none more
+    line-at row none more = row-next bytes formats rows g w.room (row-first (drop g.element rows.elements) row) here none more
 
     -- an element that is a rule; and behind all of them a rule, or nothing
     pub element-at : {sign : RuleSign} {kept : List KeptElement} → drop g.element rows.elements ≡ Rule sign ∷ kept
