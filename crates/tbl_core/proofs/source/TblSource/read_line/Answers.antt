@@ -13,8 +13,8 @@ invariant_of-self g c = record {
   quiet = λ is. ap noted c.read_line.ensures.pending;
 }
 
-pub returns-clause-silent : goal.returns-clause-silent
-returns-clause-silent g c = λ is.
+pub returns : goal.returns
+returns g c =
     let old = c.self.inside.tables in
     let new = c.read_line.new.self in
     let front = c.reading-count.result.now in
@@ -28,29 +28,18 @@ returns-clause-silent g c = λ is.
     let took = subst (λ (bytes : List ℕ). Took (g.S.ByteSource.gives c.self.inside.inner) (g.S.ByteSource.gives c.pass.new.self) (map OneByte bytes)) same c.pass.ensures.gives in
     rw (← c.self.view_is)
     (record {
-      goes_on = line_goes_on old new front known none after.pending behind after.limits after.line_length _ _ took;
-      takes_on = line_takes old new front known none after.pending behind after.limits _ _ took;
-      pending = after.pending;
-      reads = line_reads_on old new front known none after.pending behind after.limits;
-      falls = omega (arith, fewer_behind_line old new front known none after.pending behind after.limits, c.pass.ensures.notes);
-    })
-
-pub returns-clause-later : goal.returns-clause-later
-returns-clause-later g c =
-    let old = c.self.inside.tables in
-    let new = c.read_line.new.self in
-    let front = c.reading-count.result.now in
-    let ready = g.S.ByteSource.ready c.self.inside.inner in
-    let same : take (length front) ready ≡ front = ap (take (length front)) (sym c.buffered.ensures) ∙ c.reading-count.ensures.front in
-    let given = c.at_most.ensures ∙ ap (take (length front)) c.buffered-2.ensures ∙ same in
-    let known = c.reading-count.ensures.reads (some_bytes (length front) c.if-count-eq0.false) in
-    let none = ap (λ s. s.tables.at.pending) c.self.view_is ∙ c.requires.pending in
-    let after = c.read_line.ensures in
-    let behind = after.behind ∙ ap (λ (bytes : List ℕ). line_read bytes old.at.standing) given in
-    rw (← c.self.view_is)
-    (record {
-      limits = after.limits;
-      line_length = after.line_length;
-      notes = few_behind_line old new front known none after.pending behind after.limits;
-      failures = omega (arith, c.pass.ensures.failures);
+      kept = λ wrong. cc;
+      silent = λ is. record {
+        goes_on = line_goes_on old new front known none after.pending behind after.limits after.line_length _ _ took;
+        takes_on = line_takes old new front known none after.pending behind after.limits _ _ took;
+        pending = after.pending;
+        reads = line_reads_on old new front known none after.pending behind after.limits;
+        falls = omega (arith, fewer_behind_line old new front known none after.pending behind after.limits, c.pass.ensures.notes);
+      };
+      later = record {
+        limits = after.limits;
+        line_length = after.line_length;
+        notes = few_behind_line old new front known none after.pending behind after.limits;
+        failures = omega (arith, c.pass.ensures.failures);
+      };
     })

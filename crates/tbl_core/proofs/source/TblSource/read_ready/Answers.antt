@@ -15,8 +15,8 @@ invariant_of-self g c = record {
   quiet = λ is. ap noted c.read_next.ensures.pending;
 }
 
-pub returns-in-Some-clause-silent : goal.returns-in-Some-clause-silent
-returns-in-Some-clause-silent g c = λ is.
+pub returns-in-Some : goal.returns-in-Some
+returns-in-Some g c =
     let t = c.self.inside.tables in
     let new = c.read_next.new.self in
     let behind = c.read_next.ensures in
@@ -25,24 +25,20 @@ returns-in-Some-clause-silent g c = λ is.
     let none = ap (λ s. s.tables.at.pending) c.self.view_is ∙ c.requires.pending in
     let reads = ap (λ s. stopped_by s.tables.at.standing) c.self.view_is ∙ c.requires.reads in
     let fewer = fewer_behind t.limits t.line_length c.in-Some.byte t.at.standing reads behind.out in
-    let notes = c.in-Some.ensures.notes in
     rw (← c.self.view_is)
     (record {
-      goes_on = byte_goes_on t new c.in-Some.byte _ _ None none reads given out behind.behind behind.limits behind.line_length;
-      takes_on = byte_takes t new c.in-Some.byte _ _ None none reads given out behind.behind;
-      pending = behind.pending;
-      reads = rw behind.behind (byte_reads t.limits t.line_length c.in-Some.byte t.at.standing reads behind.out);
-      falls = rw (behind.limits, behind.behind) (omega (arith, fewer, notes));
-    })
-
-pub returns-in-Some-clause-later : goal.returns-in-Some-clause-later
-returns-in-Some-clause-later g c =
-    let behind = c.read_next.ensures in
-    rw (← c.self.view_is)
-    (record {
-      limits = behind.limits;
-      line_length = behind.line_length;
-      notes = few_behind_byte c.self.inside.tables c.read_next.new.self c.in-Some.byte None (behind.pending ∙ sym behind.out) behind.behind
-          behind.limits;
-      failures = omega (arith, c.in-Some.ensures.failures);
+      kept = λ wrong. cc;
+      silent = λ is. record {
+        goes_on = byte_goes_on t new c.in-Some.byte _ _ None none reads given out behind.behind behind.limits behind.line_length;
+        takes_on = byte_takes t new c.in-Some.byte _ _ None none reads given out behind.behind;
+        pending = behind.pending;
+        reads = rw behind.behind (byte_reads t.limits t.line_length c.in-Some.byte t.at.standing reads behind.out);
+        falls = rw (behind.limits, behind.behind) (omega (arith, fewer, c.in-Some.ensures.notes));
+      };
+      later = record {
+        limits = behind.limits;
+        line_length = behind.line_length;
+        notes = few_behind_byte t new c.in-Some.byte None out behind.behind behind.limits;
+        failures = omega (arith, c.in-Some.ensures.failures);
+      };
     })

@@ -9,21 +9,15 @@ use Rattle.tbl_core.proofs.Pending.{nothing_pending, begun_pending, read_pending
 use Rattle.tbl_core.proofs.Stopping.{counted_stop}
 use Rattle.tbl_core.proofs.tables.Tables.take_counted.Goals as goal
 
-pub begin_behind-self-inside-requires-clause-told : goal.begin_behind-self-inside-requires-clause-told
-begin_behind-self-inside-requires-clause-told c =
-    (nothing_pending c.self.inside.table.told c.self.inside.own c.self.inside.table.to_come (ap (λ (s : TablesState). s.at.pending) c.self.view_is ∙ c.requires)).no_told
+pub begin_behind-self-inside-requires : goal.begin_behind-self-inside-requires
+begin_behind-self-inside-requires c =
+    let none = nothing_pending c.self.inside.table.told c.self.inside.own c.self.inside.table.to_come (ap (λ (s : TablesState). s.at.pending) c.self.view_is ∙ c.requires) in
+    record { told = none.no_told; bytes = none.no_bytes }
 
-pub begin_behind-self-inside-requires-clause-bytes : goal.begin_behind-self-inside-requires-clause-bytes
-begin_behind-self-inside-requires-clause-bytes c =
-    (nothing_pending c.self.inside.table.told c.self.inside.own c.self.inside.table.to_come (ap (λ (s : TablesState). s.at.pending) c.self.view_is ∙ c.requires)).no_bytes
-
-pub begin_behind-self-inside-requires-in-RestOfStart-clause-told : goal.begin_behind-self-inside-requires-in-RestOfStart-clause-told
-begin_behind-self-inside-requires-in-RestOfStart-clause-told c =
-    (nothing_pending c.self.inside.table.told c.self.inside.own c.self.inside.table.to_come (ap (λ (s : TablesState). s.at.pending) c.self.view_is ∙ c.requires)).no_told
-
-pub begin_behind-self-inside-requires-in-RestOfStart-clause-bytes : goal.begin_behind-self-inside-requires-in-RestOfStart-clause-bytes
-begin_behind-self-inside-requires-in-RestOfStart-clause-bytes c =
-    (nothing_pending c.self.inside.table.told c.self.inside.own c.self.inside.table.to_come (ap (λ (s : TablesState). s.at.pending) c.self.view_is ∙ c.requires)).no_bytes
+pub begin_behind-self-inside-requires-in-RestOfStart : goal.begin_behind-self-inside-requires-in-RestOfStart
+begin_behind-self-inside-requires-in-RestOfStart c =
+    let none = nothing_pending c.self.inside.table.told c.self.inside.own c.self.inside.table.to_come (ap (λ (s : TablesState). s.at.pending) c.self.view_is ∙ c.requires) in
+    record { told = none.no_told; bytes = none.no_bytes }
 
 pub returns-then-ends_name-clause-out : goal.returns-then-ends_name-clause-out
 returns-then-ends_name-clause-out c =
