@@ -76,7 +76,7 @@ met-open false true own above rest out is = absurd (cc)
 met-open false false own above rest out is = refl
 
 -- how many bars meet on the line that comes next, or stand there
-module _ (formats : List FormatRow) (bars : Bars) (columns : ℕ) (b : KeptBand) (all : List Over) (above below : Beside) (boundary : ℕ)
+module _ {formats : List FormatRow} {bars : Bars} {columns : ℕ} {b : KeptBand} {all : List Over} {above below : Beside} {boundary : ℕ}
     (stands : BandStands formats bars columns b all above below) (next : b.at < b.wholes + b.count) (few : boundary ≤ columns) where
   abbrev kept : ℕ
   kept = get_or b.above boundary 0

@@ -89,12 +89,12 @@ many-shown xs ys v column end is many more =
       more,
     )
 
-pub push-room : (len many column end all capacity now : ℕ) → len ≡ many → many ≡ column → column < end → end ≤ all → all + 1 ≤ capacity
+pub push-room : {len many column end all capacity now : ℕ} → len ≡ many → many ≡ column → column < end → end ≤ all → all + 1 ≤ capacity
     → now ≡ capacity
     → len < now
-push-room len many column end all capacity now is same more few room now_is = omega (arith, is, same, more, few, room, now_is)
+push-room is same more few room now_is = omega (arith, is, same, more, few, room, now_is)
 
-pub zeros-room : (xs ys : List ℕ) (v column end all capacity before now : ℕ) → ys ≡ xs ++ v ∷ [] → length xs ≡ column → column < end → end ≤ all
+pub zeros-room : (xs : List ℕ) (v : ℕ) {ys : List ℕ} {column end all capacity before now : ℕ} → ys ≡ xs ++ v ∷ [] → length xs ≡ column → column < end → end ≤ all
     → all + 1 ≤ capacity → before ≡ capacity → now ≡ before → length ys + (end - column - 1) ≤ now
-zeros-room xs ys v column end all capacity before now is many more few room before_is now_is =
+zeros-room xs v {column = column} {end = end} is many more few room before_is now_is =
     omega (arith, ap length is, length-append xs (v ∷ []), many, more, few, room, before_is, now_is)

@@ -6,11 +6,12 @@ use Rattle.tbl_format.specs.Format.{FormatRow, columns_of_keys}
 use Rattle.tbl_format.specs.FormatRows.{AreWithin}
 use Rattle.tbl_format.specs.declared.format.FormatKey.{FormatKey}
 use Rattle.tbl_lines.specs.CellsLeft.{Left, all_keys, keys_behind}
+use Rattle.tbl_lines.specs.PictureLines.{Sheet}
 use Rattle.tbl_tall.specs.Bands.{BandHasRoom}
 use Rattle.tbl_line_cells.specs.LinesDrawn.{keys_in, LineHasRoom}
 use Rattle.tbl_line_cells.specs.KeptCells.{AllLeft}
 use Rattle.tbl_tall.specs.RowsNext.{HasKeys}
-use Rattle.tbl_tall.specs.TallRows.{HaveKeys}
+use Rattle.tbl_tall.specs.TallRows.{HaveKeys, KeptTall, RowStands}
 use Rattle.tbl_tall.specs.declared.band.Band.{Band}
 use Rattle.tbl_line_cells.specs.declared.cells.CellLeft.{CellLeft}
 use Rattle.tbl_line_cells.specs.declared.line_cells.LineCells.{LineCells}
@@ -108,6 +109,12 @@ left-has bytes (c ∷ cells) (l ∷ lefts) (k ∷ keys) all bars ends = (
   left-has bytes cells lefts keys all.1 (rest-of bars) (rest-of ends),
 )
 
+pub stands-cover : {bytes : List ℕ} {s : Sheet} {t : KeptTall} {format : FormatRow} {cells : List Left} {lines : ℕ}
+    → RowStands bytes s t format cells lines → Cover (length s.columns) t.cells
+stands-cover {bytes} {s} {t} {format} {cells} stands =
+    let has = left-has bytes t.cells cells (all_keys (length s.columns) format) stands.left stands.keys.bars stands.keys.ends in
+    cover-all (length s.columns) format t.cells stands.within has
+
 -- and covers the columns
 left-cells : (from : ℕ) (lefts : List Left) (keys : List FormatKey) → map (λ (c : Left). c.key.end) lefts ≡ map (λ (k : FormatKey). k.end) keys
     → AreCells from keys → AreCells from (map (λ (c : Left). c.key) lefts)
@@ -139,16 +146,16 @@ lefts-all columns format lefts within have =
     ∙ sym (columns_of-behind (all_keys columns format)) ∙ all-columns columns format within
 
 -- room for as many columns is room for fewer
-pub fewer-room : (b : Band) (columns most : ℕ) → columns ≤ most → BandHasRoom b most → BandHasRoom b columns
-fewer-room b columns most few room = record {
+pub fewer-room : {b : Band} {columns most : ℕ} → BandHasRoom b most → columns ≤ most → BandHasRoom b columns
+fewer-room room few = record {
   through = omega (arith, few, room.through);
   above = omega (arith, few, room.above);
   below = omega (arith, few, room.below);
   counts = omega (arith, few, room.counts);
 }
 
-pub fewer-line : (c : LineCells) (columns most : ℕ) → columns ≤ most → LineHasRoom most c → LineHasRoom columns c
-fewer-line c columns most few room = record {
+pub fewer-line : {c : LineCells} {columns most : ℕ} → LineHasRoom most c → columns ≤ most → LineHasRoom columns c
+fewer-line room few = record {
   signs = omega (arith, few, room.signs);
   cells = omega (arith, few, room.cells);
   cut = omega (arith, few, room.cut);

@@ -126,12 +126,6 @@ module _ (bytes : List ℕ) (formats : List FormatRow) (is_inside : Bool) (eleme
       = ap (λ (n : ℕ). lines_kept bytes formats is_inside row cell rules (drop n elements)) next in
       omega (arith, all, behind, so_far)
 
--- what holds of some numbers holds of those that are them
-pub moved : (P : ℕ → ℕ → ℕ → ℕ → Type 0) (a b c d w x y z : ℕ) → a ≡ w → b ≡ x → c ≡ y → d ≡ z → P w x y z → P a b c d
-moved P a b c d w x y z one two three four holds =
-    subst (λ (n : ℕ). P n b c d) (sym one) (subst (λ (n : ℕ). P w n c d) (sym two)
-    (subst (λ (n : ℕ). P w x n d) (sym three) (subst (λ (n : ℕ). P w x y n) (sym four) holds)))
-
 few-by : (t : Bool) (n : ℕ) → (if t then 1 else n) ≤ n + 1
 few-by true n = omega arith
 few-by false n = omega arith

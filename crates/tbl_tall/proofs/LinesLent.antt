@@ -65,8 +65,8 @@ row_as bytes bars width keys fronts columns entries = record {
   fronts = Some (map cell_of_front fronts);
 }
 
-module _ (bytes : List ℕ) (bars : Bars) (width : ℕ) (line : KeptLine) (text : List ℕ) (draws : Draws bytes bars width line text)
-    (keys : List FormatKey) (columns : List Column) (entries : List Entry) (fronts : List Front) (own_keys : keys ≡ line.keys)
+module _ {bytes : List ℕ} {bars : Bars} {width : ℕ} {line : KeptLine} {text : List ℕ} (draws : Draws bytes bars width line text)
+    {keys : List FormatKey} {columns : List Column} {entries : List Entry} {fronts : List Front} (own_keys : keys ≡ line.keys)
     (own_columns : columns ≡ line.columns) (own_entries : entries ≡ line.entries) (own_fronts : fronts ≡ line.fronts) where
   cells-own : cells_of keys columns ≡ line.columns
   cells-own =

@@ -52,15 +52,15 @@ module _ (f : Left → Left) (same : (l : Left) → (f l).key ≡ l.key) where
   keys-stay cells keys have = record { bars = bars-stay cells ∙ have.bars; ends = ends-stay cells ∙ have.ends }
 
 -- a line of rules in front of it was given
-pub rule-passed : (bytes : List ℕ) (formats : List FormatRow) (s : Sheet) (t new : KeptTall) (heights : List ℕ) (cells : List Left) (above : Beside)
-    (elements rest : List Element) (line : RuleLine) → Comes bytes formats s t heights cells above elements → RuleComes elements line rest
+pub rule-passed : {bytes : List ℕ} {formats : List FormatRow} {s : Sheet} {t new : KeptTall} {heights : List ℕ} {cells : List Left} {above : Beside}
+    {elements rest : List Element} {line : RuleLine} → Comes bytes formats s t heights cells above elements → RuleComes elements line rest
     → HasLinePlaces s line → AllLeft bytes new.cells (map through_rule cells)
     → BandStands formats s.bars (length s.columns) new.band (overs 0 (map through_rule cells) s.columns) (OfRules line (overs 0 cells s.columns) above)
     (row_below (length s.columns) cells elements)
     → new.band.wholes ≡ t.band.wholes → new.band.first ≡ t.band.first → new.band.count ≡ t.band.count → new.band.at ≡ t.band.at + 1
     → new.lines_left ≡ t.lines_left → new.last ≡ t.last → new.room ≡ t.room
     → Comes bytes formats s new heights (map through_rule cells) (OfRules line (overs 0 cells s.columns) above) rest
-rule-passed bytes formats s t new heights cells above elements rest line comes rule places left stands wholes first count at high last room =
+rule-passed {bytes} {formats} {s} {t} {new} {heights} {cells} {above} {elements} {rest} {line} comes rule places left stands wholes first count at high last room =
     let n = length s.columns in
     let all = overs 0 cells s.columns in
     let same = next-format elements rest line rule in
@@ -100,10 +100,10 @@ key-by true Above l = refl
 behind-key : (l : Left) → (behind_line l).key ≡ l.key
 behind-key l = key-by (l.lead == 0) l.field l
 
-pub line-passed : (bytes : List ℕ) (s : Sheet) (t new : KeptTall) (format : FormatRow) (cells : List Left) (more : ℕ)
+pub line-passed : {bytes : List ℕ} {s : Sheet} {t new : KeptTall} {format : FormatRow} {cells : List Left} {more : ℕ}
     → RowStands bytes s t format cells (suc more) → AllLeft bytes new.cells (map behind_line cells) → new.lines_left ≡ t.lines_left - 1
     → new.last ≡ t.last → new.room ≡ t.room → new.is_first ≡ false → RowStands bytes s new format (map behind_line cells) more
-line-passed bytes s t new format cells more stands left high last room given = record {
+line-passed {s = s} {format = format} {cells = cells} stands left high last room given = record {
   left = left;
   keys = keys-stay behind_line behind-key cells (all_keys (length s.columns) format) stands.keys;
   height = omega (arith, high, stands.height);
@@ -115,11 +115,11 @@ line-passed bytes s t new format cells more stands left high last room given = r
 }
 
 -- and it was the last
-pub row-ended : (bytes : List ℕ) (s : Sheet) (t new : KeptTall) (format : FormatRow) (cells : List Left) → RowStands bytes s t format cells 1
+pub row-ended : {bytes : List ℕ} {s : Sheet} {t new : KeptTall} {format : FormatRow} {cells : List Left} → RowStands bytes s t format cells 1
     → HasPlaces s.bars.front s.columns format → AllLeft bytes new.cells (map behind_line cells)
     → ShowBars s.bars.boxing (length s.columns) new.band.above (OfRow cells (bars_at_end (length s.columns) format))
     → RowEnded bytes s new (map behind_line cells) (OfRow cells (bars_at_end (length s.columns) format))
-row-ended bytes s t new format cells stands places left shown = record {
+row-ended {s = s} {format = format} {cells = cells} stands places left shown = record {
   left = left;
   shown = shown;
   fit = row-fits s format cells places stands.keys (lefts-order (length s.columns) format cells stands.within stands.keys)

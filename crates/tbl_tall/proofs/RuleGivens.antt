@@ -137,8 +137,8 @@ given-whole None (Whole sign) is = absurd is
 given-whole None (OfKeys format) is = refl
 
 -- all of it
-module _ (bytes : List ℕ) (formats : List FormatRow) (s : Sheet) (t : KeptTall) (heights : List ℕ) (cells : List Left) (above : Beside)
-    (elements rest : List Element) (line : RuleLine) (comes : Comes bytes formats s t heights cells above elements)
+module _ {bytes : List ℕ} {formats : List FormatRow} {s : Sheet} {t : KeptTall} {heights : List ℕ} {cells : List Left} {above : Beside}
+    {elements rest : List Element} {line : RuleLine} (comes : Comes bytes formats s t heights cells above elements)
     (rule : RuleComes elements line rest) where
   abbrev all : List Over
   all = overs 0 cells s.columns

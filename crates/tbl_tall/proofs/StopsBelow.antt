@@ -1,5 +1,5 @@
 -- Where what is without width ends in front of what stands beside it below, row by row.
-use Rattle.std.proofs.Common.{◌≡◌, ℕ, zero, suc, ◌+◌, ◌≤◌, min, List, [], ◌∷◌, drop, length, refl, sym, ap, subst, ◌∙◌, arith, if◌then◌else◌, Option, None, Some, is_some, unwrap_or}
+use Rattle.std.proofs.Common.{◌≡◌, ℕ, zero, suc, ◌+◌, ◌<◌, ◌≤◌, min, Bool, List, [], ◌∷◌, drop, length, refl, sym, ap, subst, ◌∙◌, arith, if◌then◌else◌, Option, None, Some, is_some, unwrap_or}
 use Rattle.std.proofs.Math.Nat.{min-eq_left}
 use Rattle.tbl_format.specs.Cells.{end_of}
 use Rattle.tbl_format.specs.Format.{FormatRow}
@@ -8,42 +8,58 @@ use Rattle.tbl_format.specs.RowsServed.{row_at}
 use Rattle.tbl_kept.proofs.AllLaid.{cell-laid}
 use Rattle.tbl_kept.proofs.CellHeights.{field-seen}
 use Rattle.tbl_kept.specs.KeptHeights.{cell_below_kept, field_kept}
-use Rattle.tbl_kept.specs.Rows.{Command as CommandKept, ElementLaid, KeptElement, Row as RowKept, Rule as RuleKept, elements_of, fields_of}
+use Rattle.tbl_kept.specs.Rows.{Command as CommandKept, ElementLaid, KeptElement, KeptRows, Row as RowKept, Rule as RuleKept, elements_of, fields_of}
 use Rattle.tbl_kept.specs.RowsLaying.{element_at}
-use Rattle.tbl_layout.specs.Entries.{Element, Text, field_at, key_at}
+use Rattle.tbl_layout.specs.Entries.{Element, Text, field_at, is_entry, key_at}
 use Rattle.tbl_layout.specs.Heights.{cell_below}
 use Rattle.tbl_layout.specs.KeptEntries.{IsLaid, content_of}
 use Rattle.tbl_layout.specs.declared.entry.Entry.{Entry}
 use Rattle.tbl_lines.specs.CellsLeft.{all_keys, first_entry, stop_below}
 use Rattle.tbl_line_cells.proofs.CellsKept.{nothing-laid}
 use Rattle.tbl_tall.proofs.CellStops.{skip-all}
-use Rattle.tbl_tall.proofs.CellsNext.{drop-past, get-drop}
+use Rattle.tbl_tall.proofs.CellsNext.{all-at, drop-past, get-drop}
 use Rattle.tbl_tall.specs.RowsNext.{RowIsAt, end_kept}
 use Rattle.tbl_tall.specs.declared.next_cells.RowComing.{RowComing}
 use Rattle.tbl_tall.specs.StopsKept.{IsRow, fields_kept, first_kept, format_kept}
-use Rattle.tbl_tall.specs.TallRows.{ElementLies}
+use Rattle.tbl_tall.specs.TallRows.{ElementLies, RowsLie}
 
 -- the cells of an element lie within the columns, are laid, and have its fields
-pub kept-within : (formats : List FormatRow) (columns : ℕ) (e : KeptElement) → ElementLies formats columns e → AreWithin columns (format_kept formats e).keys
+kept-within : (formats : List FormatRow) (columns : ℕ) (e : KeptElement) → ElementLies formats columns e → AreWithin columns (format_kept formats e).keys
 kept-within formats columns (RowKept keys rules height entries) lies = lies.cells
 kept-within formats columns (RuleKept sign) lies = record { cells = tt; short = omega arith }
 kept-within formats columns (CommandKept from to) lies = record { cells = tt; short = omega arith }
+
+pub lies-within : (formats : List FormatRow) (rows : KeptRows) (at : ℕ) → at < length rows.elements → RowsLie formats rows
+    → AreWithin (length rows.columns) (format_kept formats (element_at rows.elements at)).keys
+lies-within formats rows at some lie =
+    let n = length rows.columns in
+    kept-within formats n (element_at rows.elements at) (all-at (ElementLies formats n) rows.elements at (CommandKept 0 0) some lie)
 
 none-at : (cell : ℕ) → field_at [] cell ≡ Text []
 none-at zero = refl
 none-at (suc cell) = refl
 
-pub kept-seen : (bytes : List ℕ) (formats : List FormatRow) (e : KeptElement) (cell : ℕ)
+kept-seen : (bytes : List ℕ) (formats : List FormatRow) (e : KeptElement) (cell : ℕ)
     → field_at (fields_kept bytes formats e) cell ≡ content_of bytes (field_kept formats cell e)
 kept-seen bytes formats (RowKept keys rules height entries) cell = field-seen bytes (row_at formats keys).bars (row_at formats keys).keys entries cell
 kept-seen bytes formats (RuleKept sign) cell = none-at cell
 kept-seen bytes formats (CommandKept from to) cell = none-at cell
 
-pub kept-laid : (bytes : List ℕ) (formats : List FormatRow) (columns : ℕ) (e : KeptElement) (cell : ℕ) → ElementLaid bytes formats columns e
+kept-laid : (bytes : List ℕ) (formats : List FormatRow) (columns : ℕ) (e : KeptElement) (cell : ℕ) → ElementLaid bytes formats columns e
     → IsLaid bytes (key_at (format_kept formats e) cell) (field_kept formats cell e)
 kept-laid bytes formats columns (RowKept keys rules height entries) cell laid = cell-laid bytes (row_at formats keys) entries cell laid.laid
 kept-laid bytes formats columns (RuleKept sign) cell laid = nothing-laid bytes (key_at (format_kept formats (RuleKept sign)) cell)
 kept-laid bytes formats columns (CommandKept from to) cell laid = nothing-laid bytes (key_at (format_kept formats (CommandKept from to)) cell)
+
+-- whether something stands in a cell is told of its field
+pub kept-used : (bytes : List ℕ) (formats : List FormatRow) (columns : ℕ) (e : KeptElement) (cell : ℕ) {entry : Entry} {t : Bool}
+    → entry ≡ field_kept formats cell e → ElementLaid bytes formats columns e
+    → (IsLaid bytes (key_at (format_kept formats e) cell) entry → t ≡ is_entry (content_of bytes entry))
+    → is_entry (field_at (fields_kept bytes formats e) cell) ≡ t
+kept-used bytes formats columns e cell {entry} is laid told =
+    let here : IsLaid bytes (key_at (format_kept formats e) cell) entry
+    = subst (λ (x : Entry). IsLaid bytes (key_at (format_kept formats e) cell) x) (sym is) (kept-laid bytes formats columns e cell laid) in
+    ap is_entry (kept-seen bytes formats e cell ∙ ap (content_of bytes) (sym is)) ∙ sym (told here)
 
 pub kept-end : (formats : List FormatRow) (e : KeptElement) (cell : ℕ) → IsRow e → end_kept formats e cell ≡ end_of (format_kept formats e).keys cell
 kept-end formats (RowKept keys rules height entries) cell row = refl

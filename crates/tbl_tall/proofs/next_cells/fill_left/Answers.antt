@@ -12,41 +12,50 @@ use Rattle.tbl_kept.specs.RowsLaying.{element_at, goes_on}
 use Rattle.tbl_layout.specs.declared.entry.Entry.{Entry}
 use Rattle.tbl_lines.specs.CellsLeft.{Left, all_keys, cell_by}
 use Rattle.tbl_tall.proofs.CellsNext.{OneMore, all-next, end-key, end-left, key-lent, keys-many, letter-at, next-key, next-left, none-above, row-within}
-use Rattle.tbl_tall.proofs.next_cells.fill_left.Goals.{else-goes_on, then-goes_on}
+use Rattle.tbl_tall.proofs.next_cells.fill_left.Goals.{After-loop-cell, In-loop-cell, else-goes_on, then-goes_on}
 use Rattle.tbl_tall.proofs.next_cells.fill_left.Goals as goal
 use Rattle.tbl_line_cells.specs.KeptCells.{AllLeft, IsKeyAt, IsLeft}
 use Rattle.tbl_tall.specs.RowsNext.{RowAbove, begun_kept, cell_kept, cells_by}
 use Rattle.tbl_line_cells.specs.declared.cells.CellLeft.{CellLeft}
 
+-- the cells of the row lie within the columns, and this is one of them
+record OneOf (keys : List FormatKey) (columns cell : ℕ) : Type 0 where
+  within : AreWithin columns keys
+  some : cell < cell_count keys columns
+
+one-of : (c : In-loop-cell) → OneOf c.row_of_all-keys.result.now (length c.args.rows.now.columns) c.loop-cell.cell
+one-of c =
+    let n = length c.args.rows.now.columns in
+    let count = rw c.columns.ensures at c.cell_count-count.ensures in
+    let within = row-within (all_rows c.args.format.now.format) n c.args.rows.now.elements c.args.row c.requires.at c.requires.row c.requires.lie in
+    record { within = rw c.row_of_all-keys.ensures.keys within; some = omega (arith, count, c.loop-cell-test.true) }
+
+has-room : (c : In-loop-cell) → length c.loop-cell.cells.items < vec_capacity c.loop-cell.cells
+has-room c =
+    let i = c.loop-cell.invariant in
+    let one = one-of c in
+    omega (arith, i.many, i.capacity, one.some, cells-room (length c.args.rows.now.columns) c.row_of_all-keys.result.now one.within, c.requires.room)
+
+-- behind the last one
+past : (c : After-loop-cell)
+    → length (all_keys (length c.args.rows.now.columns) (row_at (all_rows c.args.format.now.format) c.args.row.keys)) ≤ c.loop-cell.cell
+past c =
+    let count = rw (c.columns.ensures, c.row_of_all-keys.ensures.keys) at c.cell_count-count.ensures in
+    let many = keys-many (length c.args.rows.now.columns) (row_at (all_rows c.args.format.now.format) c.args.row.keys) in
+    omega (arith, many, count, c.loop-cell-test.false)
+
 pub key_of-key-requires-clause-end : goal.key_of-key-requires-clause-end
 key_of-key-requires-clause-end c =
-    let n = length c.args.rows.now.columns in
-    let lent = c.row_of_all-keys.result.now in
-    let within : AreWithin n lent = subst (λ (ks : List FormatKey). AreWithin n ks) (sym c.row_of_all-keys.ensures.keys)
-    (row-within (all_rows c.args.format.now.format) n c.args.rows.now.elements c.args.row c.requires.at c.requires.row c.requires.lie) in
-    let count : c.cell_count-count.result ≡ cell_count lent n = rw c.columns.ensures at c.cell_count-count.ensures in
-    let some : c.loop-cell.cell < cell_count lent n = omega (arith, count, c.loop-cell-test.true) in
-    omega (arith, (cell-within lent n c.loop-cell.cell within.cells within.short some).1, c.requires.small)
+    let one = one-of (goal.at.key_of-key-requires-clause-end c).In-loop-cell in
+    let end = cell-within c.row_of_all-keys.result.now (length c.args.rows.now.columns) c.loop-cell.cell one.within.cells one.within.short one.some in
+    omega (arith, end.1, c.requires.small)
 
 pub push_reserved-requires : goal.push_reserved-requires
-push_reserved-requires c =
-    let n = length c.args.rows.now.columns in
-    let lent = c.row_of_all-keys.result.now in
-    let within : AreWithin n lent = subst (λ (ks : List FormatKey). AreWithin n ks) (sym c.row_of_all-keys.ensures.keys)
-    (row-within (all_rows c.args.format.now.format) n c.args.rows.now.elements c.args.row c.requires.at c.requires.row c.requires.lie) in
-    let count : c.cell_count-count.result ≡ cell_count lent n = rw c.columns.ensures at c.cell_count-count.ensures in
-    let i = c.loop-cell.invariant in
-    omega (arith, c.loop-cell.cells.ok.0, i.many, i.capacity, count, cells-room n lent within, c.requires.room, c.loop-cell-test.true)
+push_reserved-requires c = omega (arith, c.loop-cell.cells.ok.0, has-room (goal.at.push_reserved-requires c).In-loop-cell)
 
 pub push_reserved-requires-else-goes_on : goal.push_reserved-requires-else-goes_on
 push_reserved-requires-else-goes_on c =
-    let n = length c.args.rows.now.columns in
-    let lent = c.row_of_all-keys.result.now in
-    let within : AreWithin n lent = subst (λ (ks : List FormatKey). AreWithin n ks) (sym c.row_of_all-keys.ensures.keys)
-    (row-within (all_rows c.args.format.now.format) n c.args.rows.now.elements c.args.row c.requires.at c.requires.row c.requires.lie) in
-    let count : c.cell_count-count.result ≡ cell_count lent n = rw c.columns.ensures at c.cell_count-count.ensures in
-    let i = c.loop-cell.invariant in
-    omega (arith, c.loop-cell.cells.ok.0, i.many, i.capacity, count, cells-room n lent within, c.requires.room, c.loop-cell-test.true)
+    omega (arith, c.loop-cell.cells.ok.0, has-room (goal.at.push_reserved-requires-else-goes_on c).In-loop-cell)
 
 pub loop-cell-preserved : goal.loop-cell-preserved
 loop-cell-preserved c =
@@ -62,8 +71,7 @@ loop-cell-preserved c =
     let keys = all_keys n format in
     let key = c.key_of-key.result in
     let old = c.loop-cell.cells in
-    let count : c.cell_count-count.result ≡ cell_count lent n = rw c.columns.ensures at c.cell_count-count.ensures in
-    let some : cell < cell_count lent n = omega (arith, count, c.loop-cell-test.true) in
+    let some = (one-of (goal.at.loop-cell-preserved c).In-loop-cell).some in
     let is : IsKeyAt key cell keys
     = key-lent formats c.args.row.keys n c.bars_of_all-last_bars.result cell lent key c.row_of_all-keys.ensures.keys
     c.bars_of_all-last_bars.ensures (c.key_of-key.ensures n some) in
@@ -115,22 +123,10 @@ loop-cell-preserved c =
 pub returns-clause-left : goal.returns-clause-left
 returns-clause-left c = λ bytes above lefts laid there all.
     let formats = all_rows c.args.format.now.format in
-    let n = length c.args.rows.now.columns in
-    let row = element_at c.args.rows.now.elements c.args.row.at in
+    let keys = all_keys (length c.args.rows.now.columns) (row_at formats c.args.row.keys) in
     let es = drop (suc c.args.row.at) c.args.rows.now.elements in
-    let format = row_at formats c.args.row.keys in
-    let keys = all_keys n format in
-    let f = cell_kept bytes formats c.args.is_inside above lefts row es in
-    let count : c.cell_count-count.result ≡ cell_count format.keys n = rw (c.columns.ensures, c.row_of_all-keys.ensures.keys) at c.cell_count-count.ensures in
-    let past : length keys ≤ c.loop-cell.cell = omega (arith, keys-many n format, count, c.loop-cell-test.false) in
-    end-left bytes f keys (cells_by f 0 keys) c.loop-cell.cells.items c.loop-cell.cell (c.loop-cell.invariant.left bytes above lefts laid there all) past
+    let f = cell_kept bytes formats c.args.is_inside above lefts (element_at c.args.rows.now.elements c.args.row.at) es in
+    end-left bytes f keys (cells_by f 0 keys) _ _ (c.loop-cell.invariant.left bytes above lefts laid there all) (past c)
 
 pub returns-clause-keys : goal.returns-clause-keys
-returns-clause-keys c =
-    let formats = all_rows c.args.format.now.format in
-    let n = length c.args.rows.now.columns in
-    let format = row_at formats c.args.row.keys in
-    let keys = all_keys n format in
-    let count : c.cell_count-count.result ≡ cell_count format.keys n = rw (c.columns.ensures, c.row_of_all-keys.ensures.keys) at c.cell_count-count.ensures in
-    let past : length keys ≤ c.loop-cell.cell = omega (arith, keys-many n format, count, c.loop-cell-test.false) in
-    end-key keys c.loop-cell.cells.items c.loop-cell.cell c.loop-cell.invariant.keys past
+returns-clause-keys c = end-key _ _ _ c.loop-cell.invariant.keys (past c)

@@ -1,4 +1,4 @@
-use Rattle.std.proofs.Common.{◌≡◌, ℕ, ◌+◌, ◌-◌, ◌++◌, List, [], ◌∷◌, drop, get_or, length, replicate, map, refl, sym, ap, subst, ◌∙◌, arith, vec_capacity, vec_len}
+use Rattle.std.proofs.Common.{◌≡◌, ℕ, ◌+◌, ◌-◌, ◌<◌, ◌≤◌, ◌++◌, List, [], ◌∷◌, drop, get_or, length, replicate, map, refl, sym, ap, subst, ◌∙◌, arith}
 use Rattle.tbl_format.proofs.CellColumns.{columns_of-behind}
 use Rattle.tbl_format.specs.Format.{columns_of_keys}
 use Rattle.tbl_lines.specs.LinesLeft.{OfRow}
@@ -10,6 +10,7 @@ use Rattle.tbl_tall.proofs.CellsNext.{drop-past}
 use Rattle.tbl_tall.proofs.CellsSpread.{spread}
 use Rattle.tbl_tall.proofs.CellsStep.{columns-step, end-few, many-shown, no_cell, order-here, push-room, spread-step, zeros-room}
 use Rattle.tbl_tall.proofs.RowBars.{fronts_of, shown-all, shown-last}
+use Rattle.tbl_tall.proofs.shown_bars.push_shown.Goals.{In-loop-at}
 use Rattle.tbl_tall.proofs.shown_bars.push_shown.Goals as goal
 
 pub loop-at-init : goal.loop-at-init
@@ -23,32 +24,27 @@ loop-at-init c = record {
   capacity = refl;
 }
 
-pub push_reserved-requires : goal.push_reserved-requires
-push_reserved-requires c =
+-- a cell has some columns, which all cells have
+columns : (c : In-loop-at) → let end = (get_or c.args.cells.now c.loop-at.at no_cell).key.end in
+    (c.loop-at.column < end) × (end ≤ columns_of_keys (keys_in c.args.cells.now))
+columns c =
     let i = c.loop-at.invariant in
     let cells = c.args.cells.now in
     let at = c.loop-at.at in
-    let column = c.loop-at.column in
     let some = c.loop-at-test.true in
-    let all = columns_of_keys (keys_in cells) in
-    push-room (vec_len c.loop-at.shown) (length c.loop-at.shown.items) column (get_or cells at no_cell).key.end all (vec_capacity c.args.shown.now)
-    (vec_capacity c.loop-at.shown) c.loop-at.shown.ok.0 i.many (order-here cells at some column i.order).0
-    (end-few cells at some column all i.order i.columns)
-    c.requires.room i.capacity
+    ((order-here cells at some c.loop-at.column i.order).0, end-few cells at some c.loop-at.column (columns_of_keys (keys_in cells)) i.order i.columns)
+
+pub push_reserved-requires : goal.push_reserved-requires
+push_reserved-requires c =
+    let few = columns (goal.at.push_reserved-requires c).In-loop-at in
+    push-room c.loop-at.shown.ok.0 c.loop-at.invariant.many few.0 few.1 c.requires.room c.loop-at.invariant.capacity
 
 pub push_nothing-requires : goal.push_nothing-requires
 push_nothing-requires c =
-    let i = c.loop-at.invariant in
-    let cells = c.args.cells.now in
-    let at = c.loop-at.at in
-    let column = c.loop-at.column in
-    let some = c.loop-at-test.true in
-    let all = columns_of_keys (keys_in cells) in
+    let few = columns (goal.at.push_nothing-requires c).In-loop-at in
     record {
-      room = zeros-room c.loop-at.shown.items c.push_reserved.new.self.items c.bars_before.result column (get_or cells at no_cell).key.end all
-          (vec_capacity c.args.shown.now) (vec_capacity c.loop-at.shown) (vec_capacity c.push_reserved.new.self) c.push_reserved.ensures.items i.many
-          (order-here cells at some column i.order).0 (end-few cells at some column all i.order i.columns) c.requires.room i.capacity
-          c.push_reserved.ensures.capacity;
+      room = zeros-room c.loop-at.shown.items c.bars_before.result c.push_reserved.ensures.items c.loop-at.invariant.many few.0 few.1 c.requires.room
+          c.loop-at.invariant.capacity c.push_reserved.ensures.capacity;
     }
 
 pub loop-at-preserved : goal.loop-at-preserved

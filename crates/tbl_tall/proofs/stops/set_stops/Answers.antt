@@ -3,17 +3,16 @@ use Rattle.tbl_format.proofs.CellColumns.{cell-within, columns_of-behind}
 use Rattle.tbl_format.specs.Cells.{cell_count}
 use Rattle.tbl_format.specs.RowsServed.{all_rows}
 use Rattle.tbl_kept.proofs.HeightSteps.{cells-room}
-use Rattle.tbl_kept.specs.Rows.{Command, elements_of}
+use Rattle.tbl_kept.specs.Rows.{elements_of}
 use Rattle.tbl_kept.specs.RowsLaying.{element_at}
 use Rattle.tbl_lines.specs.CellsLeft.{all_keys, stopped}
-use Rattle.tbl_line_cells.specs.KeptCells.{AllLeft, IsLeft}
-use Rattle.tbl_tall.proofs.CellsNext.{all-at, keys-many}
+use Rattle.tbl_line_cells.specs.KeptCells.{IsLeft}
+use Rattle.tbl_tall.proofs.CellsNext.{keys-many}
 use Rattle.tbl_tall.proofs.KeysCover.{all-cells, all-columns}
-use Rattle.tbl_tall.proofs.StopsBelow.{kept-end, kept-within}
-use Rattle.tbl_tall.proofs.StopsSet.{all-same, few-by, first_behind, first-end, first-next, has-many, same-come, same-keys, same-many, same-of, same-set, start-few, stops-next, stops-none}
+use Rattle.tbl_tall.proofs.StopsBelow.{kept-end, lies-within}
+use Rattle.tbl_tall.proofs.StopsSet.{all-same, few-by, first-end, first-next, has-many, same-come, same-keys, same-many, same-of, same-set, start-few, stops-next, stops-none}
 use Rattle.tbl_tall.proofs.stops.set_stops.Goals as goal
-use Rattle.tbl_tall.specs.StopsKept.{format_kept, is_used_at, start_in, stopped_from}
-use Rattle.tbl_tall.specs.TallRows.{ElementLies}
+use Rattle.tbl_tall.specs.StopsKept.{format_kept, is_used_at, start_in}
 
 pub loop-at-init : goal.loop-at-init
 loop-at-init c =
@@ -30,39 +29,25 @@ loop-at-init c =
       within = omega arith;
     }
 
-pub set_stop-requires-clause-few : goal.set_stop-requires-clause-few
-set_stop-requires-clause-few c =
-    let n = length c.args.rows.now.columns in
-    let formats = all_rows c.args.format.now.format in
-    let e = element_at c.args.rows.now.elements c.args.element in
-    let format = format_kept formats e in
-    let within = kept-within formats n e (all-at (ElementLies formats n) c.args.rows.now.elements c.args.element (Command 0 0) c.requires.at c.requires.lie) in
-    omega (
-      arith,
-      c.loop-at.invariant.within,
-      c.loop-at-test.true,
-      has-many c.args.cells.now (all_keys n format) c.requires.keys,
-      keys-many n format,
-      cells-room n format.keys within,
-      c.requires.small,
-    )
-
-pub set_stop-requires-clause-end : goal.set_stop-requires-clause-end
-set_stop-requires-clause-end c =
+pub set_stop-requires : goal.set_stop-requires
+set_stop-requires c =
     let n = length c.args.rows.now.columns in
     let at = c.loop-at.at - 1 in
     let formats = all_rows c.args.format.now.format in
     let e = element_at c.args.rows.now.elements c.args.element in
     let format = format_kept formats e in
-    let within = kept-within formats n e (all-at (ElementLies formats n) c.args.rows.now.elements c.args.element (Command 0 0) c.requires.at c.requires.lie) in
-    let some : at < cell_count format.keys n = omega (
-      arith,
-      c.loop-at.invariant.within,
-      c.loop-at-test.true,
-      has-many c.args.cells.now (all_keys n format) c.requires.keys,
-      keys-many n format,
-    ) in
-    omega (arith, kept-end formats e at c.requires.row, (cell-within format.keys n at within.cells within.short some).1)
+    let within = lies-within formats c.args.rows.now c.args.element c.requires.at c.requires.lie in
+    let many = has-many c.args.cells.now (all_keys n format) c.requires.keys ∙ keys-many n format in
+    let some : at < cell_count format.keys n = omega (arith, c.loop-at.invariant.within, c.loop-at-test.true, many) in
+    record {
+      lie = c.requires.lie;
+      at = c.requires.at;
+      row = c.requires.row;
+      small = c.requires.small;
+      few = omega (arith, some, cells-room n format.keys within, c.requires.small);
+      end = omega (arith, kept-end formats e at c.requires.row, (cell-within format.keys n at within.cells within.short some).1);
+      next = c.loop-at.invariant.few;
+    }
 
 pub loop-at-preserved : goal.loop-at-preserved
 loop-at-preserved c =
@@ -78,7 +63,7 @@ loop-at-preserved c =
     let es = drop (suc c.args.element) c.args.rows.now.elements in
     let format = format_kept formats e in
     let names = format.keys in
-    let within = kept-within formats n e (all-at (ElementLies formats n) c.args.rows.now.elements c.args.element (Command 0 0) c.requires.at c.requires.lie) in
+    let within = lies-within formats c.args.rows.now c.args.element c.requires.at c.requires.lie in
     let next : c.loop-at.at ≡ suc at = omega (arith, c.loop-at-test.true) in
     let some : at < length cells = omega (arith, c.loop-at-test.true, i.within, same-many cells old i.same) in
     let some_now : at < length now = omega (arith, some, length-set cells at new) in
@@ -91,12 +76,11 @@ loop-at-preserved c =
           let same_cell : at ≡ m = omega (arith, here) in
           subst (λ (k : ℕ). IsLeft bytes new (stopped n names elements k l others)) same_cell
           (c.set_stop.ensures.left bytes l others laid left first))
-          (subst (λ (k : ℕ). c.loop-at.next ≡ first_behind n 0 k lefts) next (i.first bytes lefts all))
-          (subst (λ (k : ℕ). AllLeft bytes cells (stopped_from n names elements k 0 lefts)) next (i.left bytes lefts laid all));
+          ((rw next at i.first) bytes lefts all) ((rw next at i.left) bytes lefts laid all);
       first = λ bytes lefts all.
           c.first_from-next.ensures
           ∙ ap (λ (m : ℕ). if is_used_at now at then start_in now at else m)
-          (subst (λ (k : ℕ). c.loop-at.next ≡ first_behind n 0 k lefts) next (i.first bytes lefts all))
+          ((rw next at i.first) bytes lefts all)
           ∙ first-next bytes n 0 now old lefts at some_now all same;
       same = same;
       few =
@@ -111,13 +95,8 @@ loop-at-preserved c =
 
 pub returns-clause-left : goal.returns-clause-left
 returns-clause-left c = λ bytes lefts laid all.
-    let n = length c.args.rows.now.columns in
-    let formats = all_rows c.args.format.now.format in
-    let e = element_at c.args.rows.now.elements c.args.element in
-    let es = drop (suc c.args.element) c.args.rows.now.elements in
     let none : c.loop-at.at ≡ 0 = omega (arith, c.loop-at-test.false) in
-    subst (λ (k : ℕ). AllLeft bytes c.loop-at.cells (stopped_from n (format_kept formats e).keys (elements_of bytes formats es) k 0 lefts)) none
-    (c.loop-at.invariant.left bytes lefts laid all)
+    (rw none at c.loop-at.invariant.left) bytes lefts laid all
 
 pub returns-clause-keys : goal.returns-clause-keys
 returns-clause-keys c = λ keys has. same-keys c.loop-at.cells c.args.cells.now keys c.loop-at.invariant.same has

@@ -8,8 +8,8 @@ use Rattle.tbl_tall.proofs.KeysCover.{cover-all, cover-some, fewer-room}
 use Rattle.tbl_tall.proofs.RowsFilled.{filled-comes}
 use Rattle.tbl_tall.proofs.tall_row.TallRow.come_to.Goals as goal
 use Rattle.tbl_tall.specs.Bands.{KeptBand, ShowBars, kept_band}
-use Rattle.tbl_line_cells.specs.LinesDrawn.{keys_in, kept_line}
-use Rattle.tbl_line_cells.specs.KeptCells.{AllLeft, behind_rules}
+use Rattle.tbl_line_cells.specs.LinesDrawn.{keys_in}
+use Rattle.tbl_line_cells.specs.KeptCells.{behind_rules}
 use Rattle.tbl_tall.specs.TallRows.{KeptTall, kept_by}
 use Rattle.tbl_line_cells.specs.declared.cells.CellLeft.{CellLeft}
 
@@ -60,16 +60,12 @@ returns-clause-comes c = λ bytes s up all stand above then_come.
     let lines = c.set_lines.ensures.lines in
     let rest = c.end.ensures.rest in
     let own = c.as_slice-2.ensures.value in
-    let new : KeptTall = record {
+    let new : KeptTall = record (kept_by a) {
       last = last.result;
       cells = cells;
-      above = a.above.items;
       lines_left = c.args.row.height;
       is_first = true;
       band = kept_band c.end.new.self;
-      line = kept_line a.line;
-      come = a.come;
-      room = a.room;
     } in
     let same_wholes = ap (λ (b : KeptBand). b.wholes) rest in
     let same_count = ap (λ (b : KeptBand). b.count) rest in
@@ -78,7 +74,7 @@ returns-clause-comes c = λ bytes s up all stand above then_come.
     filled-comes bytes formats c.args.boxing rows s c.args.row c.args.rules (kept_by a) new up all c.requires.lie c.requires.at c.requires.row here
     (record {
       left = c.fill_cells.ensures.left bytes up.keys up.cells here.laid.elements above
-          (subst (λ (cs : List CellLeft). AllLeft bytes cs up.cells) (sym c.as_slice.ensures.value) here.left);
+          (rw c.as_slice.ensures.value here.left);
       has = c.fill_cells.ensures.keys;
       through = λ lefts_own columns kept many. (rw own at c.end.ensures.through) bytes lefts_own columns kept many;
       below = λ lefts_own kept.
@@ -96,43 +92,19 @@ returns-clause-comes c = λ bytes s up all stand above then_come.
       room = refl;
     }) c.requires.few c.requires.few_keys c.requires.some room c.self.invariant.few c.stays_within.ensures then_come
 
-pub end-requires-clause-cells : goal.end-requires-clause-cells
-end-requires-clause-cells c =
-    let rows = c.args.rows.now in
+pub end-requires : goal.end-requires
+end-requires c =
+    let n = length c.args.rows.now.columns in
     let formats = all_rows c.args.format.now.format in
-    let within = row-within formats (length rows.columns) rows.elements c.args.row c.requires.at c.requires.row c.requires.lie in
-    rw c.as_slice-2.ensures.value (cover-all (length rows.columns) (row_at formats c.args.row.keys) c.fill_cells.new.cells.items within c.fill_cells.ensures.keys).order
-
-pub end-requires-clause-some : goal.end-requires-clause-some
-end-requires-clause-some c =
-    let rows = c.args.rows.now in
-    let formats = all_rows c.args.format.now.format in
-    let within = row-within formats (length rows.columns) rows.elements c.args.row c.requires.at c.requires.row c.requires.lie in
-    let cover = cover-all (length rows.columns) (row_at formats c.args.row.keys) c.fill_cells.new.cells.items within c.fill_cells.ensures.keys in
-    rw c.as_slice-2.ensures.value (cover-some (length rows.columns) c.fill_cells.new.cells.items cover c.requires.some)
-
-pub end-requires-clause-small : goal.end-requires-clause-small
-end-requires-clause-small c =
-    let rows = c.args.rows.now in
-    let formats = all_rows c.args.format.now.format in
-    let within = row-within formats (length rows.columns) rows.elements c.args.row c.requires.at c.requires.row c.requires.lie in
-    let cover = cover-all (length rows.columns) (row_at formats c.args.row.keys) c.fill_cells.new.cells.items within c.fill_cells.ensures.keys in
+    let within = row-within formats n c.args.rows.now.elements c.args.row c.requires.at c.requires.row c.requires.lie in
+    let cover = cover-all n (row_at formats c.args.row.keys) c.fill_cells.new.cells.items within c.fill_cells.ensures.keys in
     let room = rw (← c.self.view_is) at c.requires.room in
-    rw c.as_slice-2.ensures.value (omega (arith, cover.all, room, c.self.invariant.few))
-
-pub end-requires-clause-room : goal.end-requires-clause-room
-end-requires-clause-room c =
-    let rows = c.args.rows.now in
-    let formats = all_rows c.args.format.now.format in
-    let within = row-within formats (length rows.columns) rows.elements c.args.row c.requires.at c.requires.row c.requires.lie in
-    let cover = cover-all (length rows.columns) (row_at formats c.args.row.keys) c.fill_cells.new.cells.items within c.fill_cells.ensures.keys in
-    let room = rw (← c.self.view_is) at c.requires.room in
-    let few : columns_of_keys (keys_in c.fill_cells.new.cells.items) ≤ c.self.inside.room = omega (arith, cover.all, room) in
-    rw c.as_slice-2.ensures.value (fewer-room c.set_lines.new.self (columns_of_keys (keys_in c.fill_cells.new.cells.items)) c.self.inside.room few
-    (c.set_lines.ensures.room c.self.inside.room c.self.invariant.band))
-
-pub end-requires-clause-lines : goal.end-requires-clause-lines
-end-requires-clause-lines c =
     let wholes = ap (λ (b : KeptBand). b.wholes) c.set_lines.ensures.lines in
     let count = ap (λ (b : KeptBand). b.count) c.set_lines.ensures.lines in
-    omega (arith, wholes, count, c.rules_in_front-wholes.ensures.most, c.requires.few, c.requires.few_keys)
+    rw c.as_slice-2.ensures.value (record {
+      cells = cover.order;
+      some = cover-some _ _ cover c.requires.some;
+      small = omega (arith, cover.all, room, c.self.invariant.few);
+      room = fewer-room (c.set_lines.ensures.room c.self.inside.room c.self.invariant.band) (omega (arith, cover.all, room));
+      lines = omega (arith, wholes, count, c.rules_in_front-wholes.ensures.most, c.requires.few, c.requires.few_keys);
+    })

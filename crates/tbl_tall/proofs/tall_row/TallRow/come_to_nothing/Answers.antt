@@ -7,8 +7,7 @@ use Rattle.tbl_tall.proofs.RowsBegun.{none-goes, nothing-comes}
 use Rattle.tbl_tall.proofs.tall_row.TallRow.come_to_nothing.Goals as goal
 use Rattle.tbl_tall.specs.Bands.{KeptBand, ShowBars, kept_band}
 use Rattle.tbl_line_cells.specs.KeptCells.{AllLeft}
-use Rattle.tbl_line_cells.specs.LinesDrawn.{kept_line}
-use Rattle.tbl_tall.specs.TallRows.{KeptTall}
+use Rattle.tbl_tall.specs.TallRows.{KeptTall, kept_by}
 
 pub fill_nothing-requires-clause-small : goal.fill_nothing-requires-clause-small
 fill_nothing-requires-clause-small c =
@@ -31,7 +30,7 @@ end_nothing-requires-clause-small c =
 pub end_nothing-requires-clause-room : goal.end_nothing-requires-clause-room
 end_nothing-requires-clause-room c =
     let room = rw (← c.self.view_is) at c.requires.room in
-    fewer-room c.set_lines.new.self c.args.columns c.self.inside.room room (c.set_lines.ensures.room c.self.inside.room c.self.invariant.band)
+    fewer-room (c.set_lines.ensures.room c.self.inside.room c.self.invariant.band) room
 
 pub invariant_of-self : goal.invariant_of-self
 invariant_of-self c = record {
@@ -55,17 +54,8 @@ returns-clause-comes c = λ d up heights all stand many then_none.
     let columns = c.args.columns in
     let n = length s.columns in
     let same : columns ≡ n = sym many ∙ ap (λ (cs : List Column). length cs) (sym here.columns) in
-    let new : KeptTall = record {
-      last = 0;
-      cells = c.fill_nothing.new.cells.items;
-      above = a.above.items;
-      lines_left = 0;
-      is_first = a.is_first;
-      band = kept_band c.end_nothing.new.self;
-      line = kept_line a.line;
-      come = a.come;
-      room = a.room;
-    } in
+    let band = kept_band c.end_nothing.new.self in
+    let new : KeptTall = record (kept_by a) { last = 0; cells = c.fill_nothing.new.cells.items; lines_left = 0; band = band } in
     let above : new.band.above ≡ a.band.above.items = ap (λ (b : KeptBand). b.above) rest ∙ ap (λ (b : KeptBand). b.above) lines in
     let shown : ShowBars s.bars.boxing n new.band.above up.line = subst (λ (xs : List ℕ). ShowBars s.bars.boxing n xs up.line) (sym above) here.shown in
     let below : ShowBars s.bars.boxing n new.band.below Nothing

@@ -1,4 +1,4 @@
-use Rattle.std.proofs.Common.{◌≡◌, ◌+◌, ◌<◌, ◌≤◌, ℕ, List, [], ◌∷◌, suc, drop, length, sym, ap, subst, ◌∙◌, arith, is_some}
+use Rattle.std.proofs.Common.{◌≡◌, ◌+◌, ◌≤◌, ℕ, List, [], ◌∷◌, suc, drop, length, sym, ap, subst, ◌∙◌, arith, is_some}
 use Rattle.tbl_format.specs.RowsServed.{all_rows}
 use Rattle.tbl_kept.specs.Rows.{KeptElement, lent}
 use Rattle.tbl_kept.specs.declared.rows.Lent.{Lent}
@@ -23,61 +23,44 @@ loop-at-preserved c =
     let is_below = is_some c.args.above in
     let rest = drop (suc at) elements in
     let next : suc at ≡ at + 1 = omega arith in
-    record {
-      then_come = λ bytes all first. elim m.branch [
-        | in-Rule w ↦
-            let is = c.element.ensures ∙ ap (λ (e : Lent). lent e ∷ rest) w.in-Rule.is in
-            subst (λ (n : ℕ). RulesThen n all (boxed_behind bytes formats boxing is_below n (drop (at + 1) elements))) (sym w.rules-is)
-            (subst (λ (k : ℕ). RulesThen (c.loop-at.rules + 1) all (boxed_behind bytes formats boxing is_below (c.loop-at.rules + 1) (drop k elements))) next
-            (step-rule bytes formats boxing is_below c.loop-at.rules all _ rest
-            (subst (λ (xs : List KeptElement). RulesThen c.loop-at.rules all (boxed_behind bytes formats boxing is_below c.loop-at.rules xs)) is
-            (i.then_come bytes all first))))
-        | in-Command w ↦
-            let is = c.element.ensures ∙ ap (λ (e : Lent). lent e ∷ rest) w.in-Command.is in
-            subst (λ (n : ℕ). RulesThen n all (boxed_behind bytes formats boxing is_below n (drop (at + 1) elements))) (sym w.rules-is)
-            (subst (λ (k : ℕ). RulesThen c.loop-at.rules all (boxed_behind bytes formats boxing is_below c.loop-at.rules (drop k elements))) next
-            (step-command bytes formats boxing is_below c.loop-at.rules all _ _ rest
-            (subst (λ (xs : List KeptElement). RulesThen c.loop-at.rules all (boxed_behind bytes formats boxing is_below c.loop-at.rules xs)) is
-            (i.then_come bytes all first))))
-      ];
-      heights = elim m.branch [
-        | in-Rule w ↦
-            let is = c.element.ensures ∙ ap (λ (e : Lent). lent e ∷ rest) w.in-Rule.is in
-            i.heights ∙ ap heights_kept is ∙ ap (λ (n : ℕ). heights_kept (drop n elements)) next
-        | in-Command w ↦
-            let is = c.element.ensures ∙ ap (λ (e : Lent). lent e ∷ rest) w.in-Command.is in
-            i.heights ∙ ap heights_kept is ∙ ap (λ (n : ℕ). heights_kept (drop n elements)) next
-      ];
-      few = elim m.branch [
-        | in-Rule w ↦ omega (arith, w.rules-is, i.few)
-        | in-Command w ↦ omega (arith, w.rules-is, i.few)
-      ];
-      same = i.same;
-    }
+    elim m.branch [
+      | in-Rule w ↦
+          let is = c.element.ensures ∙ ap (λ (e : Lent). lent e ∷ rest) w.in-Rule.is in
+          rw (w.rules-is, ← next) (record {
+            then_come = λ bytes all first.
+                step-rule bytes formats boxing is_below c.loop-at.rules all _ rest (rw is at (i.then_come bytes all first));
+            heights = i.heights ∙ ap heights_kept is;
+            few = omega (arith, i.few);
+            same = i.same;
+          })
+      | in-Command w ↦
+          let is = c.element.ensures ∙ ap (λ (e : Lent). lent e ∷ rest) w.in-Command.is in
+          rw (w.rules-is, ← next) (record {
+            then_come = λ bytes all first.
+                step-command bytes formats boxing is_below c.loop-at.rules all _ _ rest (rw is at (i.then_come bytes all first));
+            heights = i.heights ∙ ap heights_kept is;
+            few = omega (arith, i.few);
+            same = i.same;
+          })
+    ]
 
 pub come_to-requires-clause-none : goal.come_to-requires-clause-none
 come_to-requires-clause-none c = λ is. subst (λ (t : KeptTall). t.above ≡ []) (sym c.loop-at.invariant.same) (c.requires.none is)
 
 pub come_to-requires-clause-room : goal.come_to-requires-clause-room
-come_to-requires-clause-room c =
-    subst (λ (t : KeptTall). length c.args.rows.now.columns ≤ t.room) (sym c.loop-at.invariant.same) c.requires.room
+come_to-requires-clause-room c = rw c.loop-at.invariant.same c.requires.room
 
 pub come_to-requires-clause-empty : goal.come_to-requires-clause-empty
-come_to-requires-clause-empty c = subst (λ (t : KeptTall). t.cells ≡ []) (sym c.loop-at.invariant.same) c.requires.empty
+come_to-requires-clause-empty c = rw c.loop-at.invariant.same c.requires.empty
 
 pub come_to-requires-clause-come : goal.come_to-requires-clause-come
-come_to-requires-clause-come c =
-    subst (λ (t : KeptTall). t.come < 9223372036854775808) (sym c.loop-at.invariant.same) c.requires.come
+come_to-requires-clause-come c = rw c.loop-at.invariant.same c.requires.come
 
 pub come_to_nothing-requires-clause-room : goal.come_to_nothing-requires-clause-room
-come_to_nothing-requires-clause-room c =
-    let room : length c.args.rows.now.columns ≤ c.loop-at.self.room
-    = subst (λ (t : KeptTall). length c.args.rows.now.columns ≤ t.room) (sym c.loop-at.invariant.same) c.requires.room in
-    let many = ap (λ (cs : List Column). length cs) c.columns.ensures in
-    omega (arith, room, many)
+come_to_nothing-requires-clause-room c = rw (c.loop-at.invariant.same, c.columns.ensures) c.requires.room
 
 pub come_to_nothing-requires-clause-empty : goal.come_to_nothing-requires-clause-empty
-come_to_nothing-requires-clause-empty c = subst (λ (t : KeptTall). t.cells ≡ []) (sym c.loop-at.invariant.same) c.requires.empty
+come_to_nothing-requires-clause-empty c = rw c.loop-at.invariant.same c.requires.empty
 
 pub returns-in-Row-clause-come : goal.returns-in-Row-clause-come
 returns-in-Row-clause-come c = c.come_to.ensures.come ∙ ap (λ (t : KeptTall). t.come) c.loop-at.invariant.same

@@ -4,16 +4,13 @@ use Rattle.std.specs.List.{AllByRecursion}
 use Rattle.tbl_format.specs.RowsServed.{all_rows}
 use Rattle.tbl_lines.specs.LinesLeft.{OfRules, overs}
 use Rattle.tbl_lines.specs.PictureLeft.{through_rule}
-use Rattle.tbl_tall.proofs.BandSteps.{overs-self}
 use Rattle.tbl_tall.proofs.BandsAlike.{overs-alike}
-use Rattle.tbl_tall.proofs.BandsBelow.{comes-next}
 use Rattle.tbl_tall.proofs.KeysCover.{fewer-room}
 use Rattle.tbl_tall.proofs.RowsGoOn.{rule-passed}
+use Rattle.tbl_tall.proofs.RuleGivens.{next-line}
 use Rattle.tbl_tall.proofs.tall_row.TallRow.pass_rule.Goals as goal
 use Rattle.tbl_tall.specs.Bands.{AlikeOvers, BandStands, KeptBand, kept_band}
-use Rattle.tbl_line_cells.specs.KeptCells.{AllLeft}
-use Rattle.tbl_line_cells.specs.LinesDrawn.{kept_line}
-use Rattle.tbl_tall.specs.TallRows.{KeptTall, kept_by, row_below}
+use Rattle.tbl_tall.specs.TallRows.{row_below}
 use Rattle.tbl_line_cells.specs.declared.cells.CellLeft.{CellLeft}
 
 pub pass_cells-requires : goal.pass_cells-requires
@@ -31,15 +28,12 @@ pass-requires-clause-fits c =
 pub pass-requires-clause-line : goal.pass-requires-clause-line
 pass-requires-clause-line c =
     let next = rw (← c.self.view_is) at c.requires.next in
-    let fits = next.comes.band.fits in
-    (comes-next (all_rows c.args.format.now.format) next.s (kept_band c.self.inside.band) (overs 0 next.cells next.s.columns) next.cells
-    (overs-self (overs 0 next.cells next.s.columns)) fits.given fits.rows next.elements next.rest next.line next.rule next.comes.wholes next.comes.rules).more
+    (next-line next.comes next.rule).more
 
 pub pass-requires-clause-room : goal.pass-requires-clause-room
 pass-requires-clause-room c =
     let next = rw (← c.self.view_is) at c.requires.next in
-    let few : length c.self.inside.band.through.items ≤ c.self.inside.room = omega (arith, next.comes.band.as_many, next.comes.room) in
-    fewer-room c.self.inside.band (length c.self.inside.band.through.items) c.self.inside.room few c.self.invariant.band
+    fewer-room c.self.invariant.band (omega (arith, next.comes.band.as_many, next.comes.room))
 
 pub invariant_of-self : goal.invariant_of-self
 invariant_of-self c =
@@ -67,27 +61,14 @@ returns-clause-comes c = λ s heights cells above elements rest line boxed comes
     let all = overs 0 cells s.columns in
     let other = overs 0 (map through_rule cells) s.columns in
     let below = row_below n cells elements in
-    let fits = here.band.fits in
-    let next = comes-next formats s (kept_band a.band) all cells (overs-self all) fits.given fits.rows elements rest line rule here.wholes here.rules in
+    let next = next-line here rule in
     let back = overs-alike cells s.columns in
     let alike : AlikeOvers all other = record { free = λ column. sym (back.free column); within = λ boundary. sym (back.within boundary) } in
     let stands : BandStands formats s.bars n (kept_band c.pass.new.self) other (OfRules line all above) below
     = subst (λ (m : ℕ). BandStands formats s.bars m (kept_band c.pass.new.self) other (OfRules line all above) below) here.band.as_many
     (c.pass.ensures.stands s.bars all other line above below boxed
     (subst (λ (m : ℕ). BandStands formats s.bars m (kept_band a.band) all above below) (sym here.band.as_many) here.band) alike next.alike) in
-    let new : KeptTall = record {
-      last = a.last_bars;
-      cells = c.pass_cells.new.cells;
-      above = a.above.items;
-      lines_left = a.lines_left;
-      is_first = a.is_first;
-      band = kept_band c.pass.new.self;
-      line = kept_line a.line;
-      come = a.come;
-      room = a.room;
-    } in
     let told = c.pass.ensures.rest in
-    rw written (rule-passed bytes formats s (kept_by a) new heights cells above elements rest line here rule places
-    (c.pass_cells.ensures.left cells (subst (λ (cs : List CellLeft). AllLeft bytes cs cells) (sym c.as_mut_slice.ensures.value) here.left)) stands
-    (ap (λ (b : KeptBand). b.wholes) told) (ap (λ (b : KeptBand). b.first) told) (ap (λ (b : KeptBand). b.count) told)
-    (ap (λ (b : KeptBand). b.at) told) refl refl refl)
+    let left = (rw c.as_mut_slice.ensures.value at c.pass_cells.ensures.left) cells here.left in
+    rw written (rule-passed here rule places left stands (ap (λ (b : KeptBand). b.wholes) told) (ap (λ (b : KeptBand). b.first) told)
+    (ap (λ (b : KeptBand). b.count) told) (ap (λ (b : KeptBand). b.at) told) refl refl refl)
