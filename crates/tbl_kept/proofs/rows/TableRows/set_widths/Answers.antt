@@ -34,52 +34,23 @@ set_heights-requires-clause-columns c =
     (length-widened c.args.bytes.now (all_rows c.args.format.now.format) c.args.bars c.args.line_length c.args.format.now.format.asked c.args.self.now c.requires.kept
     ∙ c.requires.columns)
 
-pub returns-clause-laid : goal.returns-clause-laid
-returns-clause-laid c =
+pub returns : goal.returns
+returns c =
     let bytes = c.args.bytes.now in
     let formats = all_rows c.args.format.now.format in
+    let bars = c.args.bars in
+    let line_length = c.args.line_length in
     let asked = c.args.format.now.format.asked in
     let k = c.args.self.now in
+    let kept = c.requires.kept in
+    let columns = c.requires.columns in
     let same = rw (c.make_equal.ensures, c.fit_rows.ensures, c.set_needed.ensures, c.fill_blocks.ensures.value, c.set_bars.ensures, c.asked-asked.ensures.value) at c.set_heights.ensures in
-    rw (same bytes (laid-widened bytes formats c.args.bars c.args.line_length asked k c.requires.kept c.requires.columns) (alone-filled bytes formats c.args.bars c.args.line_length asked k c.requires.kept))
-    (RowsLaid-all bytes formats c.args.bars c.args.line_length asked k c.requires.kept c.requires.columns c.args.bars.boxing.is_inside)
-
-pub returns-clause-elements : goal.returns-clause-elements
-returns-clause-elements c =
-    let bytes = c.args.bytes.now in
-    let formats = all_rows c.args.format.now.format in
-    let asked = c.args.format.now.format.asked in
-    let k = c.args.self.now in
-    let same = rw (c.make_equal.ensures, c.fit_rows.ensures, c.set_needed.ensures, c.fill_blocks.ensures.value, c.set_bars.ensures, c.asked-asked.ensures.value) at c.set_heights.ensures in
-    rw (same bytes (laid-widened bytes formats c.args.bars c.args.line_length asked k c.requires.kept c.requires.columns) (alone-filled bytes formats c.args.bars c.args.line_length asked k c.requires.kept))
-    (elements_of-all bytes formats c.args.bars c.args.line_length asked k c.requires.kept c.requires.columns c.args.bars.boxing.is_inside)
-
-pub returns-clause-columns : goal.returns-clause-columns
-returns-clause-columns c =
-    let bytes = c.args.bytes.now in
-    let formats = all_rows c.args.format.now.format in
-    let asked = c.args.format.now.format.asked in
-    let k = c.args.self.now in
-    let same = rw (c.make_equal.ensures, c.fit_rows.ensures, c.set_needed.ensures, c.fill_blocks.ensures.value, c.set_bars.ensures, c.asked-asked.ensures.value) at c.set_heights.ensures in
-    rw (same bytes (laid-widened bytes formats c.args.bars c.args.line_length asked k c.requires.kept c.requires.columns) (alone-filled bytes formats c.args.bars c.args.line_length asked k c.requires.kept))
-    (columns-all bytes formats c.args.bars c.args.line_length asked k c.requires.kept c.requires.columns)
-
-pub returns-clause-count : goal.returns-clause-count
-returns-clause-count c =
-    let bytes = c.args.bytes.now in
-    let formats = all_rows c.args.format.now.format in
-    let asked = c.args.format.now.format.asked in
-    let k = c.args.self.now in
-    let same = rw (c.make_equal.ensures, c.fit_rows.ensures, c.set_needed.ensures, c.fill_blocks.ensures.value, c.set_bars.ensures, c.asked-asked.ensures.value) at c.set_heights.ensures in
-    rw (same bytes (laid-widened bytes formats c.args.bars c.args.line_length asked k c.requires.kept c.requires.columns) (alone-filled bytes formats c.args.bars c.args.line_length asked k c.requires.kept))
-    (count-all bytes formats c.args.bars c.args.line_length asked k c.requires.kept c.args.bars.boxing.is_inside)
-
-pub returns-clause-rooms : goal.returns-clause-rooms
-returns-clause-rooms c =
-    let bytes = c.args.bytes.now in
-    let formats = all_rows c.args.format.now.format in
-    let asked = c.args.format.now.format.asked in
-    let k = c.args.self.now in
-    let same = rw (c.make_equal.ensures, c.fit_rows.ensures, c.set_needed.ensures, c.fill_blocks.ensures.value, c.set_bars.ensures, c.asked-asked.ensures.value) at c.set_heights.ensures in
-    rw (same bytes (laid-widened bytes formats c.args.bars c.args.line_length asked k c.requires.kept c.requires.columns) (alone-filled bytes formats c.args.bars c.args.line_length asked k c.requires.kept))
-    (record { entries = refl; elements = refl; columns = refl })
+    let is = same bytes (laid-widened bytes formats bars line_length asked k kept columns) (alone-filled bytes formats bars line_length asked k kept) in
+    record {
+      laid = rw is (RowsLaid-all bytes formats bars line_length asked k kept columns bars.boxing.is_inside);
+      elements = rw is (elements_of-all bytes formats bars line_length asked k kept columns bars.boxing.is_inside);
+      columns = rw is (columns-all bytes formats bars line_length asked k kept columns);
+      count = rw is (count-all bytes formats bars line_length asked k kept bars.boxing.is_inside);
+      rooms = rw is (record { entries = refl; elements = refl; columns = refl });
+      room = c.fill_blocks.ensures.room;
+    }
