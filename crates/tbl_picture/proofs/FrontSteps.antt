@@ -9,6 +9,7 @@ use Rattle.tbl_layout.specs.declared.data_lines.RuleSign.TheVariants.{Double, Si
 use Rattle.tbl_lines.specs.PictureLines.{Cell, at_column, bar, bars_at, crossed_at, crossing, end_of, nothing_there, repeated, with_fronts}
 use Rattle.tbl_pieces.specs.PieceQueue.{Adds, KeptPieces}
 use Rattle.tbl_lines.specs.RowsLeft.{cell_left, cell_of_front, first_of, from_line, given, given_of, if_given, one_less, then_fronts}
+use Rattle.tbl_lines.specs.declared.fronts.Front.{Front}
 use Rattle.tbl_lines.specs.declared.fronts.Front.TheVariants.{Ruled as RuledFront}
 use Rattle.tbl_lines.specs.RowsWalked.{HasGlyph, LastHasGlyph, front_count, most_steps, steps_of_cells, steps_of_columns}
 use Rattle.tbl_picture.specs.Walks.{FrontStands, InFront, IsNear, IsOn, IsUnderWay, KeptWalk, OnLine, RowSteps, WalkedRow, cells_in_front, cells_left, columns_left, columns_walked, fields_left, fronts_of, row_fronts_of, front_passed, further_lines, reached_by, next_behind, row_left, row_steps, steps_of_rest}
@@ -39,13 +40,12 @@ none-long [] is = refl
 none-long (x ∷ xs) is = absurd (omega (arith, is))
 
 -- what stands in front of a column
-pub front-stands : (row : WalkedRow) (w : KeptWalk) (at : ℕ) (f : Cell) → InFront row at w
-    → drop at (row_fronts_of row) ≡ f ∷ drop (suc at) (row_fronts_of row)
-    → FrontStands row at f w
-front-stands row w at f front is = record {
-  front = front;
-  first = map-at (from_line w.line) at (row_fronts_of row) f is;
-}
+pub front-stands : {row : WalkedRow} {w : KeptWalk} {at : ℕ} {found f : Front} → InFront row at w
+    → drop at (row_fronts_of row) ≡ cell_of_front found ∷ drop (suc at) (row_fronts_of row) → found ≡ f → FrontStands row at (cell_of_front f) w
+front-stands {row} {w} {at} {f = f} front there is =
+    let all = row_fronts_of row in
+    let first = subst (λ (g : Front). drop at all ≡ cell_of_front g ∷ drop (suc at) all) is there in
+    record { front = front; first = map-at (from_line w.line) at all (cell_of_front f) first }
 
 module _ (row : WalkedRow) (w : KeptWalk) (at : ℕ) (f : Cell) (stands : FrontStands row at f w) (reached : ℕ) where
   abbrev pub front_now : Cell
