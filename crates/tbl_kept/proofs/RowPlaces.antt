@@ -5,10 +5,11 @@ use Rattle.tbl_layout.specs.declared.entry.Entry.{Entry}
 use Rattle.tbl_layout.specs.declared.data_lines.RuleSign.{RuleSign}
 use Rattle.tbl_text.proofs.BlockSlices.{length-slice_range}
 use Rattle.tbl_kept.specs.Rows.{Command, KeptElement, Row, Rule, entries_in}
-use Rattle.tbl_kept.specs.RowsInside.{LieBetween, kept_in}
+use Rattle.tbl_kept.specs.RowsInside.{IsSound, LieBetween, kept_by, kept_in}
 use Rattle.tbl_kept.specs.declared.rows.Element.{Element}
 use Rattle.tbl_kept.specs.declared.rows.Element.TheVariants.{Command as OneCommand, Row as OneRow, Rule as OneRule}
 use Rattle.tbl_kept.specs.declared.rows.KeptRow.{KeptRow}
+use Rattle.tbl_kept.specs.declared.rows.TableRows.TheInside.{Inside}
 use Rattle.tbl_kept.proofs.KeptFields.{slice_range-front}
 
 -- rows end behind where they begin
@@ -184,6 +185,29 @@ pub kept-at : (fields : List Entry) (elements : List Element) (at : ℕ) (none e
 kept-at fields [] at none e other more is = absurd (omega (arith, more))
 kept-at fields (first ∷ elements) zero none e other more is = ap (kept_in fields) is
 kept-at fields (first ∷ elements) (suc at) none e other more is = kept-at fields elements at none e other (omega (arith, more)) is
+
+-- an element stands among those that are kept, and a row's fields among all
+module _ (a : Inside) {at : ℕ} {e x : Element} (some : at < length (kept_by a).elements) (read : e ≡ get_or a.elements.items at e) (is : e ≡ x) where
+  more-there : at < length a.elements.items
+  more-there = omega (arith, some, length-kept a.entries.items a.elements.items)
+
+  pub drop-there : drop at (kept_by a).elements ≡ kept_in a.entries.items x ∷ drop (suc at) (kept_by a).elements
+  drop-there = drop-kept a.entries.items a.elements.items at e x more-there (sym read ∙ is)
+
+  pub kept-there : get_or (kept_by a).elements at (Command 0 0) ≡ kept_in a.entries.items x
+  kept-there = kept-at a.entries.items a.elements.items at e x (Command 0 0) more-there (sym read ∙ is)
+
+pub record RowThere (a : Inside) (at : ℕ) (row : KeptRow) : Type 0 where
+  pub more : at < length a.elements.items
+  pub order : row.from ≤ row.to
+  pub within : row.to ≤ length a.entries.items
+
+pub row-there : {a : Inside} {at : ℕ} {e : Element} {row : KeptRow} → IsSound a → at < length (kept_by a).elements → e ≡ get_or a.elements.items at e
+    → e ≡ OneRow row → RowThere a at row
+row-there {a} {at} {e} {row} sound some read is =
+    let more = more-there a some read is in
+    let between = LieBetween-at 0 a.row_start at a.elements.items row e more (sym read ∙ is) sound.rows in
+    record { more = more; order = between.order; within = omega (arith, between.last, sound.start) }
 
 -- a part of fields written over
 pub part-changed : (fields part : List Entry) (from to : ℕ) → from ≤ to → to ≤ length fields → length part ≡ to - from
