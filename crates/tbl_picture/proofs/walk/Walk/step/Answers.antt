@@ -10,7 +10,20 @@ use Rattle.tbl_picture.specs.declared.walk.Next.{Next as KeptNext}
 use Rattle.tbl_picture.proofs.PictureSteps.{top-comes}
 use Rattle.tbl_picture.proofs.RuleLinesWalked.{keys-begin, rule-by}
 use Rattle.tbl_picture.proofs.RowSteps.{first-fits, rows-served}
+use Rattle.tbl_picture.proofs.walk.Walk.step.Goals.{In-AtRule}
 use Rattle.tbl_picture.proofs.walk.Walk.step.Goals as goal
+
+-- on a line of rules
+at-rule : (c : In-AtRule) → c.args.self.now.next ≡ AtRule c.self.inside.rule
+at-rule c = ap (λ (k : KeptWalk). k.next) (sym c.self.view_is) ∙ ap (λ (n : KeptNext). next_by n c.self.inside.rule) c.in-AtRule.is
+
+stands : (c : In-AtRule) → let w = c.args.self.now in
+    RuleStands c.args.bytes.now (all_rows c.args.format.now.format) c.args.rows.now c.self.inside.rule w (drop w.element c.args.rows.now.elements)
+stands c =
+    let w = c.args.self.now in
+    let rows = c.args.rows.now in
+    subst (λ (n : Next). StandsAt n c.args.bytes.now (all_rows c.args.format.now.format) rows w (drop w.element rows.elements)) (at-rule c)
+    c.requires.can.next
 
 pub step_at_rule-requires-clause-served : goal.step_at_rule-requires-clause-served
 step_at_rule-requires-clause-served c =
@@ -24,30 +37,18 @@ pub step_at_element-requires-clause-fits : goal.step_at_element-requires-clause-
 step_at_element-requires-clause-fits c =
     first-fits c.args.bytes.now (all_rows c.args.format.now.format) c.args.rows.now c.args.self.now c.requires.can
 
-pub step_in_rule-requires-clause-served : goal.step_in_rule-requires-clause-served
-step_in_rule-requires-clause-served c =
-    rows-served c.args.bytes.now (all_rows c.args.format.now.format) (length c.args.rows.now.columns) c.args.rows.now.elements c.requires.can.laid.elements
-
-pub step_in_rule-requires-clause-fits : goal.step_in_rule-requires-clause-fits
-step_in_rule-requires-clause-fits c =
-    first-fits c.args.bytes.now (all_rows c.args.format.now.format) c.args.rows.now c.args.self.now c.requires.can
-
-pub step_in_rule-requires-clause-next : goal.step_in_rule-requires-clause-next
-step_in_rule-requires-clause-next c =
-    ap (λ (k : KeptWalk). k.next) (sym c.self.view_is) ∙ ap (λ (n : KeptNext). next_by n c.self.inside.rule) c.in-AtRule.is
-
-pub step_in_rule-requires-clause-lies : goal.step_in_rule-requires-clause-lies
-step_in_rule-requires-clause-lies c =
+pub step_in_rule-requires : goal.step_in_rule-requires
+step_in_rule-requires c =
     let bytes = c.args.bytes.now in
     let formats = all_rows c.args.format.now.format in
     let rows = c.args.rows.now in
-    let w = c.args.self.now in
-    let rule = c.self.inside.rule in
-    let next : w.next ≡ AtRule rule = ap (λ (k : KeptWalk). k.next) (sym c.self.view_is) ∙ ap (λ (n : KeptNext). next_by n rule) c.in-AtRule.is in
-    let elements = drop w.element rows.elements in
-    let stands : RuleStands bytes formats rows rule w elements =
-    subst (λ (n : Next). StandsAt n bytes formats rows w elements) next c.requires.can.next in
-    stands.lies
+    record {
+      next = at-rule (goal.at.step_in_rule-requires c).In-AtRule;
+      served = rows-served bytes formats (length rows.columns) rows.elements c.requires.can.laid.elements;
+      lies = (stands (goal.at.step_in_rule-requires c).In-AtRule).lies;
+      fits = first-fits bytes formats rows c.args.self.now c.requires.can;
+      room = c.requires.room;
+    }
 
 pub returns-in-AtTop-clause-step : goal.returns-in-AtTop-clause-step
 returns-in-AtTop-clause-step c = λ frame within.
@@ -80,12 +81,6 @@ pub returns-in-AtRule-clause-step : goal.returns-in-AtRule-clause-step
 returns-in-AtRule-clause-step c = λ frame within.
     let bytes = c.args.bytes.now in
     let formats = all_rows c.args.format.now.format in
-    let rows = c.args.rows.now in
-    let w = c.args.self.now in
-    let rule = c.self.inside.rule in
-    let next : w.next ≡ AtRule rule = ap (λ (k : KeptWalk). k.next) (sym c.self.view_is) ∙ ap (λ (n : KeptNext). next_by n rule) c.in-AtRule.is in
-    let elements = drop w.element rows.elements in
-    let stands : RuleStands bytes formats rows rule w elements =
-    subst (λ (n : Next). StandsAt n bytes formats rows w elements) next c.requires.can.next in
-    rule-by bytes frame formats rows w c.requires.can c.args.pieces.now c.step_in_rule.new.pieces within rule c.step_in_rule.new.self next
-    (c.step_in_rule.ensures bytes frame stands)
+    let here = (goal.at.returns-in-AtRule-clause-step c).In-AtRule in
+    rule-by bytes frame formats c.args.rows.now c.args.self.now c.requires.can c.args.pieces.now c.step_in_rule.new.pieces within c.self.inside.rule
+    c.step_in_rule.new.self (at-rule here) (c.step_in_rule.ensures bytes frame (stands here))
