@@ -30,7 +30,7 @@ use Rattle.run_model.specs.Requests.{called_by}
 use Rattle.run_model.specs.Stages.{Ignores, Stage, TakesHalf, Turned, stage_of}
 use Rattle.run_model.specs.declared.line_state.LineState.{LineState}
 use Rattle.run_model.specs.declared.line_state.LineState.TheVariants.{Deciding, Skipping}
-use Rattle.read_shortcuts.specs.Conditions.{AsksNothing, DecidesConstant, HasBlank, constant_front, digit_of, kept_half}
+use Rattle.read_shortcuts.specs.Conditions.{AsksNothing, DecidesConstant, HasBlank, OfAhead, constant_front, digit_of, kept_half}
 use Rattle.read_shortcuts.specs.Runs.{IsRun}
 use Rattle.read_shortcuts.specs.ControlFronts.{BeginsControl, StandsReady, control_byte}
 use Rattle.read_shortcuts.specs.Stages.{ReadsPast}
@@ -191,10 +191,13 @@ module _ (gave gives : Tape → Type 0) (r : ReaderState) (breaks : Bool) (first
       deciding = refl;
       text = digit_of so ∷ [];
       half = refl;
-      sees = refl;
+      sees = OfAhead refl;
       value = number_of so;
       is_number = is_number-digit so;
       within = subst (λ (is : Bool). IsWithin (kept_half false is between)) (sym (so-digit so)) within-decided;
+      is_ended = false;
+      over = kept_half false so between;
+      ends = refl;
       behind = subst (λ (is : Bool). ReadsPast gives gives (record r { reading = branch_of is }) (record r { reading = branch_of so }) (kept_half false is between) passed) (sym (so-digit so)) past-blank;
     };
   }

@@ -1,5 +1,5 @@
 -- Bytes of an expression behind a condition of which nothing is read yet: those of a number begin it, and others are held in it.
-use Rattle.std.proofs.Common.{◌≡◌, ℕ, suc, zero, ◌+◌, ◌==◌, ◌<◌, ◌≤◌, Bool, true, false, not, ◌&&◌, ◌||◌, List, [], ◌∷◌, ◌++◌, length, take, get_or, None, Some, inl, inr, refl, sym, ap, subst, ◌∙◌, arith, append-nil, append_assoc, length-append, codes, if◌then◌else◌, map, eqb-true, ne_eqb}
+use Rattle.std.proofs.Common.{◌≡◌, ℕ, suc, zero, ◌+◌, ◌==◌, ◌<◌, Bool, true, false, not, ◌&&◌, ◌||◌, List, [], ◌∷◌, ◌++◌, length, take, get_or, None, Some, inl, inr, refl, sym, ap, subst, ◌∙◌, arith, append-nil, append_assoc, length-append, codes, if◌then◌else◌, eqb-true, ne_eqb}
 use Rattle.std.specs.List.{AllByRecursion}
 use Rattle.std.proofs.lemmas.Bool.{cases_Bool}
 use Rattle.input_source.specs.Bytes.{backslash, blank, is_digit, is_dropped, newline, tab}
@@ -12,9 +12,6 @@ use Rattle.input_escapes.specs.declared.open_escape.CopyUnit.TheVariants.{Byte}
 use Rattle.input_escapes.specs.declared.open_escape.Decision.{Decision}
 use Rattle.input_escapes.specs.declared.open_escape.Decision.TheVariants.{Is, OnPages}
 use Rattle.input_escapes.specs.declared.open_escape.Found.TheVariants.{GoesOn, Holds}
-use Rattle.input_model.specs.Input.{Ahead, ByteAhead}
-use Rattle.input_model.specs.Shown.{SeesByte, seen_ahead}
-use Rattle.run_model.specs.PageEvents.{PageEvent}
 use Rattle.roff_scan.proofs.RunKinds.{no_newline_of}
 use Rattle.roff_scan.specs.Unread.Calls.{NoNewline}
 use Rattle.read_shortcuts.specs.Answered.{AreOfExpression, BeginsNumber, begins_number}
@@ -96,7 +93,7 @@ holds-first b begins is =
     }
 
 -- such a byte ends no expression
-expression-stays : (text : List ℕ) (b : ℕ) → is_of_expression b ≡ true → is_ended_by (expression text) (Some b) ≡ false
+pub expression-stays : (text : List ℕ) (b : ℕ) → is_of_expression b ≡ true → is_ended_by (expression text) (Some b) ≡ false
 expression-stays text b is =
     let none = none_of_five (b == backslash) (is_dropped b) (b == newline) (b == blank) (b == tab) is in
     ap (λ (c : Bool). (c || b == tab) || b == newline) none.1.1.1.0 ∙ ap (λ (c : Bool). c || b == newline) none.1.1.1.1 ∙ none.1.1.0
@@ -137,14 +134,3 @@ halves-number text number =
 -- no newline is among them
 pub expression-plain : (bytes : List ℕ) → AreOfExpression bytes → NoNewline bytes
 expression-plain bytes are = no_newline_of is_of_expression refl bytes are
-
--- A byte is seen in front that stays for what is half read.
-pub record SeesMore (text : List ℕ) (items : List (Ahead PageEvent)) : Type 0 where
-  pub byte : ℕ
-  pub sees : seen_ahead items ≡ Some (SeesByte byte)
-  pub stays : is_ended_by (expression text) (Some byte) ≡ false
-
--- one is seen where more of an expression stands in front
-pub sees-more : (text more : List ℕ) (items : List (Ahead PageEvent)) → 1 ≤ length more → AreOfExpression more → SeesMore text (map ByteAhead more ++ items)
-sees-more text [] items some are = absurd (omega (arith, some))
-sees-more text (b ∷ more) items some are = record { byte = b; sees = refl; stays = expression-stays text b are.0 }

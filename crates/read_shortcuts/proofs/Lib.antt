@@ -18,6 +18,9 @@ pub mod StringFronts
 pub mod RegisterNames
 pub mod RegistersPut
 pub mod ArgumentsPut
+pub mod ComingBytes
+pub mod AskedConditions
+pub mod TakenConditions
 pub mod RegistersHeld
 pub mod PuttingRuns
 pub mod ConstantConditions

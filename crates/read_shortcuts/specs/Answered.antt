@@ -36,9 +36,8 @@ pub record BeginsNumber (bytes : List ℕ) : Type 0 where
   pub begins : begins_number first ≡ true
   pub are : AreOfExpression bytes
 
--- some of these bytes, and so many, belong to an expression, and a blank ends it behind them
+-- so many of these bytes belong to an expression, and a blank ends it behind them
 pub record EndsBehind (count : ℕ) (bytes : List ℕ) : Type 0 where
-  pub some : 1 ≤ count
   pub few : count ≤ length bytes
   pub are : AreOfExpression (take count bytes)
   pub more : List ℕ
@@ -51,7 +50,6 @@ asking_bytes name rest = register_escape name ++ (rest ++ blank ∷ [])
 -- These bytes begin with such a condition.
 pub record AsksFor (name : ShortName) (rest bytes : List ℕ) : Type 0 where
   pub named : IsRegisterName name
-  pub some : 1 ≤ length rest
   pub are : AreOfExpression rest
   pub more : List ℕ
   pub is : bytes ≡ asking_bytes name rest ++ more

@@ -5,7 +5,7 @@ ghost use Rattle.input_escapes.specs.ConditionFronts.{is_of_expression};
 ghost use Rattle.run_model.specs.declared.line_state.LineState.TheVariants.{Deciding};
 ghost use Rattle.read_shortcuts.specs.Answered.{AnswersBehind, AnswersFront, AreOfExpression};
 ghost use Rattle.read_shortcuts.specs.Answered.{BeginsNumber, EndsBehind, IsAnswer, begins_number};
-ghost use Rattle.read_shortcuts.specs.Conditions.{DecidesRegister};
+ghost use Rattle.read_shortcuts.specs.Conditions.{DecidesRegister, HoldsMore};
 ghost use Rattle.read_shortcuts.specs.ControlFronts.{StandsName};
 
 use crate::control::{ControlFront, take_front};
@@ -31,7 +31,7 @@ pub(super) struct Answer {
 }
 
 /// Takes a name of two bytes that stands in front, with its dot or apostrophe, and a condition
-/// behind it that asks for a register: it decides. It stands whole ahead of the source, and the
+/// behind it that asks for a register: it decides. It stands whole in front, and the
 /// limits have room for what is read of it. Else nothing happens. Returns whether it did.
 #[inline(never)]
 pub(super) fn decide_register<S: ByteSource>(
@@ -52,12 +52,12 @@ pub(super) fn decide_register<S: ByteSource>(
     ensures notes { S.notes source.new ≤ S.notes source.old }
     ensures failures { S.failures source.new ≡ S.failures source.old }
 {
-    if unread.is_none_ahead() {
-        return false;
-    }
     match answer_in_front(reader, composer, unread, source) {
         Some(answer) => {
             unread.stays_within();
+            if !may_hold(answer, unread) {
+                return false;
+            }
             if !keep_if(keeps, answer.so, unread) {
                 return false;
             }
@@ -72,6 +72,19 @@ pub(super) fn decide_register<S: ByteSource>(
         }
         None => false,
     }
+}
+
+/// Whether the limits have room for the bytes of such a condition in what is half read, where it
+/// stands in the source.
+#[inline(always)]
+pub(super) fn may_hold(answer: Answer, unread: &Unread<PageEvent>) -> bool
+    ensures { result ≡ true → HoldsMore answer unread.now }
+{
+    if !unread.is_none_ahead() {
+        return true;
+    }
+    let room = (unread.limits().stack as usize).saturating_sub(unread.pushed());
+    answer.count <= room.saturating_sub(answer.len)
 }
 
 /// What the condition answers that stands in front behind a name of two bytes and a blank, if it
@@ -150,15 +163,12 @@ fn answer_of(
     }
 }
 
-/// How many of these bytes belong to an expression, if some do, and a blank ends it behind them.
+/// How many of these bytes belong to an expression, if a blank ends it behind them.
 #[inline(always)]
 fn expression_in_front(bytes: &[u8]) -> Option<usize>
     ensures { IfSome result (λ count. EndsBehind count bytes.now) }
 {
     let count = expression_len(bytes);
-    if count == 0 {
-        return None;
-    }
     let (_, behind) = bytes.split_at(count);
     match behind {
         [b' ', ..] => Some(count),

@@ -9,7 +9,7 @@ ghost use Rattle.read_shortcuts.specs.Conditions.{DecidesTexts};
 ghost use Rattle.read_shortcuts.specs.ControlFronts.{StandsName};
 ghost use Rattle.run_state.specs.declared.composer.Composer.{Composer as ComposerOf};
 
-use crate::answered::Answer;
+use crate::answered::{Answer, may_hold};
 use crate::control::{ControlFront, take_front};
 use crate::kept::{forget_if, keep_if};
 use crate::registers::place_of;
@@ -19,9 +19,8 @@ use roff_scan::{ByteSource, Unread};
 use run_model::{LineState, PageEvent};
 
 /// Takes a name of two bytes that stands in front, with its dot or apostrophe, and a condition
-/// behind it that compares an argument with a text: it decides. It stands whole ahead of the
-/// source, and the limits have room for what is read of it. Else nothing happens. Returns whether
-/// it did.
+/// behind it that compares an argument with a text: it decides. It stands whole in front, and the
+/// limits have room for what is read of it. Else nothing happens. Returns whether it did.
 #[inline(never)]
 pub(super) fn decide_texts<S: ByteSource>(
     reader: &mut Reader,
@@ -40,12 +39,12 @@ pub(super) fn decide_texts<S: ByteSource>(
     ensures notes { S.notes source.new ≤ S.notes source.old }
     ensures failures { S.failures source.new ≡ S.failures source.old }
 {
-    if unread.is_none_ahead() {
-        return false;
-    }
     match comparison_in_front(unread, source) {
         Some(answer) => {
             unread.stays_within();
+            if !may_hold(answer, unread) {
+                return false;
+            }
             if !keep_if(keeps, answer.so, unread) {
                 return false;
             }

@@ -201,8 +201,6 @@ fn behind_name(bytes: &[u8]) -> BehindName
     match bytes {
         [_, _, _, b' ', b'0', b' ', ..] => BehindName::Constant(false),
         [_, _, _, b' ', b'1', b' ', ..] => BehindName::Constant(true),
-        [_, _, _, b' ', b'\\', b'n', _, b' ', ..] => BehindName::Blank { asks: false },
-        [_, _, _, b' ', b'\\', b'n', b'(', _, _, b' ', ..] => BehindName::Blank { asks: false },
         [_, _, _, b' ', b'\\', b'n', ..] => BehindName::Blank { asks: true },
         [_, _, _, b' ', b'\'' | b'"', b'\\', b'$', ..] => BehindName::Texts,
         [_, _, _, b' ', b'!', b'\'' | b'"', b'\\', b'$', ..] => BehindName::Texts,

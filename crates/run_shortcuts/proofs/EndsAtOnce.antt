@@ -10,9 +10,8 @@ use Rattle.input_escapes.specs.declared.open_escape.Surroundings.{Surroundings}
 use Rattle.input_escapes.specs.declared.open_escape.Surroundings.TheVariants.{Arguments as AboveArguments, Copy as AboveCopy}
 use Rattle.input_escapes.specs.declared.open_escape.Waiting.{Waiting}
 use Rattle.input_escapes.specs.declared.open_escape.Waiting.TheVariants.{Decides, Waits}
-use Rattle.input_model.proofs.FewEvents.{few-seen}
+use Rattle.input_model.proofs.FewEvents.{few-behind}
 use Rattle.input_model.specs.Input.{Ahead}
-use Rattle.input_model.specs.Shown.{Sighted, SeesByte, seen_ahead}
 use Rattle.input_model.specs.Unread.{EndsDecided, IsWithin, reading}
 use Rattle.input_source.specs.Tape.{Tape}
 use Rattle.read_lines.proofs.TakesAs.{few_names, short_title}
@@ -23,7 +22,7 @@ use Rattle.run_model.specs.Reading.Ends.{due}
 use Rattle.run_model.specs.Reading.Items.{PageInput, PageUnread, Taking, going_on}
 use Rattle.run_model.specs.Reading.Waiting.{waiting_in}
 use Rattle.run_model.specs.Registers.{AllRegisters, Known}
-use Rattle.run_model.specs.Run.{Leads, State, awaited, escape_ends, in_front_taken, item_read, known, known_at, made, read_waiting, taken_as, unless_refused}
+use Rattle.run_model.specs.Run.{Leads, State, escape_ends, in_front_taken, item_read, known, known_at, made, read_waiting, taken_as, unless_refused}
 use Rattle.run_model.specs.Run.Counts.{counts_in, first_passed}
 use Rattle.run_model.specs.TurnsToCome.{begun, turns_within}
 use Rattle.run_model.specs.PageEvents.{PageEvent}
@@ -40,7 +39,9 @@ use Rattle.run_items.specs.Room.{FewFor}
 use Rattle.run_turns.specs.Running.Turning.{GoesPast, IsAt, state_at, turns_left}
 use Rattle.run_items.proofs.EndsUnseen.{few-unseen}
 use Rattle.run_items.proofs.Fronts.{few-seen_ended}
+use Rattle.read_shortcuts.specs.Conditions.{SeesNext}
 use Rattle.run_shortcuts.proofs.GoingPast.{IsAt-leads}
+use Rattle.run_shortcuts.proofs.SeenNext.{awaits-next, sees_on}
 use Rattle.run_turns.proofs.TurnsLeft.{turns_of_run-fewer}
 use Rattle.run_items.proofs.HalfEnded.{FewBehind, decided-at_once, expression-at_once, unread-read, ahead-read, waits-deciding, decides-deciding}
 use Rattle.run_turns.proofs.ComingFurther.{comes_further, comes_none}
@@ -117,20 +118,20 @@ goes_further_decided old new true none_due decided ends kept gave notes now =
 goes_further_decided old new false none_due decided ends kept gave notes now =
     subst (λ (run : Coded). GoesPast false gave gave notes notes old run now now) (sym (kept refl)) (comes_none gave notes old now)
 
--- an expression ends before a byte that is seen ahead
-pub goes_past_expression : (old new : Coded) (is_ended : Bool) (b : ℕ) → due old.interpreter.reader.reading ≡ None → waiting_in old.interpreter.reader.reading old.unread.input ≡ Waits
-    → seen_ahead old.unread.input.ahead ≡ Some (SeesByte b) → is_ended_by old.unread.input.escapes (Some b) ≡ true
+-- an expression ends before a byte that is seen next
+pub goes_past_expression : (old new : Coded) (is_ended : Bool) (b : ℕ) (gave : Tape → Type 0) → due old.interpreter.reader.reading ≡ None → waiting_in old.interpreter.reader.reading old.unread.input ≡ Waits
+    → SeesNext b gave old.unread → is_ended_by old.unread.input.escapes (Some b) ≡ true
     → (is_ended ≡ true → EndsAtOnce old new) → (is_ended ≡ false → new ≡ old)
-    → (gave : Tape → Type 0) (notes : ℕ) (now : Seen) → GoesPast false gave gave notes notes old new now now
-goes_past_expression old new true b none_due waits sees stays ends kept gave notes now =
+    → (notes : ℕ) (now : Seen) → GoesPast false gave gave notes notes old new now now
+goes_past_expression old new true b gave none_due waits sees stays ends kept notes now =
     comes_further (goes_further_at_once gave old new none_due (ends refl) (length-is_ended_by old.unread.input.escapes (Some b) stays)
     (λ tape given h messages.
     let s : State = state_at tape old h messages in
     ap (λ (w : Waiting). read_waiting old.limits w s) waits
-    ∙ ap (λ (o : Option Sighted). awaited old.limits o s) sees
+    ∙ awaits-next gave old b sees old.limits tape given h messages
     ∙ ap (λ (c : Bool). if c then made old.limits s (escape_ends s) else in_front_taken old.limits s.input.ahead s) stays)
-    (λ k few. few-seen_ended k old.interpreter.reader.reading old.unread.input (few-seen 5 b old.unread.input.ahead few.few sees)) notes now)
-goes_past_expression old new false b none_due waits sees stays ends kept gave notes now =
+    (λ k few. few-seen_ended k old.interpreter.reader.reading old.unread.input (few-behind 5 old.unread.input.ahead few.few (sees_on sees))) notes now)
+goes_past_expression old new false b gave none_due waits sees stays ends kept notes now =
     subst (λ (run : Coded). GoesPast false gave gave notes notes old run now now) (sym (kept refl)) (comes_none gave notes old now)
 
 -- so the expression ended at once

@@ -2,6 +2,7 @@ pub mod GoingPast
 pub mod BytesPassed
 pub mod Turned
 pub mod PassingOn
+pub mod SeenNext
 pub mod PassingEnds
 pub mod EndsAtOnce
 pub mod Telling

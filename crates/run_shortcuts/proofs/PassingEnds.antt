@@ -12,14 +12,14 @@ use Rattle.run_model.specs.Reading.Waiting.{line_waits, waiting_above, waiting_i
 use Rattle.input_model.specs.Input.{Ahead, EndAhead, ReturnAhead, item_taken}
 use Rattle.input_source.specs.Tape.{Tape}
 use Rattle.input_model.specs.Unread.{IsWithin}
-use Rattle.input_model.specs.Shown.{Sighted, SeesByte, seen_ahead}
+use Rattle.input_model.specs.Shown.{seen_ahead}
 use Rattle.roff_scan.specs.Unread.Calls.{PassesEnd, PassesReturn}
 use Rattle.run_model.specs.Reading.Items.{PageUnread, PageInput}
 use Rattle.run_model.specs.Reading.Returns.{behind_return}
 use Rattle.run_model.specs.Reading.Ends.{due}
 use Rattle.run_model.specs.Registers.{AllRegisters}
 use Rattle.run_model.specs.Output.{PageHistory}
-use Rattle.run_model.specs.Run.{Leads, State, nothing_follows, awaited, escape_ends, in_front_taken, item_read, made, read_waiting, step, stopped_by, unless_refused}
+use Rattle.run_model.specs.Run.{Leads, State, nothing_follows, escape_ends, in_front_taken, item_read, made, read_waiting, step, stopped_by, unless_refused}
 use Rattle.run_model.specs.Run.Counts.{counts_in, first_passed}
 use Rattle.run_model.specs.TurnsToCome.{turns_to_come}
 use Rattle.run_model.specs.PageEvents.{PageEvent}
@@ -32,7 +32,9 @@ use Rattle.run_turns.specs.declared.running.Running.{Running as Coded}
 use Rattle.run_items.specs.Outcome.{Beginning, Seen}
 use Rattle.run_items.specs.Room.{FewFor}
 use Rattle.run_turns.specs.Running.Turning.{GoesPast, IsAt, state_at, turns_left}
+use Rattle.read_shortcuts.specs.Conditions.{SeesNext}
 use Rattle.run_shortcuts.proofs.GoingPast.{IsAt-leads}
+use Rattle.run_shortcuts.proofs.SeenNext.{awaits-next, sees_on}
 use Rattle.input_model.specs.Input.Few.{AreFew}
 use Rattle.run_items.proofs.Fronts.{few-sees, few-undecided}
 use Rattle.run_items.proofs.Sighted.{takes-next}
@@ -40,9 +42,9 @@ use Rattle.run_turns.proofs.TurnsLeft.{turns_of_run-fewer}
 use Rattle.run_items.proofs.EndsTaken.{IsEnd, end_of_text, end_of_call}
 use Rattle.run_turns.proofs.ComingFurther.{comes_further, comes_none}
 
-module _ (item : Ahead PageEvent) (reads_on : LineState → LineState) (ends : IsEnd item reads_on) (old : Coded) (after : PageUnread) (behind : List (Ahead PageEvent))
+module _ (item : Ahead PageEvent) (reads_on : LineState → LineState) (ends : IsEnd item reads_on) (old : Coded) (after : PageUnread) (behind : List (Ahead PageEvent)) (gave : Tape → Type 0)
     (none_due : due old.interpreter.reader.reading ≡ None) (front : old.unread.input.ahead ≡ item ∷ behind)
-    (takes : (l : Limits) (tape : Tape) (h : PageHistory) (messages : List ℕ) → let s : State = state_at tape old h messages in item_read l s ≡ in_front_taken l s.input.ahead s)
+    (takes : (l : Limits) (tape : Tape) → gave tape → (h : PageHistory) (messages : List ℕ) → let s : State = state_at tape old h messages in item_read l s ≡ in_front_taken l s.input.ahead s)
     (few_behind : FewFor [] old.interpreter.reader.reading old.unread.input.escapes old.unread.input.ahead
     → FewFor [] (reads_on old.interpreter.reader.reading) old.unread.input.escapes behind)
     (allowed : old.unread.input.charge < old.unread.limits.bytes)
@@ -65,8 +67,8 @@ module _ (item : Ahead PageEvent) (reads_on : LineState → LineState) (ends : I
       ∙ ap (λ (r : Option Limit). unless_refused l r s there) fits
 
   -- so the run is at its place behind it
-  IsAt-end : (whole : Beginning) (tape : Tape) (start now : Seen) → IsAt whole tape start now old → IsAt whole tape start now (record old { interpreter = over; unread = after })
-  IsAt-end whole tape start now at =
+  IsAt-end : (whole : Beginning) (tape : Tape) (start now : Seen) → gave tape → IsAt whole tape start now old → IsAt whole tape start now (record old { interpreter = over; unread = after })
+  IsAt-end whole tape start now given at =
       let l : Limits = old.unread.limits in
       let rs : AllRegisters = old.interpreter.reader.registers.all in
       let i : PageInput = item_taken item behind old.unread.input in
@@ -78,7 +80,7 @@ module _ (item : Ahead PageEvent) (reads_on : LineState → LineState) (ends : I
       first_passed-few_names l rs i (few_names old.interpreter.reader.registers old.unread at.ready) (short_title old.interpreter.reader.registers old.unread at.ready) ∙ IsWithin-allowed there inside in
       let leads : Leads l s t = record {
         steps = suc zero;
-        there = step-end l s refl refl refl none_due front (takes l tape at.history at.messages) allowed fits;
+        there = step-end l s refl refl refl none_due front (takes l tape given at.history at.messages) allowed fits;
       } in
       subst (λ (u : PageUnread). IsAt whole tape start now (record old { interpreter = over; unread = u })) (sym is)
       (IsAt-leads whole tape tape start now old over there at.history at
@@ -92,12 +94,12 @@ module _ (item : Ahead PageEvent) (reads_on : LineState → LineState) (ends : I
       subst (λ (u : PageUnread). turns_to_come u < turns_to_come old.unread) (sym is) (ends.fewer old.unread.limits.bytes old.unread.input behind front allowed) in
       omega (arith, less, ends.begun_behind old.interpreter.reader.reading)
 
-  goes_further_end : (gave : Tape → Type 0) (notes : ℕ) (now : Seen) → GoesPast true gave gave notes notes old (record old { interpreter = over; unread = after }) now now
-  goes_further_end gave notes now = record {
+  goes_further_end : (notes : ℕ) (now : Seen) → GoesPast true gave gave notes notes old (record old { interpreter = over; unread = after }) now now
+  goes_further_end notes now = record {
     limits = refl;
     taken = [];
     before = λ t given. given;
-    comes = λ t tape start given at any. IsAt-end t tape start now at;
+    comes = λ t tape start given at any. IsAt-end t tape start now given at;
     turns = λ t tape start given at any. (let behind = turns_of_run-fewer old (record old { interpreter = over; unread = after }) fewer-end refl in omega (arith, behind));
   }
 
@@ -121,42 +123,41 @@ pub goes_further_passed : (old new : Coded) (is_passed : Bool) → (is_passed �
 goes_further_passed old new true none_due takes passed within kept others gave notes now =
     let p = passed refl in
     subst (λ (run : Coded). GoesPast true gave gave notes notes old run now now) (sym others)
-    (goes_further_end EndAhead (λ reading. reading) end_of_text old new.unread p.behind (none_due refl) p.in_front
-    (takes_any EndAhead (λ reading. reading) end_of_text old p.behind p.in_front (takes refl)) (few_any EndAhead (λ reading. reading) end_of_text old p.behind p.in_front (takes refl))
-    (omega (arith, p.within)) p.input (within refl) gave notes now)
+    (goes_further_end EndAhead (λ reading. reading) end_of_text old new.unread p.behind gave (none_due refl) p.in_front
+    (λ l tape given. takes_any EndAhead (λ reading. reading) end_of_text old p.behind p.in_front (takes refl) l tape) (few_any EndAhead (λ reading. reading) end_of_text old p.behind p.in_front (takes refl))
+    (omega (arith, p.within)) p.input (within refl) notes now)
 goes_further_passed old new false none_due takes passed within kept others gave notes now =
     subst (λ (run : Coded). GoesPast false gave gave notes notes old run now now) (sym (kept refl)) (comes_none gave notes old now)
 
--- the end of a text is taken where a byte is waited for, and one is seen behind it that stays for what is half read
-module _ (old : Coded) (behind : List (Ahead PageEvent)) (b : ℕ) (front : old.unread.input.ahead ≡ EndAhead ∷ behind)
-    (waits : waiting_in old.interpreter.reader.reading old.unread.input ≡ Waits) (sees : seen_ahead old.unread.input.ahead ≡ Some (SeesByte b))
+-- the end of a text is taken where a byte is waited for, and one is seen next that stays for what is half read
+module _ (old : Coded) (behind : List (Ahead PageEvent)) (b : ℕ) (gave : Tape → Type 0) (front : old.unread.input.ahead ≡ EndAhead ∷ behind)
+    (waits : waiting_in old.interpreter.reader.reading old.unread.input ≡ Waits) (sees : SeesNext b gave old.unread)
     (stays : is_ended_by old.unread.input.escapes (Some b) ≡ false) where
-  takes_seen : (l : Limits) (tape : Tape) (h : PageHistory) (messages : List ℕ) → let s : State = state_at tape old h messages in item_read l s ≡ in_front_taken l s.input.ahead s
-  takes_seen l tape h messages =
+  takes_seen : (l : Limits) (tape : Tape) → gave tape → (h : PageHistory) (messages : List ℕ) → let s : State = state_at tape old h messages in item_read l s ≡ in_front_taken l s.input.ahead s
+  takes_seen l tape given h messages =
       let s : State = state_at tape old h messages in
       ap (λ (w : Waiting). read_waiting l w s) waits
-      ∙ ap (λ (o : Option Sighted). awaited l o s) sees
+      ∙ awaits-next gave old b sees l tape given h messages
       ∙ ap (λ (c : Bool). if c then made l s (escape_ends s) else in_front_taken l s.input.ahead s) stays
 
   few_seen : FewFor [] old.interpreter.reader.reading old.unread.input.escapes old.unread.input.ahead → FewFor [] old.interpreter.reader.reading old.unread.input.escapes behind
   few_seen few =
       let there : PageInput = record old.unread.input { ahead = behind } in
-      let is : seen_ahead behind ≡ Some (SeesByte b) = sym (ap (λ (items : List (Ahead PageEvent)). seen_ahead items) front) ∙ sees in
       few-sees old.interpreter.reader.reading there (end_of_text.few behind (subst (λ (items : List (Ahead PageEvent)). AreFew items) front few.few))
-      (λ next none. let wrong = sym is ∙ none in cc)
+      (λ next none. sees_on sees (ap (λ (items : List (Ahead PageEvent)). seen_ahead items) front ∙ none))
 
 -- past it, or past nothing
-pub goes_past_seen : (old new : Coded) (is_passed : Bool) (b : ℕ) → due old.interpreter.reader.reading ≡ None → waiting_in old.interpreter.reader.reading old.unread.input ≡ Waits
-    → seen_ahead old.unread.input.ahead ≡ Some (SeesByte b) → is_ended_by old.unread.input.escapes (Some b) ≡ false → (is_passed ≡ true → PassesEnd old.unread new.unread)
+pub goes_past_seen : (old new : Coded) (is_passed : Bool) (b : ℕ) (gave : Tape → Type 0) → due old.interpreter.reader.reading ≡ None → waiting_in old.interpreter.reader.reading old.unread.input ≡ Waits
+    → SeesNext b gave old.unread → is_ended_by old.unread.input.escapes (Some b) ≡ false → (is_passed ≡ true → PassesEnd old.unread new.unread)
     → IsWithin new.unread → (is_passed ≡ false → new.unread ≡ old.unread) → new ≡ record old { unread = new.unread }
-    → (gave : Tape → Type 0) (notes : ℕ) (now : Seen) → GoesPast false gave gave notes notes old new now now
-goes_past_seen old new true b none_due waits sees stays passed within kept others gave notes now =
+    → (notes : ℕ) (now : Seen) → GoesPast false gave gave notes notes old new now now
+goes_past_seen old new true b gave none_due waits sees stays passed within kept others notes now =
     let p = passed refl in
     subst (λ (run : Coded). GoesPast false gave gave notes notes old run now now) (sym others)
-    (comes_further (goes_further_end EndAhead (λ reading. reading) end_of_text old new.unread p.behind none_due p.in_front
-    (takes_seen old p.behind b p.in_front waits sees stays) (few_seen old p.behind b p.in_front waits sees stays)
-    (omega (arith, p.within)) p.input within gave notes now))
-goes_past_seen old new false b none_due waits sees stays passed within kept others gave notes now =
+    (comes_further (goes_further_end EndAhead (λ reading. reading) end_of_text old new.unread p.behind gave none_due p.in_front
+    (takes_seen old p.behind b gave p.in_front waits sees stays) (few_seen old p.behind b gave p.in_front waits sees stays)
+    (omega (arith, p.within)) p.input within notes now))
+goes_past_seen old new false b gave none_due waits sees stays passed within kept others notes now =
     subst (λ (run : Coded). GoesPast false gave gave notes notes old run now now) (sym (others ∙ ap (λ (u : PageUnread). record old { unread = u }) (kept refl)))
     (comes_none gave notes old now)
 
@@ -175,9 +176,9 @@ goes_further_returned old new true none_due takes none passed within is kept gav
     let any : waiting_in old.interpreter.reader.reading old.unread.input ≡ TakesAny =
     ap (λ (half : List OpenEscape). waiting_above old.interpreter.reader.reading old.unread.input.arguments.place half) none ∙ takes old.unread.input.arguments.place in
     subst (λ (run : Coded). GoesPast true gave gave notes notes old run now now) (sym (is refl))
-    (goes_further_end (ReturnAhead 0) (λ reading. behind_return 0 reading) end_of_call old new.unread p.behind none_due p.in_front
-    (takes_any (ReturnAhead 0) (λ reading. behind_return 0 reading) end_of_call old p.behind p.in_front any)
+    (goes_further_end (ReturnAhead 0) (λ reading. behind_return 0 reading) end_of_call old new.unread p.behind gave none_due p.in_front
+    (λ l tape given. takes_any (ReturnAhead 0) (λ reading. behind_return 0 reading) end_of_call old p.behind p.in_front any l tape)
     (few_any (ReturnAhead 0) (λ reading. behind_return 0 reading) end_of_call old p.behind p.in_front any)
-    (omega (arith, p.within)) p.input (within refl) gave notes now)
+    (omega (arith, p.within)) p.input (within refl) notes now)
 goes_further_returned old new false none_due takes none passed within is kept gave notes now =
     subst (λ (run : Coded). GoesPast false gave gave notes notes old run now now) (sym (kept refl)) (comes_none gave notes old now)
